@@ -1,0 +1,4 @@
+pub mod Limits
+pub mod Machine
+pub mod Plain
+pub mod Given

@@ -1,0 +1,10 @@
+//! The model of the array: what a volume is, what may be asked of it, and what a request does.
+#![tactic(auto)]
+
+mod bytes;
+mod numbers;
+mod request;
+
+pub use bytes::Block;
+pub use numbers::Geometry;
+pub use request::{Refusal, Reply, Request};
