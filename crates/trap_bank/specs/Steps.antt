@@ -1,5 +1,5 @@
 -- What a run of calls does to a bank, crashes at any moment included.
-use Rattle.std.specs.Prelude.{◌≡◌, ◌⊎◌, ℕ, ◌≤◌, List, ◌++◌, length}
+use Rattle.std.specs.Prelude.{◌≡◌, ◌≢◌, ◌⊎◌, ℕ, ◌≤◌, List, ◌++◌, length, replicate, Some, None}
 use Rattle.trap_bank.specs.Disks.{Contents, View, Disks, Quiet, Differs, Within, region}
 use Rattle.trap_bank.specs.Calls.{MayLeave, SaysPart}
 
@@ -50,6 +50,16 @@ pub record Spoke (piece : List ℕ) (old new : Contents) : Type 0 where
 pub record SpokePart (piece : List ℕ) (old new : Contents) : Type 0 where
   pub disks : new.disks ≡ old.disks
   pub says : SaysPart piece old new
+
+-- the disk is as before, or absent, or has at most n bytes, all zero; the others are the same
+pub record RemadeDisk (d n : ℕ) (old new : Disks) : Type 0 where
+  pub others : (e : ℕ) → e ≢ d → new e ≡ old e
+  pub disk : (new d ≡ old d) ⊎ (new d ≡ None) ⊎ ((k : ℕ) × (k ≤ n) × (new d ≡ Some (replicate k 0)))
+
+-- the disk has n zero bytes; the others are the same
+pub record MadeDisk (d n : ℕ) (old new : Disks) : Type 0 where
+  pub others : (e : ℕ) → e ≢ d → new e ≡ old e
+  pub disk : new d ≡ Some (replicate n 0)
 
 -- every crash now leaves disks with this
 abbrev pub Always : View → (Disks → Type 0) → Type 0
