@@ -1,0 +1,11 @@
+//! The lines of a session and the texts of its replies.
+#![tactic(auto)]
+
+mod answers;
+pub mod laws;
+mod lines;
+mod numbers;
+
+pub use answers::{Answer, Span4, write_answer};
+pub use lines::{Line, read_line};
+pub use numbers::read_number;
