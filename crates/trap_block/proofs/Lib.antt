@@ -1,0 +1,3 @@
+pub mod XorLemmas
+pub mod OverLemmas
+pub mod ZeroLemmas
