@@ -2,9 +2,11 @@
 #![tactic(auto)]
 
 mod bytes;
+mod log_record;
 mod numbers;
 mod request;
 
 pub use bytes::Block;
+pub use log_record::LogRec;
 pub use numbers::Geometry;
 pub use request::{Refusal, Reply, Request};
