@@ -1,1 +1,3 @@
 pub mod ZeroRuns
+pub mod Splits
+pub mod LogRecords

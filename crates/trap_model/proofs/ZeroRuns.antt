@@ -1,10 +1,10 @@
 -- The laws of zero runs.
-use Rattle.std.proofs.Common.{◌≡◌, ◌⊎◌, ℕ, zero, suc, ◌+◌, ◌-◌, ◌^◌, ◌<◌, ◌≤◌, List, [], ◌∷◌, ◌++◌, length, take, drop, get_or, replicate, flat_map, slice_index, refl, sym, ◌∙◌, ap, ap₂, subst, inl, inr, ⊎_elim, arith, w16, append_assoc, append-nil, length-append, take_at, drop_at, get_or-append-add, add-one}
-use Rattle.std.specs.Int.{to_be_bytes, from_be_bytes}
+use Rattle.std.proofs.Common.{◌≡◌, ◌⊎◌, ℕ, ◌+◌, ◌-◌, ◌^◌, ◌<◌, ◌≤◌, List, [], ◌∷◌, ◌++◌, length, take, drop, get_or, replicate, flat_map, refl, sym, ◌∙◌, ap, ap₂, subst, inl, inr, ⊎_elim, arith, w16, append_assoc, append-nil, length-append, take_at, drop_at, get_or-append-add}
+use Rattle.std.specs.Int.{from_be_bytes}
 use Rattle.std.proofs.lemmas.Nat.{from_be_bytes-to_be_bytes_2}
 use Rattle.std.proofs.lemmas.Bool.{cases_lt}
-use Rattle.std.proofs.lemmas.List.{length-replicate, get_or-replicate, get_or_append_left, get_or_past, get_or-append_right}
-use Rattle.trap_model.specs.ZeroRun.{Segment, spelling, contents, size_of, AreZeros, IsLiteral, HasLiteral, IsRest, Follows, Walks, ZeroRun, IsCode, least_behind, NoneFollows, IsRefused}
+use Rattle.std.proofs.lemmas.List.{length-replicate, get_or-replicate, get_or_append_left, get_or_past}
+use Rattle.trap_model.specs.ZeroRun.{Segment, spelling, contents, size_of, IsLiteral, Follows, Walks, ZeroRun, least_behind, NoneFollows, IsRefused}
 
 -- a literal isn't empty
 pub literal_some : (l : List ℕ) → IsLiteral l → 1 ≤ length l
@@ -37,14 +37,14 @@ same_segment s t zeros literal = ap₂ segment zeros literal
 pub spelling-same : (s t : Segment) (x y : List ℕ) → size_of s < 2 ^ 16 → size_of t < 2 ^ 16 → spelling s ++ x ≡ spelling t ++ y → (s ≡ t) × (x ≡ y)
 spelling-same s t x y small_s small_t e =
     let zeros : s.zeros ≡ t.zeros =
-        sym (from_be_bytes-to_be_bytes_2 s.zeros (omega arith)) ∙ ap (λ (bytes : List ℕ). from_be_bytes w16 (take 2 bytes)) e ∙ from_be_bytes-to_be_bytes_2 t.zeros (omega arith) in
+    sym (from_be_bytes-to_be_bytes_2 s.zeros (omega arith)) ∙ ap (λ (bytes : List ℕ). from_be_bytes w16 (take 2 bytes)) e ∙ from_be_bytes-to_be_bytes_2 t.zeros (omega arith) in
     let len : length s.literal ≡ length t.literal =
-        sym (from_be_bytes-to_be_bytes_2 (length s.literal) (omega arith)) ∙ ap (λ (bytes : List ℕ). from_be_bytes w16 (take 2 (drop 2 bytes))) e ∙ from_be_bytes-to_be_bytes_2 (length t.literal) (omega arith) in
+    sym (from_be_bytes-to_be_bytes_2 (length s.literal) (omega arith)) ∙ ap (λ (bytes : List ℕ). from_be_bytes w16 (take 2 (drop 2 bytes))) e ∙ from_be_bytes-to_be_bytes_2 (length t.literal) (omega arith) in
     let rest : s.literal ++ x ≡ t.literal ++ y = ap (λ (bytes : List ℕ). drop 4 bytes) e in
     let literal : s.literal ≡ t.literal =
-        sym (take_at s.literal x (length t.literal) len) ∙ ap (λ (bytes : List ℕ). take (length t.literal) bytes) rest ∙ take_at t.literal y (length t.literal) refl in
+    sym (take_at s.literal x (length t.literal) len) ∙ ap (λ (bytes : List ℕ). take (length t.literal) bytes) rest ∙ take_at t.literal y (length t.literal) refl in
     let more : x ≡ y =
-        sym (drop_at s.literal x (length t.literal) len) ∙ ap (λ (bytes : List ℕ). drop (length t.literal) bytes) rest ∙ drop_at t.literal y (length t.literal) refl in
+    sym (drop_at s.literal x (length t.literal) len) ∙ ap (λ (bytes : List ℕ). drop (length t.literal) bytes) rest ∙ drop_at t.literal y (length t.literal) refl in
     (same_segment s t zeros literal, more)
 
 cons-same : (s t : Segment) (a b : List Segment) → s ≡ t → a ≡ b → s ∷ a ≡ t ∷ b
@@ -72,10 +72,10 @@ walk-same least owed left_a left_b (s ∷ a) (t ∷ b) x y small walk_a walk_b s
     let within_s = Follows_within least owed s walk_a.0 in
     let within_t = Follows_within least owed t walk_b.0 in
     let same = spelling-same s t (flat_map spelling a ++ x) (flat_map spelling b ++ y) (omega arith) (omega arith)
-        (sym (append_assoc (spelling s) (flat_map spelling a) x) ∙ e ∙ append_assoc (spelling t) (flat_map spelling b) y) in
+    (sym (append_assoc (spelling s) (flat_map spelling a) x) ∙ e ∙ append_assoc (spelling t) (flat_map spelling b) y) in
     let rest = walk-same 4 (owed - size_of s) left_a left_b a b x y (omega arith) walk_a.1
-        (subst (λ (u : Segment). Walks 4 (owed - size_of u) b left_b) (sym same.0) walk_b.1)
-        (stops_behind a left_a x stop_a) (stops_behind b left_b y stop_b) same.1 in
+    (subst (λ (u : Segment). Walks 4 (owed - size_of u) b left_b) (sym same.0) walk_b.1)
+    (stops_behind a left_a x stop_a) (stops_behind b left_b y stop_b) same.1 in
     (cons-same s t a b same.0 rest.0, rest.1, rest.2)
 
 -- a walk to the end of a block that has nothing left has no segments
@@ -141,12 +141,12 @@ behind_zero owed (s ∷ a) (inl has, walk) k below = let zeros = has.zeros in co
 behind_zero owed (s ∷ a) (inr rest, walk) k below = ⊎_elim
     (λ (inside : k < s.zeros). contents-zero s (flat_map contents a) k inside)
     (λ (past : s.zeros ≤ k).
-        let none : length s.literal ≡ 0 = ap length rest.empty in
-        let whole = rest.whole in
-        let sizes = walk-size 4 (owed - size_of s) 0 a walk in
-        let len = length-append (contents s) (flat_map contents a) in
-        let front = length-contents s in
-        get_or_past (contents s ++ flat_map contents a) k 0 (omega arith))
+    let none : length s.literal ≡ 0 = ap length rest.empty in
+    let whole = rest.whole in
+    let sizes = walk-size 4 (owed - size_of s) 0 a walk in
+    let len = length-append (contents s) (flat_map contents a) in
+    let front = length-contents s in
+    get_or_past (contents s ++ flat_map contents a) k 0 (omega arith))
     (cases_lt k s.zeros)
 
 -- of two segments at the front of the same bytes neither has more zero bytes
@@ -154,11 +154,11 @@ zeros-le : (least owed : ℕ) (s t : Segment) (x y : List ℕ) → Follows least
 zeros-le least owed s t x y (inr rest) follows e = let whole = rest.whole in let within = Follows_within least owed t follows in omega arith
 zeros-le least owed s t x y (inl has) follows e = ⊎_elim
     (λ (more : s.zeros < t.zeros).
-        let some = literal_some s.literal has.literal in
-        let begins : 0 < get_or s.literal 0 0 = has.literal.begins in
-        let first : get_or (contents s ++ x) (s.zeros + 0) 0 ≡ get_or s.literal 0 0 = contents-literal s x 0 ∙ get_or_append_left s.literal x 0 0 (omega arith) in
-        let second : get_or (contents s ++ x) (s.zeros + 0) 0 ≡ 0 = ap (λ (l : List ℕ). get_or l (s.zeros + 0) 0) e ∙ contents-zero t y (s.zeros + 0) (omega arith) in
-        absurd (omega arith))
+    let some = literal_some s.literal has.literal in
+    let begins : 0 < get_or s.literal 0 0 = has.literal.begins in
+    let first : get_or (contents s ++ x) (s.zeros + 0) 0 ≡ get_or s.literal 0 0 = contents-literal s x 0 ∙ get_or_append_left s.literal x 0 0 (omega arith) in
+    let second : get_or (contents s ++ x) (s.zeros + 0) 0 ≡ 0 = ap (λ (l : List ℕ). get_or l (s.zeros + 0) 0) e ∙ contents-zero t y (s.zeros + 0) (omega arith) in
+    absurd (omega arith))
     (λ (le : t.zeros ≤ s.zeros). le)
     (cases_lt s.zeros t.zeros)
 
@@ -177,13 +177,13 @@ literal-le l m x y zeros (inr is) e = ⊎_elim
     too_long : length l < length m → ⊥
     too_long longer = ⊎_elim
         (λ (short : length m < length l + 4).
-            let ends : 0 < get_or m (length m - 1) 0 = is.ends in
-            let at : length l + (length m - 1 - length l) ≡ length m - 1 = omega arith in
-            let last = inside (length m - 1 - length l) (omega arith) (omega arith) in
-            let same : get_or m (length m - 1) 0 ≡ 0 = subst (λ (n : ℕ). get_or m n 0 ≡ 0) at last in
-            absurd (omega arith))
+        let ends : 0 < get_or m (length m - 1) 0 = is.ends in
+        let at : length l + (length m - 1 - length l) ≡ length m - 1 = omega arith in
+        let last = inside (length m - 1 - length l) (omega arith) (omega arith) in
+        let same : get_or m (length m - 1) 0 ≡ 0 = subst (λ (n : ℕ). get_or m n 0 ≡ 0) at last in
+        absurd (omega arith))
         (λ (long : length l + 4 ≤ length m).
-            is.apart (length l) (record { inside = long; zeros = λ k below. inside k below (omega arith) }))
+        is.apart (length l) (record { inside = long; zeros = λ k below. inside k below (omega arith) }))
         (cases_lt (length m) (length l + 4))
 
 -- the rest of a segment is a literal or nothing
@@ -213,9 +213,9 @@ contents-same least owed (s ∷ a) (t ∷ b) walk_a walk_b e =
     let le_s = literal-le t.literal s.literal (flat_map contents b) (flat_map contents a) (behind_zero (owed - size_of t) b walk_b.1) (literal_or_none least owed s walk_a.0) (sym behind) in
     let len : length s.literal ≡ length t.literal = omega arith in
     let literal : s.literal ≡ t.literal =
-        sym (take_at s.literal (flat_map contents a) (length t.literal) len) ∙ ap (λ (bytes : List ℕ). take (length t.literal) bytes) behind ∙ take_at t.literal (flat_map contents b) (length t.literal) refl in
+    sym (take_at s.literal (flat_map contents a) (length t.literal) len) ∙ ap (λ (bytes : List ℕ). take (length t.literal) bytes) behind ∙ take_at t.literal (flat_map contents b) (length t.literal) refl in
     let rest : flat_map contents a ≡ flat_map contents b =
-        sym (drop_at s.literal (flat_map contents a) (length t.literal) len) ∙ ap (λ (bytes : List ℕ). drop (length t.literal) bytes) behind ∙ drop_at t.literal (flat_map contents b) (length t.literal) refl in
+    sym (drop_at s.literal (flat_map contents a) (length t.literal) len) ∙ ap (λ (bytes : List ℕ). drop (length t.literal) bytes) behind ∙ drop_at t.literal (flat_map contents b) (length t.literal) refl in
     let same = same_segment s t zeros literal in
     cons-same s t a b same
     (contents-same 4 (owed - size_of s) a b walk_a.1 (subst (λ (u : Segment). Walks 4 (owed - size_of u) b 0) (sym same) walk_b.1) rest)
@@ -225,3 +225,60 @@ contents-same least owed (s ∷ a) (t ∷ b) walk_a walk_b e =
         sym (drop_at (replicate {A = ℕ} s.zeros 0) (s.literal ++ flat_map contents a) t.zeros (length-replicate {A = ℕ} s.zeros 0 ∙ zeros))
         ∙ ap (λ (bytes : List ℕ). drop t.zeros bytes) (sym (append_assoc (replicate {A = ℕ} s.zeros 0) s.literal (flat_map contents a)) ∙ e ∙ append_assoc (replicate {A = ℕ} t.zeros 0) t.literal (flat_map contents b))
         ∙ drop_at (replicate {A = ℕ} t.zeros 0) (t.literal ++ flat_map contents b) t.zeros (length-replicate {A = ℕ} t.zeros 0)
+
+-- a spelling has at least the two numbers of a segment, where the block isn't empty
+pub ZeroRun-length : (block bytes : List ℕ) → 1 ≤ length block → ZeroRun block bytes → (4 ≤ length bytes) × (length bytes ≤ length block + 7)
+ZeroRun-length block bytes some run =
+    let room = walk-room 0 (length block) 0 run.segments (omega arith) run.rules in
+    let same : length bytes ≡ length (flat_map spelling run.segments) = ap length run.spelled in
+    let least = spelled-some (length block) run.segments some run.rules in
+    (omega arith, omega arith)
+  where
+    spelled-some : (owed : ℕ) (a : List Segment) → 1 ≤ owed → Walks 0 owed a 0 → 4 ≤ length (flat_map spelling a)
+    spelled-some owed [] some walk = let nothing : 0 ≡ owed = walk in absurd (omega arith)
+    spelled-some owed (s ∷ a) some walk =
+        let len = length-append (spelling s) (flat_map spelling a) in
+        let front = length-spelling s in
+        omega arith
+
+-- a block has one spelling at most
+pub ZeroRun-same : (block a b : List ℕ) → ZeroRun block a → ZeroRun block b → a ≡ b
+ZeroRun-same block a b x y =
+    let same = contents-same 0 (length block) x.segments y.segments x.rules y.rules (sym x.meant ∙ y.meant) in
+    x.spelled ∙ ap (λ (segments : List Segment). flat_map spelling segments) same ∙ sym y.spelled
+
+-- nothing follows where the block is whole
+pub NoneFollows-whole : (least : ℕ) (bytes : List ℕ) → NoneFollows least 0 bytes
+NoneFollows-whole least bytes s more e follows =
+    let some = Follows_some least 0 s follows in
+    let within = Follows_within least 0 s follows in
+    omega arith
+
+-- of blocks of one size no spelling begins another, and each stands for one block
+pub ZeroRun-apart : (a b x y more_x more_y : List ℕ) → length a ≡ length b → length a < 2 ^ 16 → ZeroRun a x → ZeroRun b y → x ++ more_x ≡ y ++ more_y → (a ≡ b) × (x ≡ y)
+ZeroRun-apart a b x y more_x more_y sizes small run_a run_b e =
+    let same = walk-same 0 (length a) 0 0 run_a.segments run_b.segments more_x more_y small run_a.rules
+    (subst (λ (n : ℕ). Walks 0 n run_b.segments 0) (sym sizes) run_b.rules)
+    (NoneFollows-whole (least_behind 0 run_a.segments) more_x) (NoneFollows-whole (least_behind 0 run_b.segments) more_y)
+    (ap (λ (l : List ℕ). l ++ more_x) (sym run_a.spelled) ∙ e ∙ ap (λ (l : List ℕ). l ++ more_y) run_b.spelled) in (
+      run_a.meant ∙ ap (λ (segments : List Segment). flat_map contents segments) same.0 ∙ sym run_b.meant,
+      run_a.spelled ∙ ap (λ (segments : List Segment). flat_map spelling segments) same.0 ∙ sym run_b.spelled,
+    )
+
+-- what is refused spells no block of that size
+pub IsRefused-not : (size : ℕ) (bytes block : List ℕ) (at : ℕ) → size < 2 ^ 16 → IsRefused size bytes at → length block ≡ size → ¬ ZeroRun block bytes
+IsRefused-not size bytes block at small refused whole run =
+    let same = walk-same 0 size refused.left 0 refused.segments run.segments refused.rest [] small refused.rules
+    (subst (λ (n : ℕ). Walks 0 n run.segments 0) whole run.rules)
+    refused.stops (NoneFollows-whole (least_behind 0 run.segments) [])
+    (sym refused.parts ∙ run.spelled ∙ sym (append-nil (flat_map spelling run.segments))) in
+    let none : refused.left ≡ 0 = same.1 in
+    let empty : length refused.rest ≡ 0 = ap length same.2 in
+    let unfinished = refused.unfinished in
+    omega arith
+
+-- bytes are refused at one place
+pub IsRefused-same : (size : ℕ) (bytes : List ℕ) (a b : ℕ) → size < 2 ^ 16 → IsRefused size bytes a → IsRefused size bytes b → a ≡ b
+IsRefused-same size bytes a b small x y =
+    let same = walk-same 0 size x.left y.left x.segments y.segments x.rest y.rest small x.rules y.rules x.stops y.stops (sym x.parts ∙ y.parts) in
+    x.place ∙ ap (λ (segments : List Segment). length (flat_map spelling segments)) same.0 ∙ sym y.place

@@ -2,6 +2,7 @@
 #![tactic(auto)]
 
 mod bytes;
+pub mod laws;
 mod log_record;
 mod numbers;
 mod request;
