@@ -4,3 +4,8 @@ pub mod Plain
 pub mod Given
 pub mod ZeroRun
 pub mod LogRecord
+pub mod Xor
+pub mod Image
+pub mod Size
+pub mod State
+pub mod ArrayStep
