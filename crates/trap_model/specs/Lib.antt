@@ -4,7 +4,6 @@ pub mod Plain
 pub mod Given
 pub mod ZeroRun
 pub mod LogRecord
-pub mod Xor
 pub mod Image
 pub mod Size
 pub mod State

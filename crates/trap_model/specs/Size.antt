@@ -1,7 +1,7 @@
 -- How many bytes an entry takes in the log's ring.
 use Rattle.std.specs.Prelude.{ℕ, zero, suc, ◌+◌, List, [], ◌∷◌, nat_lt, if◌then◌else◌}
 use Rattle.trap_model.specs.declared.history.Entry.{Entry}
-use Rattle.trap_model.specs.Xor.{xor}
+use Rattle.trap_block.specs.Xor.{xor}
 use Rattle.trap_model.specs.Image.{block_of, written}
 
 abbrev pub code_len : List ℕ → ℕ
