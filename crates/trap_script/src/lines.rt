@@ -63,9 +63,10 @@ fn read_form(rest: Option<&[u8]>) -> Line
     let Some(rest) = rest else {
         return Line::Bad;
     };
-    let (block, None) = cut_field(rest) else {
+    let (block, more) = cut_field(rest);
+    if let Some(_) = more {
         return Line::Bad;
-    };
+    }
     let Some(block) = read_number(block) else {
         return Line::Bad;
     };
@@ -75,19 +76,23 @@ fn read_form(rest: Option<&[u8]>) -> Line
 // `W TIME BLOCK HEX`
 fn write_form(rest: Option<&[u8]>, fresh: &mut [u8]) -> Line
     ensures asked { write_form (length fresh.old) (fields_after (option_copied rest.entry)) ≡ request_with result fresh.new }
+    ensures buffer { LeavesBuffer result fresh.old fresh.new }
 {
     let Some(rest) = rest else {
         return Line::Bad;
     };
-    let (time, Some(rest)) = cut_field(rest) else {
+    let (time, behind) = cut_field(rest);
+    let Some(behind) = behind else {
         return Line::Bad;
     };
-    let (block, Some(rest)) = cut_field(rest) else {
+    let (block, last) = cut_field(behind);
+    let Some(last) = last else {
         return Line::Bad;
     };
-    let (digits, None) = cut_field(rest) else {
+    let (digits, more) = cut_field(last);
+    if let Some(_) = more {
         return Line::Bad;
-    };
+    }
     let Some(time) = read_number(time) else {
         return Line::Bad;
     };

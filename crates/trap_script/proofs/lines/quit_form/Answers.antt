@@ -1,0 +1,6 @@
+use Rattle.std.proofs.Common.{rules, sym, ◌∙◌}
+use Rattle.trap_script.proofs.LineLemmas.{quit_with_more}
+use Rattle.trap_script.proofs.lines.quit_form.Goals as goal
+
+pub returns-in-Some : goal.returns-in-Some
+returns-in-Some c = record { asked = λ fresh. rw c.in-Some.is (quit_with_more c.in-Some.field-0.now) }
