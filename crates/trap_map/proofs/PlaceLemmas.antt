@@ -1,10 +1,11 @@
 -- Each block has one place, and each place is one block's or parity.
 use Rattle.std.proofs.Common.{◌≡◌, ◌≢◌, ℕ, ◌+◌, ◌-◌, ◌*◌, ◌/◌, ◌%◌, ◌<◌, refl, ap, ◌∙◌, subst, arith, inl, inr, eq-eqb}
+use Rattle.trap_model.specs.Image.{volume}
 use Rattle.std.proofs.Math.Nat.{mod-lt}
 use Rattle.std.proofs.lemmas.Bool.{cases_eq, ne_eqb}
 use Rattle.std.proofs.lemmas.Nat.{div-add-mod'}
 use Rattle.trap_map.specs.Left.{parity_in, member_in, before_in, block_stripe, block_before}
-use Rattle.trap_map.specs.Layout.{volume, parity_member, block_place, block_at, owner_of}
+use Rattle.trap_map.specs.Layout.{parity_member, block_place, block_at, owner_of}
 use Rattle.trap_model.specs.declared.numbers.Geometry.{Geometry}
 use Rattle.trap_map.specs.declared.places.Place.{Place}
 use Rattle.trap_map.specs.declared.places.Owner.TheVariants.{Block, Parity}

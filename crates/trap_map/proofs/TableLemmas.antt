@@ -1,11 +1,12 @@
 -- The laws of the table.
 use Rattle.std.proofs.Common.{◌≡◌, ◌≢◌, ℕ, ◌/◌, ◌<◌, List, [], length, get_or, set, refl, ap, sym, ◌∙◌, arith, inl, inr, eq-eqb}
+use Rattle.trap_model.specs.Image.{volume, IsImage}
 use Rattle.std.proofs.lemmas.Bool.{cases_eq, ne_eqb}
 use Rattle.std.proofs.lemmas.List.{length-set, get_or-set_same, get_or-set_other}
 use Rattle.trap_block.specs.Xor.{xor, zeros, xor_over, xor_but, HaveSize, OthersHaveSize}
 use Rattle.trap_block.proofs.OverLemmas.{length-xor_but, xor_but_same, xor_over_is_zero, one_from_others, xor_but_changed}
-use Rattle.trap_map.specs.Layout.{volume, parity_member, block_place, block_at}
-use Rattle.trap_map.specs.Table.{IsImage, data_place, row_parity, table}
+use Rattle.trap_map.specs.Layout.{parity_member, block_place, block_at}
+use Rattle.trap_map.specs.Table.{data_place, row_parity, table}
 use Rattle.trap_model.specs.declared.numbers.Geometry.{Geometry}
 use Rattle.trap_map.proofs.LeftLemmas.{parity_in-lt}
 use Rattle.trap_map.proofs.PlaceLemmas.{member_within, row_of-within, block_is_not_parity, block_at-block_place, block_at-within, block_place-block_at}

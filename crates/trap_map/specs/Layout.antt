@@ -6,10 +6,6 @@ use Rattle.trap_map.specs.declared.places.Place.{Place}
 use Rattle.trap_map.specs.declared.places.Owner.{Owner}
 use Rattle.trap_map.specs.declared.places.Owner.TheVariants.{Block, Parity}
 
--- how many blocks the array has
-abbrev pub volume : Geometry → ℕ
-volume g = g.rows * (g.members - 1)
-
 -- the member with the parity of a row
 abbrev pub parity_member : Geometry → ℕ → ℕ
 parity_member g row = parity_in g.members (row / g.chunk)

@@ -1,13 +1,8 @@
 -- The bytes of each place, computed from an image.
-use Rattle.std.specs.Prelude.{◌≡◌, ℕ, ◌<◌, List, [], length, slice_index_or, ◌==◌, if◌then◌else◌}
+use Rattle.std.specs.Prelude.{ℕ, List, [], slice_index_or, ◌==◌, if◌then◌else◌}
 use Rattle.trap_block.specs.Xor.{xor_but}
-use Rattle.trap_map.specs.Layout.{volume, parity_member, block_at}
+use Rattle.trap_map.specs.Layout.{parity_member, block_at}
 use Rattle.trap_model.specs.declared.numbers.Geometry.{Geometry}
-
--- an image has a block of the geometry's size for each number below the volume
-pub record IsImage (g : Geometry) (image : List (List ℕ)) : Type 0 where
-  pub long : length image ≡ volume g
-  pub sized : (b : ℕ) → b < volume g → length (slice_index_or image b []) ≡ g.block
 
 -- the block that stands on a member in a row, where that isn't the row's parity
 abbrev pub data_place : Geometry → List (List ℕ) → ℕ → ℕ → List ℕ

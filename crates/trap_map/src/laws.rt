@@ -1,11 +1,12 @@
 //! Laws of the layout and of the table.
 
 ghost use Rattle.std.specs.Prelude.{◌≡◌, ◌↔◌, ℕ, ◌<◌, List, [], slice_index_or};
+ghost use Rattle.trap_model.specs.Image.{volume, IsImage};
 ghost use Rattle.trap_block.specs.Xor.{zeros, xor_over, xor_but};
 ghost use Rattle.trap_model.specs.declared.numbers.Geometry.{Geometry};
 ghost use Rattle.trap_map.specs.declared.places.Owner.TheVariants.{Block, Parity};
-ghost use Rattle.trap_map.specs.Layout.{volume, parity_member, block_place, owner_of};
-ghost use Rattle.trap_map.specs.Table.{IsImage, table};
+ghost use Rattle.trap_map.specs.Layout.{parity_member, block_place, owner_of};
+ghost use Rattle.trap_map.specs.Table.{table};
 
 /// Each block has a place that is its own, and each place is one block's or parity.
 pub fn places()

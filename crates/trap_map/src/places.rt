@@ -1,7 +1,8 @@
 //! Places, and whose they are: the left-symmetric layout.
 
 ghost use Rattle.std.specs.Prelude.{◌≡◌, ◌<◌};
-ghost use Rattle.trap_map.specs.Layout.{volume, parity_member, block_place, owner_of};
+ghost use Rattle.trap_model.specs.Image.{volume};
+ghost use Rattle.trap_map.specs.Layout.{parity_member, block_place, owner_of};
 
 use trap_model::Geometry;
 

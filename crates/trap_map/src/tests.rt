@@ -1,5 +1,5 @@
 ghost use Rattle.std.specs.Prelude.{◌≡◌};
-ghost use Rattle.trap_map.specs.Layout.{volume};
+ghost use Rattle.trap_model.specs.Image.{volume};
 
 use crate::{Owner, Place, parity_of, place_of, whose};
 use trap_model::Geometry;
