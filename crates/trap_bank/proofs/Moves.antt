@@ -6,7 +6,7 @@ use Rattle.std.specs.Prelude.{nat_lt}
 use Rattle.trap_bank.specs.Disks.{Contents, View, Disks, Area, Within, Either, Differs, Torn, Quiet, byte, bytes_of, size_of}
 use Rattle.trap_bank.specs.Calls.{LeftOver, MayLeave, LeftMaking, LeftSaying, Fewer, IsLawful, Reads, Writes, Syncs, Says, Makes}
 use Rattle.trap_bank.specs.Steps.{From, Steps, Moves, Same, Settled, Spoke, SpokePart, RemadeDisk, MadeDisk, Always}
-use Rattle.trap_bank.proofs.Regions.{disk_apart, same_length}
+use Rattle.trap_bank.proofs.Regions.{disk_apart, same_length, differs_mono, differs_again, differs_same}
 
 -- One run and then another: three facts on contents alone.
 pub then_ : (a b c : View) (d1 a1 d2 a2 during after : Contents → Contents → Type 0) → Steps a b d1 a1 → Steps b c d2 a2
@@ -103,6 +103,29 @@ always_same a b has moves always w left = let from = moves.now w left in subst h
 -- what every crash leaves after a run, from what every crash leaves on entry
 pub always_after : (a b : View) (during after : Disks → Disks → Type 0) (has also : Disks → Type 0) → Moves a b during after → Always a has → ((x y : Disks) → has x → after x y → also y) → Always b also
 always_after a b during after has also moves always step w left = let from = moves.now w left in step from.origin.disks w.disks (always from.origin from.was) from.by.disks
+
+-- a run that changes an area changes a larger one
+pub moves_mono : (small large : Area) (a b : View) → ((e i : ℕ) → small e i → large e i) → Moves a b (Differs small) (Differs small) → Moves a b (Differs large) (Differs large)
+moves_mono small large a b more moves = moves_weaken a b (Differs small) (Differs small) (Differs large) (Differs large) moves
+    (λ x y was torn. differs_mono small large x.disks y.disks more torn)
+    (λ x y was left torn. differs_mono small large x.disks y.disks more torn)
+
+-- a run that changes a range changes a larger one
+pub moves_wider : (d at n from len : ℕ) (a b : View) → from ≤ at → at + n ≤ from + len → Moves a b (Differs (Within d at n)) (Differs (Within d at n)) → Moves a b (Differs (Within d from len)) (Differs (Within d from len))
+moves_wider d at n from len a b low high moves = moves_mono (Within d at n) (Within d from len) a b (λ e i within. record { disk = within.disk; from = omega (arith, within.from); to = omega (arith, within.to) }) moves
+
+-- two runs that change one area
+pub moves_again : (area : Area) (a b c : View) → Moves a b (Differs area) (Differs area) → Moves b c (Differs area) (Differs area) → Moves a c (Differs area) (Differs area)
+moves_again area a b c first second = moves_then a b c (Differs area) (Differs area) (Differs area) (Differs area) (Differs area) (Differs area) first second
+    (λ x y was torn. torn)
+    (λ x y z was torn mid more. differs_again area x.disks y.disks z.disks torn more)
+    (λ x y z was torn mid more. differs_again area x.disks y.disks z.disks torn more)
+
+-- a run that changes nothing changes an area at most
+pub moves_same : (area : Area) (a b : View) → Moves a b Same Same → Moves a b (Differs area) (Differs area)
+moves_same area a b moves = moves_weaken a b Same Same (Differs area) (Differs area) moves
+    (λ x y was same. differs_same area x.disks y.disks same)
+    (λ x y was left same. differs_same area x.disks y.disks same)
 
 -- xs where the test holds, else ys
 abbrev mix : (ℕ → Bool) → List ℕ → List ℕ → List ℕ

@@ -85,6 +85,10 @@ differs_again area old mid new first second = record {
 pub differs_none : (area : Area) (x : Disks) → Differs area x x
 differs_none area x = record { sizes = λ e. refl; bytes = λ e i apart. refl }
 
+-- nor do disks that are equal
+pub differs_same : (area : Area) (old new : Disks) → new ≡ old → Differs area old new
+differs_same area old new same = record { sizes = λ e. ap (λ (x : Disks). size_of (x e)) same; bytes = λ e i apart. ap (λ (x : Disks). byte x e i) same }
+
 -- a range within a larger one
 pub differs_wider : (d a n b m : ℕ) (old new : Disks) → b ≤ a → a + n ≤ b + m → Differs (Within d a n) old new → Differs (Within d b m) old new
 differs_wider d a n b m old new low high differs = differs_mono (Within d a n) (Within d b m) old new (λ e i within. record { disk = within.disk; from = omega (arith, within.from); to = omega (arith, within.to) }) differs
@@ -105,12 +109,13 @@ region_of_disk v w d at n same = ap (λ (x : Option (List ℕ)). take n (drop at
 pub byte_of_disk : (v w : Disks) (d i : ℕ) → w d ≡ v d → byte w d i ≡ byte v d i
 byte_of_disk v w d i same = ap (λ (x : Option (List ℕ)). get_or (bytes_of x) i 0) same
 
+-- a byte of a region that is the same
+pub byte_of_region : (x y : Disks) (d at n i : ℕ) → region y d at n ≡ region x d at n → at ≤ i → i < at + n → byte y d i ≡ byte x d i
+byte_of_region x y d at n i same low high =
+    let place : i ≡ at + (i - at) = omega arith in
+    let within : i - at < n = omega arith in
+    byte_in_region y d at n (i - at) i (region x d at n) place same within ∙ sym (byte_in_region x d at n (i - at) i (region x d at n) place refl within)
+
 -- a region within one that is the same
 pub region_in : (x y : Disks) (d at len from n : ℕ) → size_of (y d) ≡ size_of (x d) → at ≤ from → from + n ≤ at + len → region y d at len ≡ region x d at len → region y d from n ≡ region x d from n
-region_in x y d at len from n size low high same = region_ext x y d from n size each
-  where
-    each : (i : ℕ) → from ≤ i → i < from + n → byte y d i ≡ byte x d i
-    each i after before =
-        let place : i ≡ at + (i - at) = omega arith in
-        let within : i - at < len = omega arith in
-        byte_in_region y d at len (i - at) i (region x d at len) place same within ∙ sym (byte_in_region x d at len (i - at) i (region x d at len) place refl within)
+region_in x y d at len from n size low high same = region_ext x y d from n size (λ i after before. byte_of_region x y d at len i same (omega arith) (omega arith))
