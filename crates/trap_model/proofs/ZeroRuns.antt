@@ -50,7 +50,8 @@ spelling-same s t x y small_s small_t e =
 cons-same : (s t : Segment) (a b : List Segment) → s ≡ t → a ≡ b → s ∷ a ≡ t ∷ b
 cons-same s t a b p q = cc
 
-least_behind_four : (a : List Segment) → least_behind 4 a ≡ 4
+-- behind a segment the next literal wants four zero bytes
+pub least_behind_four : (a : List Segment) → least_behind 4 a ≡ 4
 least_behind_four [] = refl
 least_behind_four (s ∷ a) = refl
 

@@ -1,0 +1,91 @@
+-- What the loops of the writer and the reader keep: segments that spell the front of a block.
+use Rattle.std.proofs.Common.{◌≡◌, ℕ, ◌+◌, ◌-◌, ◌<◌, ◌≤◌, List, [], ◌∷◌, ◌++◌, length, flat_map, refl, sym, ◌∙◌, ap, subst, arith, append-nil}
+use Rattle.std.proofs.lemmas.List.Concat.{flat_map-append}
+use Rattle.trap_model.specs.ZeroRun.{Segment, spelling, contents, size_of, Follows, Walks, ZeroRun, least_behind, NoneFollows, IsRefused}
+use Rattle.trap_model.proofs.ZeroRuns.{least_behind_four, walk-size, walk-room, length-spelling}
+
+-- segments that spell the front of a block of that size
+pub record Begun (size least : ℕ) (front bytes : List ℕ) : Type 0 where
+  pub segments : List Segment
+  pub left : ℕ
+  pub rules : Walks 0 size segments left
+  pub next : least_behind 0 segments ≡ least
+  pub spelled : bytes ≡ flat_map spelling segments
+  pub meant : front ≡ flat_map contents segments
+
+pub begun_nothing : (size : ℕ) → Begun size 0 [] []
+begun_nothing size = record { segments = []; left = size; rules = refl; next = refl; spelled = refl; meant = refl }
+
+-- so much of the block is left
+pub begun-left : (size least : ℕ) (front bytes : List ℕ) (b : Begun size least front bytes) → length front + b.left ≡ size
+begun-left size least front bytes b =
+    let sizes = walk-size 0 size b.left b.segments b.rules in
+    let same : length front ≡ length (flat_map contents b.segments) = ap length b.meant in
+    omega arith
+
+-- one segment more at the end of a walk
+walk-more : (least owed left : ℕ) (a : List Segment) (s : Segment) → Walks least owed a left → Follows (least_behind least a) left s → Walks least owed (a ++ s ∷ []) (left - size_of s)
+walk-more least owed left [] s walk follows =
+    (subst (λ (n : ℕ). Follows least n s) walk follows, ap (λ (n : ℕ). n - size_of s) walk)
+walk-more least owed left (t ∷ a) s walk follows =
+    (walk.0, walk-more 4 (owed - size_of t) left a s walk.1 (subst (λ (n : ℕ). Follows n left s) (sym (least_behind_four a)) follows))
+
+four_behind : (a : List Segment) (s : Segment) → least_behind 0 (a ++ s ∷ []) ≡ 4
+four_behind [] s = refl
+four_behind (t ∷ a) s = refl
+
+more-map : (f : Segment → List ℕ) (a : List Segment) (s : Segment) → flat_map f (a ++ s ∷ []) ≡ flat_map f a ++ f s
+more-map f a s = flat_map-append f a (s ∷ []) ∙ ap (λ (l : List ℕ). flat_map f a ++ l) (append-nil (f s))
+
+-- one segment more
+pub begun-more : (size least : ℕ) (front bytes : List ℕ) (s : Segment) → Begun size least front bytes
+    → Follows least (size - length front) s → Begun size 4 (front ++ contents s) (bytes ++ spelling s)
+begun-more size least front bytes s b follows = record {
+  segments = b.segments ++ s ∷ [];
+  left = b.left - size_of s;
+  rules = walk-more 0 size b.left b.segments s b.rules here;
+  next = four_behind b.segments s;
+  spelled = ap (λ (l : List ℕ). l ++ spelling s) b.spelled ∙ sym (more-map spelling b.segments s);
+  meant = ap (λ (l : List ℕ). l ++ contents s) b.meant ∙ sym (more-map contents b.segments s);
+}
+  where
+    here : Follows (least_behind 0 b.segments) b.left s
+    here =
+        let left = begun-left size least front bytes b in
+        let same : size - length front ≡ b.left = omega arith in
+        subst (λ (n : ℕ). Follows n b.left s) (sym b.next) (subst (λ (n : ℕ). Follows least n s) same follows)
+
+-- the whole block
+pub begun_all : (size least : ℕ) (block bytes : List ℕ) → Begun size least block bytes → length block ≡ size → ZeroRun block bytes
+begun_all size least block bytes b whole = record {
+  segments = b.segments;
+  rules = subst (λ (n : ℕ). Walks 0 n b.segments 0) (sym whole)
+      (subst (λ (n : ℕ). Walks 0 size b.segments n) (let left = begun-left size least block bytes b in let none : b.left ≡ 0 = omega arith in none) b.rules);
+  spelled = b.spelled;
+  meant = b.meant;
+}
+
+-- the bytes are refused behind what spells a front of a block
+pub begun_refused : (size least : ℕ) (front bytes whole rest : List ℕ) → Begun size least front bytes → whole ≡ bytes ++ rest
+    → NoneFollows least (size - length front) rest → 0 < (size - length front) + length rest → IsRefused size whole (length bytes)
+begun_refused size least front bytes whole rest b parts stops unfinished =
+    let left = begun-left size least front bytes b in
+    let same : size - length front ≡ b.left = omega arith in
+    record {
+      segments = b.segments;
+      rest = rest;
+      left = b.left;
+      rules = b.rules;
+      parts = parts ∙ ap (λ (l : List ℕ). l ++ rest) b.spelled;
+      place = ap length b.spelled;
+      stops = subst (λ (n : ℕ). NoneFollows n b.left rest) (sym b.next) (subst (λ (n : ℕ). NoneFollows least n rest) same stops);
+      unfinished = omega arith;
+    }
+
+-- how long the spelling of a front is at most
+pub begun-room : (size least : ℕ) (front bytes : List ℕ) → Begun size least front bytes → length bytes + (size - length front) ≤ size + 7
+begun-room size least front bytes b =
+    let left = begun-left size least front bytes b in
+    let room = walk-room 0 size b.left b.segments (omega arith) b.rules in
+    let same : length bytes ≡ length (flat_map spelling b.segments) = ap length b.spelled in
+    omega arith

@@ -1,0 +1,4 @@
+pub mod Begun
+pub mod Scanning
+pub mod Coding
+pub mod Decoding

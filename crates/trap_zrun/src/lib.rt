@@ -1,0 +1,10 @@
+//! The code of a block: runs of zero bytes and literals between them, one spelling for each block.
+#![tactic(auto)]
+
+mod pieces;
+mod reader;
+mod scans;
+mod writer;
+
+pub use reader::{check, decode, BadCode};
+pub use writer::code;

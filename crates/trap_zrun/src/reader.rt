@@ -1,0 +1,116 @@
+//! Reads the code of a block.
+
+ghost use Rattle.std.specs.Prelude.{◌≡◌, ℕ, ◌+◌, ◌^◌, ◌<◌, ◌≤◌, ◌↔◌, List, length, IsTrue, IsOk, IfErr, OnOk, IfSome, IfNone};
+ghost use Rattle.trap_model.specs.ZeroRun.{ZeroRun, IsCode, IsRefused, IsLiteral, Follows, NoneFollows};
+ghost use Rattle.trap_zrun.specs.Scans.{IsNext};
+
+use crate::pieces::put_contents;
+use crate::scans::four_zeros;
+use trap_block::get_u16;
+
+// Whether the bytes are a literal.
+fn is_literal(bytes: &[u8]) -> bool
+    requires { 1 ≤ length bytes.now }
+    ensures { IsTrue result ↔ IsLiteral bytes.now }
+{
+    if bytes[0] == 0 {
+        return false;
+    }
+    if bytes[bytes.len() - 1] == 0 {
+        return false;
+    }
+    four_zeros(bytes, 0) == bytes.len()
+}
+
+// Whether a segment of that many zero bytes and this literal keeps the rules.
+fn follows(least: usize, owed: usize, zeros: usize, literal: &[u8]) -> bool
+    requires { 1 ≤ owed }
+    ensures { IsTrue result ↔ Follows least owed (record { zeros = zeros; literal = literal.now }) }
+{
+    if literal.is_empty() {
+        zeros == owed
+    } else {
+        zeros >= least && zeros <= owed && literal.len() <= owed - zeros && is_literal(literal)
+    }
+}
+
+// The segment at the front of the bytes: its zero bytes and its literal.
+fn next_segment(bytes: &[u8], least: usize, owed: usize) -> Option<(usize, &[u8])>
+    requires some { 1 ≤ owed }
+    requires small { owed < 2 ^ 16 }
+    ensures found { IfSome result (λ next. IsNext least owed bytes.now
+        (record { zeros = next.0; literal = next.1.now })) }
+    ensures none { IfNone result (NoneFollows least owed bytes.now) }
+{
+    if bytes.len() < 4 {
+        return None;
+    }
+    let zeros = usize::from(get_u16(bytes, 0));
+    let len = usize::from(get_u16(bytes, 2));
+    if bytes.len() - 4 < len {
+        return None;
+    }
+    let literal = &bytes[4..4 + len];
+    if !follows(least, owed, zeros, literal) {
+        return None;
+    }
+    Some((zeros, literal))
+}
+
+/// Bytes that spell no block of the size asked. `at` is the offset of the first byte of the first segment
+/// that isn't whole, breaks a rule or goes past the end of the block; or of the first byte behind the last
+/// segment.
+#[derive(Clone, Copy, Debug, PartialEq, Eq)]
+pub struct BadCode {
+    pub at: usize,
+}
+
+/// Fills `out` with the block that the bytes spell. After a refusal it holds any bytes.
+pub fn decode(bytes: &[u8], out: &mut [u8]) -> Result<(), BadCode>
+    requires { length out.old < 2 ^ 16 }
+    ensures decoded { OnOk result (ZeroRun out.new bytes.now) }
+
+    // It answers Ok wherever the bytes spell a block of that size, and the block is that one.
+    ensures only { (block : List ℕ) → length block ≡ length out.old → ZeroRun block bytes.now
+        → IsOk result × (out.new ≡ block) }
+    ensures refused { IfErr result (λ bad. IsRefused (length out.old) bytes.now bad.at) }
+{
+    let mut at = 0;
+    let mut filled = 0;
+    let mut least = 0;
+    while filled < out.len() {
+        let Some((zeros, literal)) = next_segment(&bytes[at..], least, out.len() - filled) else {
+            return Err(BadCode { at });
+        };
+        filled = put_contents(out, filled, zeros, literal);
+        at += 4 + literal.len();
+        least = 4;
+    }
+    if at < bytes.len() {
+        return Err(BadCode { at });
+    }
+    Ok(())
+}
+
+/// Whether the bytes spell a block of that size.
+pub fn check(bytes: &[u8], size: usize) -> Result<(), BadCode>
+    requires { size < 2 ^ 16 }
+    ensures spelled { OnOk result (IsCode size bytes.now) }
+    ensures refused { IfErr result (λ bad. IsRefused size bytes.now bad.at) }
+{
+    let mut at = 0;
+    let mut filled = 0;
+    let mut least = 0;
+    while filled < size {
+        let Some((zeros, literal)) = next_segment(&bytes[at..], least, size - filled) else {
+            return Err(BadCode { at });
+        };
+        filled += zeros + literal.len();
+        at += 4 + literal.len();
+        least = 4;
+    }
+    if at < bytes.len() {
+        return Err(BadCode { at });
+    }
+    Ok(())
+}
