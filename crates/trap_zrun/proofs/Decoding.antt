@@ -1,8 +1,7 @@
 -- What the reader's loops keep.
-use Rattle.std.proofs.Common.{◌≡◌, ℕ, ◌+◌, ◌-◌, ◌<◌, ◌≤◌, List, [], ◌++◌, length, take, drop, slice_range, refl, sym, ◌∙◌, ap, subst, arith, length-append, length-drop, length-take-le, take-add, take_at, take_all, take-append-drop}
-use Rattle.std.proofs.lemmas.List.{take_rest}
+use Rattle.std.proofs.Common.{◌≡◌, ℕ, ◌+◌, ◌-◌, ◌<◌, ◌≤◌, List, [], ◌++◌, length, take, drop, refl, sym, ◌∙◌, ap, subst, arith, ◌^◌, Result, Ok, Err, IsOk, IsErr, length-append, length-drop, length-take-le, take-add, take_at, take_all, take-append-drop}
 use Rattle.trap_model.specs.ZeroRun.{Segment, spelling, contents, size_of, Follows, ZeroRun, IsCode, NoneFollows, IsRefused}
-use Rattle.trap_model.proofs.ZeroRuns.{length-spelling, length-contents, Follows_within, NoneFollows-whole}
+use Rattle.trap_model.proofs.ZeroRuns.{length-spelling, length-contents, Follows_within, NoneFollows-whole, IsRefused-not}
 use Rattle.trap_zrun.specs.Scans.{IsNext}
 use Rattle.trap_zrun.proofs.Begun.{Begun, begun_nothing, begun-more, begun_all, begun_refused}
 
@@ -27,23 +26,22 @@ pub checked_nothing : (size : ℕ) (bytes : List ℕ) → IsChecked size bytes 0
 checked_nothing size bytes = record { inside = omega arith; room = omega arith; front = []; len = refl; begun = begun_nothing size }
 
 -- the bytes up to the end of the next segment
-read-more : (bytes : List ℕ) (least owed at : ℕ) (s : Segment) → at ≤ length bytes → IsNext least owed (slice_range bytes at (length bytes)) s
+read-more : (bytes : List ℕ) (least owed at : ℕ) (s : Segment) → at ≤ length bytes → IsNext least owed (drop at bytes) s
     → (at + (4 + length s.literal) ≤ length bytes) × (take at bytes ++ spelling s ≡ take (at + (4 + length s.literal)) bytes)
 read-more bytes least owed at s inside next =
-    let rest : slice_range bytes at (length bytes) ≡ drop at bytes = take_rest bytes at in
-    let spelled : drop at bytes ≡ spelling s ++ drop (4 + length s.literal) (slice_range bytes at (length bytes)) = sym rest ∙ next.spelled in
-    let lens : length (drop at bytes) ≡ length (spelling s ++ drop (4 + length s.literal) (slice_range bytes at (length bytes))) = ap length spelled in
+    let behind = drop (4 + length s.literal) (drop at bytes) in
+    let lens : length (drop at bytes) ≡ length (spelling s ++ behind) = ap length next.spelled in
     let left = length-drop at bytes in
-    let parts = length-append (spelling s) (drop (4 + length s.literal) (slice_range bytes at (length bytes))) in
+    let parts = length-append (spelling s) behind in
     let front = length-spelling s in
     (
       omega arith,
-      ap (λ (l : List ℕ). take at bytes ++ l) (sym (take_at (spelling s) (drop (4 + length s.literal) (slice_range bytes at (length bytes))) (4 + length s.literal) front) ∙ ap (λ (l : List ℕ). take (4 + length s.literal) l) (sym spelled))
+      ap (λ (l : List ℕ). take at bytes ++ l) (sym (take_at (spelling s) behind (4 + length s.literal) front) ∙ ap (λ (l : List ℕ). take (4 + length s.literal) l) (sym next.spelled))
       ∙ sym (take-add at (4 + length s.literal) bytes),
     )
 
 pub decoded-more : (old out bytes : List ℕ) (least filled at end : ℕ) (s : Segment) → IsDecoded old bytes least filled at
-    → IsNext least (length old - filled) (slice_range bytes at (length bytes)) s → length out ≡ length old → end ≡ filled + size_of s → take end out ≡ take filled old ++ contents s
+    → IsNext least (length old - filled) (drop at bytes) s → length out ≡ length old → end ≡ filled + size_of s → take end out ≡ take filled old ++ contents s
     → IsDecoded out bytes 4 end (at + (4 + length s.literal))
 decoded-more old out bytes least filled at end s decoded next same place front =
     let inside = decoded.inside in
@@ -62,7 +60,7 @@ decoded-more old out bytes least filled at end s decoded next same place front =
     }
 
 pub checked-more : (size : ℕ) (bytes : List ℕ) (least filled at end : ℕ) (s : Segment) → IsChecked size bytes least filled at
-    → IsNext least (size - filled) (slice_range bytes at (length bytes)) s → end ≡ filled + size_of s
+    → IsNext least (size - filled) (drop at bytes) s → end ≡ filled + size_of s
     → IsChecked size bytes 4 end (at + (4 + length s.literal))
 checked-more size bytes least filled at end s checked next place =
     let inside = checked.inside in
@@ -89,23 +87,25 @@ refused-at size front bytes least at inside begun stops unfinished =
     subst (λ (n : ℕ). IsRefused size bytes n) (length-take-le at bytes inside)
     (begun_refused size least front (take at bytes) bytes (drop at bytes) begun (sym (take-append-drop at bytes)) stops unfinished)
 
+-- a refusal is at the place that it names
+pub refused_there : (size : ℕ) (bytes : List ℕ) (at there : ℕ) → there ≡ at → IsRefused size bytes at → IsRefused size bytes there
+refused_there size bytes at there same refused = subst (λ (n : ℕ). IsRefused size bytes n) (sym same) refused
+
 pub decoded_stops : (out bytes : List ℕ) (least filled at : ℕ) → IsDecoded out bytes least filled at → filled < length out
-    → NoneFollows least (length out - filled) (slice_range bytes at (length bytes)) → IsRefused (length out) bytes at
+    → NoneFollows least (length out - filled) (drop at bytes) → IsRefused (length out) bytes at
 decoded_stops out bytes least filled at decoded more stops =
     let room = decoded.room in
     let len = length-take-le filled out room in
     refused-at (length out) (take filled out) bytes least at decoded.inside decoded.begun
-    (subst (λ (n : ℕ). NoneFollows least (length out - n) (drop at bytes)) (sym len)
-      (subst (λ (l : List ℕ). NoneFollows least (length out - filled) l) (take_rest bytes at) stops))
+    (subst (λ (n : ℕ). NoneFollows least (length out - n) (drop at bytes)) (sym len) stops)
     (omega arith)
 
 pub checked_stops : (size : ℕ) (bytes : List ℕ) (least filled at : ℕ) → IsChecked size bytes least filled at → filled < size
-    → NoneFollows least (size - filled) (slice_range bytes at (length bytes)) → IsRefused size bytes at
+    → NoneFollows least (size - filled) (drop at bytes) → IsRefused size bytes at
 checked_stops size bytes least filled at checked more stops =
     let len = checked.len in
     refused-at size checked.front bytes least at checked.inside checked.begun
-    (subst (λ (n : ℕ). NoneFollows least (size - n) (drop at bytes)) (sym len)
-      (subst (λ (l : List ℕ). NoneFollows least (size - filled) l) (take_rest bytes at) stops))
+    (subst (λ (n : ℕ). NoneFollows least (size - n) (drop at bytes)) (sym len) stops)
     (omega arith)
 
 -- where bytes are left behind the block they are refused
@@ -140,3 +140,14 @@ checked_done size bytes least filled at checked whole read =
     let room = checked.room in
     let all : length checked.front ≡ size = omega arith in
     (checked.front, all, begun_all size least checked.front bytes (subst (λ (l : List ℕ). Begun size least checked.front l) (take_all at bytes read) checked.begun) all)
+
+not-both : {T E : Type 0} (r : Result T E) → IsErr r → IsOk r → ⊥
+not-both (Ok v) err ok = cc
+not-both (Err e) err ok = cc
+
+-- what is refused is no code, and the answer says so
+pub no-code : {T E : Type 0} (r : Result T E) (size : ℕ) (bytes : List ℕ) (at : ℕ) → IsErr r → size < 2 ^ 16 → IsRefused size bytes at → (IsOk r → IsCode size bytes) × (IsCode size bytes → IsOk r)
+no-code r size bytes at err small refused = (
+  λ ok. absurd (not-both r err ok),
+  λ code. absurd (IsRefused-not size bytes code.0 at small refused code.1 code.2),
+)

@@ -1,6 +1,6 @@
 //! Reads the code of a block.
 
-ghost use Rattle.std.specs.Prelude.{◌≡◌, ℕ, ◌+◌, ◌^◌, ◌<◌, ◌≤◌, ◌↔◌, List, length, IsTrue, IsOk, IfErr, OnOk, IfSome, IfNone};
+ghost use Rattle.std.specs.Prelude.{◌≡◌, ℕ, ◌+◌, ◌^◌, ◌<◌, ◌≤◌, ◌↔◌, List, length, drop, IsTrue, IsOk, IfOk, IfErr, OnOk, IfSome, IfNone};
 ghost use Rattle.trap_model.specs.ZeroRun.{ZeroRun, IsCode, IsRefused, IsLiteral, Follows, NoneFollows};
 ghost use Rattle.trap_zrun.specs.Scans.{IsNext};
 
@@ -65,6 +65,38 @@ pub struct BadCode {
     pub at: usize,
 }
 
+// The segment at a place, where one follows.
+fn segment_at(
+    bytes: &[u8],
+    at: usize,
+    least: usize,
+    owed: usize,
+) -> Result<(usize, &[u8]), BadCode>
+    requires inside { at ≤ length bytes.now }
+    requires some { 1 ≤ owed }
+    requires small { owed < 2 ^ 16 }
+    ensures found { IfOk result (λ next. IsNext least owed (drop at bytes.now)
+        (record { zeros = next.0; literal = next.1.now })) }
+    ensures none { IfErr result (λ bad. (bad.at ≡ at) × NoneFollows least owed (drop at bytes.now)) }
+{
+    match next_segment(&bytes[at..], least, owed) {
+        Some(next) => Ok(next),
+        None => Err(BadCode { at }),
+    }
+}
+
+// No byte follows the last segment, which ends at a place.
+fn end_at(bytes: &[u8], at: usize) -> Result<(), BadCode>
+    requires { at ≤ length bytes.now }
+    ensures end { OnOk result (length bytes.now ≤ at) }
+    ensures more { IfErr result (λ bad. (bad.at ≡ at) × (at < length bytes.now)) }
+{
+    if at < bytes.len() {
+        return Err(BadCode { at });
+    }
+    Ok(())
+}
+
 /// Fills `out` with the block that the bytes spell. After a refusal it holds any bytes.
 pub fn decode(bytes: &[u8], out: &mut [u8]) -> Result<(), BadCode>
     requires { length out.old < 2 ^ 16 }
@@ -79,38 +111,30 @@ pub fn decode(bytes: &[u8], out: &mut [u8]) -> Result<(), BadCode>
     let mut filled = 0;
     let mut least = 0;
     while filled < out.len() {
-        let Some((zeros, literal)) = next_segment(&bytes[at..], least, out.len() - filled) else {
-            return Err(BadCode { at });
-        };
+        let (zeros, literal) = segment_at(bytes, at, least, out.len() - filled)?;
         filled = put_contents(out, filled, zeros, literal);
         at += 4 + literal.len();
         least = 4;
     }
-    if at < bytes.len() {
-        return Err(BadCode { at });
-    }
+    end_at(bytes, at)?;
     Ok(())
 }
 
-/// Whether the bytes spell a block of that size.
+/// Whether the bytes spell a block of that size: `decode` without a place for the block.
 pub fn check(bytes: &[u8], size: usize) -> Result<(), BadCode>
     requires { size < 2 ^ 16 }
-    ensures spelled { OnOk result (IsCode size bytes.now) }
+    ensures spelled { IsOk result ↔ IsCode size bytes.now }
     ensures refused { IfErr result (λ bad. IsRefused size bytes.now bad.at) }
 {
     let mut at = 0;
     let mut filled = 0;
     let mut least = 0;
     while filled < size {
-        let Some((zeros, literal)) = next_segment(&bytes[at..], least, size - filled) else {
-            return Err(BadCode { at });
-        };
+        let (zeros, literal) = segment_at(bytes, at, least, size - filled)?;
         filled += zeros + literal.len();
         at += 4 + literal.len();
         least = 4;
     }
-    if at < bytes.len() {
-        return Err(BadCode { at });
-    }
+    end_at(bytes, at)?;
     Ok(())
 }
