@@ -1,16 +1,14 @@
 -- Lines cut into fields, and inputs cut into lines.
-use Rattle.std.proofs.Common.{rules, arith, add-one, ◌≡◌, ◌≢◌, ℕ, zero, suc, ◌+◌, ◌-◌, ◌*◌, ◌^◌, ◌<◌, ◌≤◌, length, take, drop, get_or, Bool, true, false, cond, ltb, List, [], ◌∷◌, ◌++◌, Option, Some, None, sym, ◌∙◌, ap, subst, refl}
-use Rattle.std.proofs.lemmas.Grind.{common_steps}
-use Rattle.std.proofs.lemmas.Bool.{cases_lt}
+use Rattle.std.proofs.Common.{arith, ◌≡◌, ℕ, ◌+◌, ◌-◌, ◌<◌, ◌≤◌, length, take, drop, false, cond, ltb, List, [], ◌∷◌, Option, Some, None, ◌∙◌, ap, refl}
 use Rattle.std.proofs.lemmas.List.{take_all, length-drop}
-use Rattle.std.proofs.lemmas.List.Splits.{slice_split_first, slice_split_none, slice_split_at, length-slice_split}
+use Rattle.std.proofs.lemmas.List.Splits.{slice_split_first, slice_split_none, length-slice_split}
 use Rattle.std.proofs.lemmas.List.Sums.{fails_before_first}
 use Rattle.std.proofs.lemmas.List.Elements.{All-from_get_or}
-use Rattle.std.specs.List.{slice_split, position_or_len, before_first, after_first, All}
-use Rattle.trap_model.specs.declared.request.Request.TheVariants.{Write, Read, Quit, Bad}
+use Rattle.std.specs.List.{slice_split, position_or_len}
+use Rattle.trap_model.specs.declared.request.Request.TheVariants.{Bad}
 use Rattle.trap_script.specs.declared.lines.Line.{Line}
 use Rattle.trap_script.specs.declared.lines.Line.TheVariants as line
-use Rattle.trap_script.specs.Lines.{is_space, is_line_feed, quit_form, read_form, write_form, fields_after, LeavesBuffer}
+use Rattle.trap_script.specs.Lines.{is_space, quit_form, read_form, write_form, LeavesBuffer}
 
 -- the place of the first space, if there is one
 abbrev pub first_space : List ℕ → Option ℕ
@@ -31,7 +29,7 @@ pub no_cut : (line : List ℕ) → first_space line ≡ None → slice_split is_
 no_cut line found =
     let all : length line ≤ position_or_len is_space line = grind (arith, found) in
     slice_split_none is_space line (All-from_get_or (λ byte. is_space byte ≡ false) line 0
-        (λ i inside. fails_before_first is_space line i 0 (omega arith)))
+    (λ i inside. fails_before_first is_space line i 0 (omega arith)))
 
 -- a list of parts that has a first one
 pub record HasFirst (parts : List (List ℕ)) : Type 0 where
@@ -39,7 +37,8 @@ pub record HasFirst (parts : List (List ℕ)) : Type 0 where
   pub others : List (List ℕ)
   pub is : parts ≡ first ∷ others
 
-has_first : (parts : List (List ℕ)) → 0 < length parts → HasFirst parts
+-- a list that isn't empty has a first part
+pub has_first : (parts : List (List ℕ)) → 0 < length parts → HasFirst parts
 has_first [] some = absurd (omega (arith, some))
 has_first (part ∷ parts) some = record { first = part; others = parts; is = refl }
 

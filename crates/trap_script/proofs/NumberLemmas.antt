@@ -1,13 +1,11 @@
 -- Texts of digits, and the numbers that they are.
-use Rattle.std.proofs.Common.{rules, arith, add-one, ◌≡◌, ◌≢◌, ℕ, zero, suc, ◌+◌, ◌-◌, ◌*◌, ◌^◌, ◌<◌, ◌≤◌, length, take, get_or, Bool, true, false, List, [], ◌∷◌, Option, Some, None, decimal, sym, ◌∙◌, ap, subst}
-use Rattle.std.proofs.lemmas.Grind.{common_steps}
+use Rattle.std.proofs.Common.{arith, add-one, ◌≡◌, ℕ, zero, suc, ◌+◌, ◌-◌, ◌^◌, ◌<◌, ◌≤◌, length, take, get_or, true, false, List, [], ◌∷◌, Some, None, decimal, sym, ◌∙◌, ap}
 use Rattle.std.proofs.lemmas.Fmt.{decimal-digits_value, digits_value-decimal, digits_decimal, decimal_nonempty, length-decimal-le, first_decimal, decimal_digit}
-use Rattle.std.proofs.lemmas.Int.Digits.{digits_value_more}
 use Rattle.std.proofs.lemmas.Str.Parse.{IsNumeralModel, numerals_by_value, tells_all_ascii_digits, digits_value-take-le}
 use Rattle.std.specs.Char.{is_ascii_digit, digit_value}
 use Rattle.std.specs.Str.{all_ascii_digits}
 use Rattle.std.specs.Str.Parse.{digits_value}
-use Rattle.trap_script.specs.Numbers.{has_shape, number_of}
+use Rattle.trap_script.specs.Numbers.{number_of}
 
 -- a byte that is no digit
 no_digits : (text : List ℕ) (i : ℕ) → i < length text → is_ascii_digit (get_or text i 0) ≡ false → all_ascii_digits text ≡ false
@@ -60,7 +58,7 @@ number_parts text n found = record {
   first = λ zero. grind (arith, found, zero);
   digits = grind (arith, found);
   value = grind (arith, found);
-  fits = grind (arith, found)
+  fits = grind (arith, found);
 }
 
 number_from : (text : List ℕ) (n : ℕ) → IsNumberText text n → number_of text ≡ Some n
@@ -86,5 +84,5 @@ decimal_is_number text n small is = ap number_of is ∙ number_from (decimal n) 
   first = decimal_first n small;
   digits = digits_decimal numerals n small;
   value = digits_value-decimal numerals n small;
-  fits = small
+  fits = small;
 })

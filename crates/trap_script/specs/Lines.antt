@@ -1,5 +1,5 @@
 -- The requests of a session's lines.
-use Rattle.std.specs.Prelude.{◌≡◌, ℕ, zero, suc, ◌+◌, ◌*◌, nat_lt, ◌==◌, ◌&&◌, List, [], ◌∷◌, length, slice_index, map, take_while, Bool, true, false, if◌then◌else◌, Option, Some, None, Result, Ok, Err, ⊤}
+use Rattle.std.specs.Prelude.{◌≡◌, ℕ, ◌+◌, ◌*◌, nat_lt, ◌==◌, ◌&&◌, List, [], ◌∷◌, length, slice_index, map, take_while, count_by, All, Bool, true, false, if◌then◌else◌, Option, Some, None, Result, Ok, Err, ⊤}
 use Rattle.std.specs.List.{slice_split}
 use Rattle.hex.specs.Hex.{decode_sized}
 use Rattle.trap_model.specs.declared.request.Request.{Request}
@@ -97,6 +97,14 @@ LeavesBuffer line.Info old new = new ≡ old
 LeavesBuffer (line.Keep seq) old new = new ≡ old
 LeavesBuffer line.Quit old new = new ≡ old
 LeavesBuffer line.Bad old new = ⊤
+
+-- no line feed stands among the bytes
+abbrev pub HasNoFeed : List ℕ → Type 0
+HasNoFeed line = All (λ byte. is_line_feed byte ≡ false) line
+
+-- how many line feeds stand among the bytes: so many whole lines
+abbrev pub line_feeds : List ℕ → ℕ
+line_feeds bytes = count_by is_line_feed bytes
 
 -- the parts between line feeds, without an empty last one
 abbrev pub without_empty_last : List (List ℕ) → List (List ℕ)

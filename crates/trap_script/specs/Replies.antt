@@ -1,5 +1,5 @@
 -- The texts of replies.
-use Rattle.std.specs.Prelude.{ℕ, ◌+◌, List, [], ◌∷◌, ◌++◌, length, codes, decimal}
+use Rattle.std.specs.Prelude.{ℕ, List, [], ◌++◌, length, codes, decimal}
 use Rattle.hex.specs.Hex.{encode_lower}
 use Rattle.trap_model.specs.declared.request.Refusal.{Refusal}
 use Rattle.trap_model.specs.declared.request.Refusal.TheVariants.{NoLine, NoBlock, TimeBack, Worn, Full, NotKept, Ahead}

@@ -1,5 +1,6 @@
 -- What a machine goes through and says over a list of requests.
-use Rattle.std.specs.Prelude.{ℕ, List, [], ◌∷◌, map, take, flat_map}
+use Rattle.std.specs.Prelude.{◌≡◌, ◌⊎◌, ℕ, ◌+◌, ◌≤◌, List, [], ◌∷◌, ◌++◌, length, map, take, flat_map}
+use Rattle.trap_model.specs.Given.{given}
 use Rattle.trap_model.specs.Machine.{Machine}
 use Rattle.trap_model.specs.declared.request.Request.{Request}
 use Rattle.trap_model.specs.declared.request.Reply.{Reply}
@@ -35,3 +36,30 @@ first_texts m s requests j = flat_map (λ text. text) (take j (reply_texts m s r
 -- the texts of all replies, one after the other
 abbrev pub all_texts : {S : Type 0} → Machine S → S → List Request → List ℕ
 all_texts m s requests = flat_map (λ text. text) (reply_texts m s requests)
+
+-- Below, a store holds states, and bytes are said on a port: the list of all that was said before, and of
+-- all that is said now.
+
+-- the first j replies were said, and the store holds the state after their requests
+pub record Answered {S : Type 0} (m : Machine S) (Holds : S → Type 0) (s : S) (requests : List Request) (j : ℕ)
+    (before now : List ℕ) : Type 0 where
+  pub within : j ≤ length requests
+  pub said : now ≡ before ++ first_texts m s requests j
+  pub holds : Holds (state_after m s requests j)
+
+-- every reply was said, and the store holds the last state
+pub record AnsweredAll {S : Type 0} (m : Machine S) (Holds : S → Type 0) (s : S) (requests : List Request)
+    (before now : List ℕ) : Type 0 where
+  pub said : now ≡ before ++ all_texts m s requests
+  pub holds : Holds (last_state m s requests)
+
+-- a front of the replies was said, and the store holds the state after the requests whose replies were given,
+-- or after one more
+pub record AnsweredPart {S : Type 0} (m : Machine S) (Holds : S → Type 0) (s : S) (requests : List Request)
+    (before now : List ℕ) : Type 0 where
+  pub part : List ℕ
+  pub rest : List ℕ
+  pub said : now ≡ before ++ part
+  pub front : all_texts m s requests ≡ part ++ rest
+  pub holds : Holds (state_after m s requests (given (reply_texts m s requests) part))
+      ⊎ Holds (state_after m s requests (given (reply_texts m s requests) part + 1))

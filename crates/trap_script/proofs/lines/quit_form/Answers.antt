@@ -1,4 +1,3 @@
-use Rattle.std.proofs.Common.{rules, sym, ◌∙◌}
 use Rattle.trap_script.proofs.LineLemmas.{quit_with_more}
 use Rattle.trap_script.proofs.lines.quit_form.Goals as goal
 

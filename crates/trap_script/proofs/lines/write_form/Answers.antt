@@ -11,9 +11,9 @@ returns-in-Some-more-clause-asked c =
     let last = c.in-Some-last.last.now in
     let more = c.in-Some-more.field-0.now in
     let time : slice_split is_space rest ≡ c.cut_field.result.0.now ∷ slice_split is_space behind
-        = rw c.in-Some-behind.is at c.cut_field.ensures in
+    = rw c.in-Some-behind.is at c.cut_field.ensures in
     let block : slice_split is_space behind ≡ c.cut_field-2.result.0.now ∷ slice_split is_space last
-        = rw c.in-Some-last.is at c.cut_field-2.ensures in
+    = rw c.in-Some-last.is at c.cut_field-2.ensures in
     let digits : slice_split is_space last ≡ c.cut_field-3.result.0.now ∷ slice_split is_space more
-        = rw c.in-Some-more.is at c.cut_field-3.ensures in
+    = rw c.in-Some-more.is at c.cut_field-3.ensures in
     rw c.in-Some.is (write_with_more (length c.args.fresh.now) rest c.cut_field.result.0.now behind c.cut_field-2.result.0.now last c.cut_field-3.result.0.now more time block digits)

@@ -1,8 +1,7 @@
-use Rattle.std.proofs.Common.{rules, arith, ◌≡◌, ℕ, ◌+◌, ◌-◌, ◌*◌, ◌^◌, ◌<◌, ◌≤◌, length, take, get_or, true, false, sym, ◌∙◌}
+use Rattle.std.proofs.Common.{arith, ◌≡◌, ◌+◌, ◌^◌, ◌≤◌, take, get_or, true, false, sym, ◌∙◌}
 use Rattle.std.proofs.lemmas.Int.Digits.{digits_value_more}
-use Rattle.std.specs.Char.{is_ascii_digit, digit_value}
+use Rattle.std.specs.Char.{is_ascii_digit}
 use Rattle.std.specs.Str.Parse.{digits_value}
-use Rattle.trap_script.specs.Numbers.{number_of}
 use Rattle.trap_script.proofs.NumberLemmas.{not_digits, too_great, digits_more, value_of_digit}
 use Rattle.trap_script.proofs.numbers.read_number.Goals as goal
 
@@ -33,5 +32,5 @@ digits-preserved c =
     record {
       digits = digits_more c.args.bytes.now c.digits.byte-index c.digits-test.true c.digits.invariant.digits digit;
       value = omega (arith, more, value, c.from.ensures, c.in_ok-checked_mul.ensures, c.in_ok-value.ensures);
-      fits = omega (arith, c.in_ok-value.ensures)
+      fits = omega (arith, c.in_ok-value.ensures);
     }

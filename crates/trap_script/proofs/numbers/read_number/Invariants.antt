@@ -1,4 +1,4 @@
-use Rattle.std.proofs.Common.{◌≡◌, ℕ, ◌^◌, ◌<◌, take, true}
+use Rattle.std.proofs.Common.{◌≡◌, ◌^◌, ◌<◌, take, true}
 use Rattle.std.specs.Str.{all_ascii_digits}
 use Rattle.std.specs.Str.Parse.{digits_value}
 use Rattle.trap_script.proofs.numbers.read_number.Given as goal
@@ -8,5 +8,5 @@ abbrev pub invariant-digits : goal.invariant-digits
 invariant-digits l = record {
   digits : all_ascii_digits (take l.byte-index l.bytes) ≡ true;
   value : l.value ≡ digits_value 10 (take l.byte-index l.bytes);
-  fits : l.value < 2 ^ 64
+  fits : l.value < 2 ^ 64;
 }

@@ -1,0 +1,176 @@
+-- How many replies are given, once a part of them is said.
+use Rattle.std.proofs.Common.{arith, ◌≡◌, ◌≢◌, ◌⊎◌, inl, inr, ℕ, zero, suc, ◌+◌, ◌<◌, ◌≤◌, length, take, drop, List, [], ◌∷◌, ◌++◌, append_assoc, length-append, sym, ◌∙◌, ap, refl, Bool, true, false, cond}
+use Rattle.std.proofs.lemmas.Bool.Decides.{Decides-eqb}
+use Rattle.std.proofs.lemmas.List.{append-nil, length-map}
+use Rattle.std.proofs.lemmas.List.Elements.{All-nil, All-cons, All-head, All-tail}
+use Rattle.std.proofs.lemmas.Slice.Eq.{starts_is}
+use Rattle.std.proofs.Math.Seq.{drop-append_seam}
+use Rattle.std.specs.Prelude.{nat_eq, nat_lt, get_or, flat_map, codes}
+use Rattle.std.specs.List.{starts_with, All}
+use Rattle.trap_model.specs.Given.{given}
+use Rattle.trap_model.specs.Machine.{Machine}
+use Rattle.trap_model.specs.Plain.{PlainState, plain_volume, reply1, step1}
+use Rattle.trap_model.specs.declared.request.Request.TheVariants as request
+use Rattle.trap_model.specs.declared.request.Refusal.TheVariants.{NoBlock}
+use Rattle.trap_model.specs.declared.request.Request.{Request}
+use Rattle.trap_model.specs.declared.request.Reply.{Reply}
+use Rattle.trap_script.specs.Lines.{goes_on}
+use Rattle.trap_model.specs.declared.request.Reply.TheVariants.{Kept, Is, At, Span, No, Silent}
+use Rattle.trap_script.specs.Replies.{reply_words, reply_text}
+use Rattle.trap_script.proofs.WalkLemmas.{length-replies, first_texts-next}
+use Rattle.trap_script.specs.Walk.{state_after, replies, reply_texts, first_texts}
+
+-- a list begins with its front
+begins : (text rest : List ℕ) → starts_with nat_eq (text ++ rest) text ≡ true
+begins text rest = (starts_is Decides-eqb (text ++ rest) text (starts_with nat_eq (text ++ rest) text) refl).1 rest refl
+
+not_true : (b : Bool) → (b ≡ true → ⊥) → b ≡ false
+not_true true other = absurd (other refl)
+not_true false other = refl
+
+-- a shorter list doesn't
+too_short : (bytes text : List ℕ) → length bytes < length text → starts_with nat_eq bytes text ≡ false
+too_short bytes text short = not_true (starts_with nat_eq bytes text) (λ whole.
+    let is = (starts_is Decides-eqb bytes text (starts_with nat_eq bytes text) refl).0 whole in
+    omega (arith, short, ap length is, length-append text (drop (length text) bytes)))
+
+-- a text that is said whole counts, and then those behind it
+pub given-said : (text : List ℕ) (texts : List (List ℕ)) (bytes : List ℕ)
+    → given (text ∷ texts) (text ++ bytes) ≡ suc (given texts bytes)
+given-said text texts bytes =
+    ap (λ b. cond b (suc (given texts (drop (length text) (text ++ bytes)))) 0) (begins text bytes)
+    ∙ ap (λ rest. suc (given texts rest)) (drop-append_seam text bytes)
+
+-- a text that isn't said whole doesn't count
+pub given-short : (text : List ℕ) (texts : List (List ℕ)) (bytes : List ℕ) → length bytes < length text
+    → given (text ∷ texts) bytes ≡ 0
+given-short text texts bytes short =
+    ap (λ b. cond b (suc (given texts (drop (length text) bytes))) 0) (too_short bytes text short)
+
+-- texts one after the other
+abbrev pub joined : List (List ℕ) → List ℕ
+joined texts = flat_map (λ text. text) texts
+
+-- of texts that are said up to the middle of one, those before it are given
+pub given-part : (texts : List (List ℕ)) (j : ℕ) (text : List ℕ) (rest : List (List ℕ)) (front : List ℕ)
+    → drop j texts ≡ text ∷ rest → length front < length text
+    → given texts (joined (take j texts) ++ front) ≡ j
+given-part [] zero text rest front at short = absurd (cc at)
+given-part [] (suc j) text rest front at short = absurd (cc at)
+given-part (first ∷ texts) zero text rest front at short =
+    let is : first ≡ text = cc in
+    given-short first texts front (omega (arith, short, ap length is))
+given-part (first ∷ texts) (suc j) text rest front at short =
+    ap (given (first ∷ texts)) (append_assoc first (joined (take j texts)) front)
+    ∙ given-said first texts (joined (take j texts) ++ front)
+    ∙ ap suc (given-part texts j text rest front at short)
+
+-- of texts none of which is empty, as many are given as are said whole
+pub given-whole : (texts : List (List ℕ)) (j : ℕ) → All (λ text. 0 < length text) texts → j ≤ length texts
+    → given texts (joined (take j texts)) ≡ j
+given-whole [] zero some short = refl
+given-whole [] (suc j) some short = absurd (omega (arith, short))
+given-whole (first ∷ texts) zero some short =
+    given-short first texts [] (All-head (λ text. 0 < length text) first texts some)
+given-whole (first ∷ texts) (suc j) some short =
+    given-said first texts (joined (take j texts))
+    ∙ ap suc (given-whole texts j (All-tail (λ text. 0 < length text) first texts some) (omega (arith, short)))
+
+-- A machine that answers every request but `Q` with a line.
+pub record AnswersByLines {S : Type 0} (m : Machine S) : Type 0 where
+  pub speaks : (s : S) (request : Request) → goes_on request ≡ true → m.reply s request ≢ Silent
+
+-- the text of a reply is empty only where there is no reply
+pub reply_text-some : (reply : Reply) → reply ≢ Silent → 0 < length (reply_text reply)
+reply_text-some (Kept seq) speaks = omega (arith, length-append (reply_words (Kept seq)) (codes "\n"))
+reply_text-some (Is bytes) speaks = omega (arith, length-append (reply_words (Is bytes)) (codes "\n"))
+reply_text-some (At bytes) speaks = omega (arith, length-append (reply_words (At bytes)) (codes "\n"))
+reply_text-some (Span first last base_time last_time) speaks =
+    omega (arith, length-append (reply_words (Span first last base_time last_time)) (codes "\n"))
+reply_text-some (No refusal) speaks = omega (arith, length-append (reply_words (No refusal)) (codes "\n"))
+reply_text-some Silent speaks = absurd (speaks refl)
+
+-- so none of its texts is empty
+pub texts_some : {S : Type 0} (m : Machine S) → AnswersByLines m → (s : S) (all : List Request)
+    → All (λ request. goes_on request ≡ true) all → All (λ text. 0 < length text) (reply_texts m s all)
+texts_some m lines s [] more = All-nil (λ text. 0 < length text)
+texts_some m lines s (x ∷ all) more =
+    All-cons (λ text. 0 < length text) (reply_text (m.reply s x)) (reply_texts m (m.next s x) all)
+    (reply_text-some (m.reply s x) (lines.speaks s x (All-head (λ request. goes_on request ≡ true) x all more)))
+    (texts_some m lines (m.next s x) all (All-tail (λ request. goes_on request ≡ true) x all more))
+
+-- the text of the next reply
+reply_texts-at : {S : Type 0} (m : Machine S) (s : S) (all : List Request) (j : ℕ) (x : Request) (rest : List Request)
+    → drop j all ≡ x ∷ rest
+    → drop j (reply_texts m s all) ≡ reply_text (m.reply (state_after m s all j) x) ∷ reply_texts m (m.next (state_after m s all j) x) rest
+reply_texts-at m s [] zero x rest at = absurd (cc at)
+reply_texts-at m s [] (suc j) x rest at = absurd (cc at)
+reply_texts-at m s (y ∷ all) zero x rest at =
+    let here : y ≡ x = cc in
+    let behind : all ≡ rest = cc in
+    ap (λ z. reply_text (m.reply s z) ∷ reply_texts m (m.next s z) all) here
+    ∙ ap (λ others. reply_text (m.reply s x) ∷ reply_texts m (m.next s x) others) behind
+reply_texts-at m s (y ∷ all) (suc j) x rest at = reply_texts-at m (m.next s y) all j x rest at
+
+-- where the first j replies are said, and not the whole of the next one, j are given
+pub given_in_reply : {S : Type 0} (m : Machine S) (s : S) (all : List Request) (j : ℕ) (x : Request) (rest : List Request) (front : List ℕ)
+    → drop j all ≡ x ∷ rest → length front < length (reply_text (m.reply (state_after m s all j) x))
+    → given (reply_texts m s all) (first_texts m s all j ++ front) ≡ j
+given_in_reply m s all j x rest front at short =
+    given-part (reply_texts m s all) j (reply_text (m.reply (state_after m s all j) x))
+    (reply_texts m (m.next (state_after m s all j) x) rest) front (reply_texts-at m s all j x rest at) short
+
+-- where the first j replies are said, and nothing more, j are given
+pub given_replies : {S : Type 0} (m : Machine S) → AnswersByLines m → (s : S) (all : List Request) (j : ℕ)
+    → All (λ request. goes_on request ≡ true) all → j ≤ length all
+    → given (reply_texts m s all) (first_texts m s all j) ≡ j
+given_replies m lines s all j more short =
+    given-whole (reply_texts m s all) j (texts_some m lines s all more)
+    (omega (arith, short, length-map (replies m s all) reply_text, length-replies m s all))
+
+-- a request that is there lies before the end
+pub below_end : (all : List Request) (j : ℕ) (x : Request) (rest : List Request) → drop j all ≡ x ∷ rest → j < length all
+below_end [] zero x rest at = absurd (cc at)
+below_end [] (suc j) x rest at = absurd (cc at)
+below_end (y ∷ all) zero x rest at = omega arith
+below_end (y ∷ all) (suc j) x rest at = omega (arith, below_end all j x rest at)
+
+-- a part of a reply is the whole of it, or shorter
+part_or_whole : (text front behind : List ℕ) → text ≡ front ++ behind → (length front < length text) ⊎ (front ≡ text)
+part_or_whole text front [] is = inr (sym (is ∙ append-nil front))
+part_or_whole text front (byte ∷ behind) is = inl (omega (arith, ap length is, length-append front (byte ∷ behind)))
+
+-- where the first j replies are said, and a part of the next one, j are given, or that one too
+pub given_or_next : {S : Type 0} (m : Machine S) → AnswersByLines m → (s : S) (all : List Request) (j : ℕ) (x : Request) (rest : List Request)
+    → (front behind : List ℕ) → All (λ request. goes_on request ≡ true) all → drop j all ≡ x ∷ rest
+    → reply_text (m.reply (state_after m s all j) x) ≡ front ++ behind
+    → (given (reply_texts m s all) (first_texts m s all j ++ front) ≡ j)
+    ⊎ (given (reply_texts m s all) (first_texts m s all j ++ front) ≡ j + 1)
+given_or_next m lines s all j x rest front behind more at is =
+    elim (part_or_whole (reply_text (m.reply (state_after m s all j) x)) front behind is)
+    as (λ _. (given (reply_texts m s all) (first_texts m s all j ++ front) ≡ j)
+    ⊎ (given (reply_texts m s all) (first_texts m s all j ++ front) ≡ j + 1)) [
+      | inl short ↦ inl (given_in_reply m s all j x rest front at short)
+      | inr whole ↦ inr (
+          ap (λ bytes. given (reply_texts m s all) (first_texts m s all j ++ bytes)) whole
+          ∙ ap (given (reply_texts m s all)) (sym (first_texts-next m s all j x rest at))
+          ∙ given_replies m lines s all (j + 1) more (omega (arith, below_end all j x rest at)))
+    ]
+
+-- the plain volume answers every request but `Q` with a line
+accepted_or_not : (b : Bool) (reply : Reply) → reply ≢ Silent → (cond b reply (No NoBlock) ≢ Silent)
+accepted_or_not true reply speaks = speaks
+accepted_or_not false reply speaks = λ silent. cc silent
+
+plain_speaks : (s : PlainState) (request : Request) → goes_on request ≡ true → reply1 s request ≢ Silent
+plain_speaks s (request.Write time block bytes) more = accepted_or_not (nat_lt block plain_volume) (Kept (s.number + 1)) (λ silent. cc silent)
+plain_speaks s (request.Read block) more = accepted_or_not (nat_lt block plain_volume) (Is (get_or s.image block [])) (λ silent. cc silent)
+plain_speaks s (request.At seq block) more = λ silent. cc silent
+plain_speaks s (request.By time block) more = λ silent. cc silent
+plain_speaks s request.Info more = λ silent. cc silent
+plain_speaks s (request.Keep seq) more = λ silent. cc silent
+plain_speaks s request.Quit more = absurd (cc more)
+plain_speaks s request.Bad more = λ silent. cc silent
+
+pub step1_answers_by_lines : AnswersByLines step1
+step1_answers_by_lines = record { speaks = plain_speaks }
