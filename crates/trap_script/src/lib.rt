@@ -5,6 +5,8 @@ mod answers;
 pub mod laws;
 mod lines;
 mod numbers;
+#[cfg(test)]
+mod tests;
 
 pub use answers::{Answer, Span4, write_answer};
 pub use lines::{Line, read_line};
