@@ -1,0 +1,79 @@
+-- Calls that only read, one after the other.
+use Rattle.std.proofs.Common.{◌≡◌, ◌≢◌, ℕ, ◌+◌, ◌<◌, ◌≤◌, List, Option, Some, IsTrue, Result, add-one, refl, sym, ap, subst, ◌∙◌, arith}
+use Rattle.trap_block.specs.Xor.{xor, xor_but}
+use Rattle.trap_block.proofs.OverLemmas.{xor_but_here, xor_but_there}
+use Rattle.trap_model.specs.declared.numbers.Geometry.{Geometry}
+use Rattle.trap_bank.specs.Disks.{Contents, View}
+use Rattle.trap_bank.specs.Calls.{Fits, Reads}
+use Rattle.trap_bank.specs.Steps.{Moves, Same}
+use Rattle.trap_bank.proofs.Moves.{read_steps, same_then, no_moves}
+use Rattle.trap_raid.specs.Members.{RowFits, PlaceFits, member_place}
+use Rattle.trap_raid.specs.Reads.{OnlyReads, HasFailed}
+
+-- one member more, read into the scratch block
+pub xor_but_more : (size one n : ℕ) (block_of : ℕ → List ℕ) → n ≢ one → xor_but size one block_of (n + 1) ≡ xor (xor_but size one block_of n) (block_of n)
+xor_but_more size one n block_of h = rw add-one (xor_but_there size one n block_of h)
+
+-- ---- runs
+pub only_reads_one : {T E : Type 0} (result : Result T E) (old new : View) (d at : ℕ) (before after : List ℕ) → Reads d at before after result old new → OnlyReads old new
+only_reads_one result old new d at before after call = record {
+  same = call.same;
+  sizes = call.sizes;
+  moves = read_steps result old new d at before after call;
+}
+
+pub only_reads_none : (v : View) → OnlyReads v v
+only_reads_none v = record { same = λ told. refl; sizes = λ e. refl; moves = no_moves v Same Same (λ x was. refl) }
+
+pub only_reads_then : (a b c : View) → OnlyReads a b → OnlyReads b c → OnlyReads a c
+only_reads_then a b c first second = record {
+  same = λ told. second.same (subst IsTrue (sym first.moves.tells) told) ∙ first.same told;
+  sizes = λ e. second.sizes e ∙ first.sizes e;
+  moves = same_then a b c first.moves second.moves;
+}
+
+-- it tells as it did
+pub still_tells : (old new : View) → OnlyReads old new → IsTrue old.tells → IsTrue new.tells
+still_tells old new reads told = subst IsTrue (sym reads.moves.tells) told
+
+-- ---- the disks fit as they did
+pub row_fits_along : (g : Geometry) (old new : View) (row member : ℕ) → OnlyReads old new → RowFits g old row member → RowFits g new row member
+row_fits_along g old new row member reads fits = (fits.0, reads.sizes (member + 1) ∙ fits.1, fits.2)
+
+pub place_fits_along : (g : Geometry) (lost : Option ℕ) (old new : View) (row member : ℕ) → OnlyReads old new → PlaceFits g lost old row member → PlaceFits g lost new row member
+place_fits_along g lost old new row member reads fits = record {
+  own = λ apart. row_fits_along g old new row member reads (fits.own apart);
+  others = λ gone m inside other. row_fits_along g old new row m reads (fits.others gone m inside other);
+}
+
+-- ---- a failure of a part is one of the whole
+pub failed_after : (g : Geometry) (lost : Option ℕ) (a b c : View) (member : ℕ) → OnlyReads a b → HasFailed g lost b c member → HasFailed g lost a c member
+failed_after g lost a b c member reads failed = record {
+  inside = failed.inside;
+  apart = failed.apart;
+  rose = omega (arith, failed.rose, reads.moves.faults (member + 1));
+}
+
+-- ---- one member more of a row
+pub others_more : (g : Geometry) (old mid : View) (row one member : ℕ) (so_far block next : List ℕ) → OnlyReads old mid → member ≢ one
+    → (IsTrue old.tells → so_far ≡ xor_but g.block one (member_place g old.now.disks row) member)
+    → (IsTrue mid.tells → block ≡ member_place g mid.now.disks row member)
+    → next ≡ xor so_far block
+    → IsTrue old.tells → next ≡ xor_but g.block one (member_place g old.now.disks row) (member + 1)
+others_more g old mid row one member so_far block next reads other before read is_next told =
+    let here : block ≡ member_place g old.now.disks row member = read (still_tells old mid reads told) ∙ ap (λ (c : Contents). member_place g c.disks row member) (reads.same told) in
+    is_next
+    ∙ ap (λ (b : List ℕ). xor b block) (before told)
+    ∙ ap (λ (b : List ℕ). xor (xor_but g.block one (member_place g old.now.disks row) member) b) here
+    ∙ sym (xor_but_more g.block one member (member_place g old.now.disks row) other)
+
+-- the row's own member is left out
+pub others_but : (size one n : ℕ) (block_of : ℕ → List ℕ) → n ≡ one → xor_but size one block_of (n + 1) ≡ xor_but size one block_of n
+others_but size one n block_of e = rw add-one (xor_but_here size one n block_of e)
+
+-- the same place by other names
+pub place_fits_at : (g : Geometry) (lost : Option ℕ) (v : View) (row member row' member' : ℕ) → row ≡ row' → member ≡ member' → PlaceFits g lost v row member → PlaceFits g lost v row' member'
+place_fits_at g lost v row member row' member' e f fits =
+    let P : ℕ → Type 0 = λ r. PlaceFits g lost v r member' in
+    let Q : ℕ → Type 0 = λ m. PlaceFits g lost v row m in
+    subst P e (subst Q f fits)

@@ -1,0 +1,44 @@
+-- The table's places from the members that are not lost, and the plan of a write.
+use Rattle.std.proofs.Common.{◌≡◌, ◌≢◌, ℕ, ◌<◌, List, [], length, get_or, set, Option, Some, ap, sym, subst, ◌∙◌}
+use Rattle.trap_block.specs.Xor.{xor, xor_but}
+use Rattle.trap_block.proofs.OverLemmas.{xor_but_same}
+use Rattle.trap_model.specs.declared.numbers.Geometry.{Geometry}
+use Rattle.trap_map.specs.declared.places.Place.{Place}
+use Rattle.trap_map.specs.Layout.{volume, parity_member, block_place}
+use Rattle.trap_map.specs.Table.{IsImage, row_parity, table}
+use Rattle.trap_map.proofs.TableLemmas.{table_at_block, table_at_parity, table_from_others, parity_after_write}
+use Rattle.trap_bank.specs.Disks.{Contents}
+use Rattle.trap_raid.specs.Members.{StandFor, MembersHold}
+use Rattle.trap_raid.specs.Plan.{IsPlan}
+
+-- the others' places give the lost member's place
+pub others_stand : (g : Geometry) (lost : Option ℕ) (place : ℕ → ℕ → List ℕ) (image : List (List ℕ)) → IsImage g image → StandFor g lost place image → (row member : ℕ) → row < g.rows → member < g.members → lost ≡ Some member → xor_but g.block member (place row) g.members ≡ table g image row member
+others_stand g lost place image is_image stands row member below inside gone =
+    xor_but_same g.block member g.members (place row) (table g image row)
+    (λ m less apart. stands row m below less (λ e. apart (same_lost lost m member e gone)))
+    ∙ sym (table_from_others g image is_image row member below inside)
+  where
+    same_lost : (lost : Option ℕ) (m n : ℕ) → lost ≡ Some m → lost ≡ Some n → m ≡ n
+    same_lost lost m n e f = cc
+
+-- the table at a block's place
+pub table_at_place : (g : Geometry) (image : List (List ℕ)) (place : Place) (block : ℕ) → place ≡ block_place g block → table g image place.row place.member ≡ get_or image block []
+table_at_place g image place block e =
+    ap (λ p. table g image p.row p.member) e ∙ table_at_block g image block
+
+-- the plan, from what its two reads gave
+pub plan_from_reads : (g : Geometry) (image : List (List ℕ)) (block : ℕ) (place : Place) (member : ℕ) (fresh first second delta parity : List ℕ) → IsImage g image → block < volume g → length fresh ≡ g.block → place ≡ block_place g block → member ≡ parity_member g place.row → first ≡ table g image place.row place.member → delta ≡ xor first fresh → second ≡ table g image place.row member → parity ≡ xor second delta → IsPlan g image block fresh delta parity
+plan_from_reads g image block place member fresh first second delta parity is_image below size is_place is_member is_first is_delta is_second is_parity =
+    let at_row : row_parity g image place.row ≡ row_parity g image (block_place g block).row = ap (λ p. row_parity g image p.row) is_place in
+    let old : delta ≡ xor (get_or image block []) fresh = is_delta ∙ ap (λ b. xor b fresh) (is_first ∙ table_at_place g image place block is_place) in
+    record {
+      write_parity = old;
+      row_parity_after =
+          is_parity ∙ ap (λ b. xor b delta) (is_second ∙ table_at_parity g image place.row member is_member ∙ at_row)
+          ∙ ap (λ b. xor (row_parity g image (block_place g block).row) b) old
+          ∙ sym (parity_after_write g image is_image block below fresh size);
+    }
+
+-- disks that were only read hold what they held
+pub hold_along : (g : Geometry) (lost : Option ℕ) (old new : Contents) (image : List (List ℕ)) → new ≡ old → MembersHold g old.disks lost image → MembersHold g new.disks lost image
+hold_along g lost old new image same holds = subst (λ (c : Contents). MembersHold g c.disks lost image) (sym same) holds

@@ -1,0 +1,4 @@
+pub mod Condition
+pub mod Members
+pub mod Reads
+pub mod Plan

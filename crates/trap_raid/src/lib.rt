@@ -1,0 +1,8 @@
+//! Reads and small writes over the members of an array, of which one may be lost.
+#![tactic(auto)]
+
+mod raid;
+mod reads;
+
+pub use raid::Raid;
+pub use reads::MemberFailed;

@@ -1,0 +1,77 @@
+//! What stands at a place, from the members' disks.
+
+ghost use Rattle.std.specs.Prelude.{◌≡◌, ◌≢◌, ℕ, ◌<◌, Option, Some, None, length, IsTrue, OnOk, IfErr};
+ghost use Rattle.trap_block.specs.Xor.{xor_but};
+ghost use Rattle.trap_raid.specs.Members.{IsPlace, RowFits, member_place};
+ghost use Rattle.trap_raid.specs.Reads.{OnlyReads, HasFailed};
+
+use trap_bank::{Bank, Failed};
+use trap_block::xor_into;
+use trap_map::Place;
+use trap_model::Geometry;
+
+/// A member failed in the call: the count of faults of its disk rose.
+#[derive(Debug, Clone, Copy, PartialEq, Eq)]
+pub struct MemberFailed {
+    /// The member, whose disk has the next number.
+    pub member: u8,
+}
+
+/// Reads the bytes of a place from its member.
+pub(crate) fn read_member<B: Bank>(
+    g: &Geometry,
+    bank: &mut B,
+    place: Place,
+    into: &mut [u8],
+) -> Result<(), MemberFailed>
+    requires place { IsPlace g.now place }
+    requires disk { RowFits g.now (B.view bank.old) place.row place.member }
+    requires into { length into.old ≡ g.now.block }
+    ensures bytes { IsTrue (B.view bank.old).tells → OnOk result
+        (into.new ≡ member_place g.now (B.view bank.old).now.disks place.row place.member) }
+    ensures cause { IfErr result (λ failed. (failed.member ≡ place.member)
+        × HasFailed g.now None (B.view bank.old) (B.view bank.new) failed.member) }
+    ensures any_moment { OnlyReads (B.view bank.old) (B.view bank.new) }
+{
+    let at = 16 + u64::from(place.row) * u64::from(g.block);
+    match bank.read(place.member + 1, at, into) {
+        Ok(()) => Ok(()),
+        Err(Failed) => Err(MemberFailed {
+            member: place.member,
+        }),
+    }
+}
+
+/// The exclusive-or of the other members' places of the row.
+#[tactic(auto, using(crate::proofs::ReadLemmas::xor_but_more))]
+pub(crate) fn read_others<B: Bank>(
+    g: &Geometry,
+    bank: &mut B,
+    place: Place,
+    into: &mut [u8],
+    scratch: &mut [u8],
+) -> Result<(), MemberFailed>
+    requires place { IsPlace g.now place }
+    requires disks { (m : ℕ) → m < g.now.members → m ≢ place.member
+        → RowFits g.now (B.view bank.old) place.row m }
+    requires into { length into.old ≡ g.now.block }
+    requires scratch { length scratch.old ≡ g.now.block }
+    ensures others { IsTrue (B.view bank.old).tells → OnOk result (into.new ≡ xor_but g.now.block
+        place.member (member_place g.now (B.view bank.old).now.disks place.row) g.now.members) }
+    ensures cause { IfErr result (λ failed.
+        HasFailed g.now (Some place.member) (B.view bank.old) (B.view bank.new) failed.member) }
+    ensures any_moment { OnlyReads (B.view bank.old) (B.view bank.new) }
+{
+    into.fill(0);
+    for member in 0..g.members {
+        if member != place.member {
+            let other = Place {
+                member,
+                row: place.row,
+            };
+            read_member(g, bank, other, scratch)?;
+            xor_into(into, scratch);
+        }
+    }
+    Ok(())
+}
