@@ -1,2 +1,4 @@
 pub mod ReadLemmas
 pub mod TableLemmas
+pub mod CostLemmas
+pub mod FitLemmas

@@ -6,6 +6,7 @@ use Rattle.trap_model.specs.declared.numbers.Geometry.{Geometry}
 use Rattle.trap_map.specs.declared.places.Place.{Place}
 use Rattle.trap_map.specs.Layout.{volume, parity_member, block_place}
 use Rattle.trap_map.specs.Table.{IsImage, row_parity, table}
+use Rattle.trap_map.proofs.PlaceLemmas.{block_is_not_parity}
 use Rattle.trap_map.proofs.TableLemmas.{table_at_block, table_at_parity, table_from_others, parity_after_write}
 use Rattle.trap_bank.specs.Disks.{Contents}
 use Rattle.trap_raid.specs.Members.{StandFor, MembersHold}
@@ -25,6 +26,12 @@ others_stand g lost place image is_image stands row member below inside gone =
 pub table_at_place : (g : Geometry) (image : List (List ℕ)) (place : Place) (block : ℕ) → place ≡ block_place g block → table g image place.row place.member ≡ get_or image block []
 table_at_place g image place block e =
     ap (λ p. table g image p.row p.member) e ∙ table_at_block g image block
+
+-- the block's member is not the one with the row's parity
+pub members_apart : (g : Geometry) (block : ℕ) (place : Place) (member : ℕ) → place ≡ block_place g block → member ≡ parity_member g place.row → place.member ≢ member
+members_apart g block place member is_place is_member same =
+    block_is_not_parity g block
+    (ap (λ (p : Place). p.member) (sym is_place) ∙ same ∙ is_member ∙ ap (λ (p : Place). parity_member g p.row) is_place)
 
 -- the plan, from what its two reads gave
 pub plan_from_reads : (g : Geometry) (image : List (List ℕ)) (block : ℕ) (place : Place) (member : ℕ) (fresh first second delta parity : List ℕ) → IsImage g image → block < volume g → length fresh ≡ g.block → place ≡ block_place g block → member ≡ parity_member g place.row → first ≡ table g image place.row place.member → delta ≡ xor first fresh → second ≡ table g image place.row member → parity ≡ xor second delta → IsPlan g image block fresh delta parity

@@ -4,6 +4,7 @@ use Rattle.trap_model.specs.declared.numbers.Geometry.{Geometry}
 use Rattle.trap_bank.specs.Disks.{Disks, View, region, size_of}
 use Rattle.trap_bank.specs.Calls.{Fits}
 use Rattle.trap_map.specs.declared.places.Place.{Place}
+use Rattle.trap_map.specs.Layout.{parity_member, block_place}
 use Rattle.trap_map.specs.Table.{IsImage, table}
 
 -- where a row begins on a member's disk, behind the header
@@ -27,6 +28,15 @@ RowFits g v row member = Fits v (member + 1) (row_offset g row + g.block)
 pub record PlaceFits (g : Geometry) (lost : Option ℕ) (v : View) (row member : ℕ) : Type 0 where
   pub own : lost ≢ Some member → RowFits g v row member
   pub others : lost ≡ Some member → (m : ℕ) → m < g.members → m ≢ member → RowFits g v row m
+
+-- so do those for a block's place and for the parity of its row
+pub record BlockFits (g : Geometry) (lost : Option ℕ) (v : View) (block : ℕ) : Type 0 where
+  pub place : PlaceFits g lost v (block_place g block).row (block_place g block).member
+  pub parity : PlaceFits g lost v (block_place g block).row (parity_member g (block_place g block).row)
+
+-- the disk of each member but the lost one is there and has all rows
+abbrev pub MembersFit : Geometry → Option ℕ → View → Type 0
+MembersFit g lost v = (member : ℕ) → member < g.members → lost ≢ Some member → Fits v (member + 1) (row_offset g g.rows)
 
 -- places that are the table's, but perhaps for those of the lost member
 abbrev pub StandFor : Geometry → Option ℕ → (ℕ → ℕ → List ℕ) → List (List ℕ) → Type 0

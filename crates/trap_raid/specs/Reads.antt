@@ -1,5 +1,5 @@
 -- What a call does that only reads members.
-use Rattle.std.specs.Prelude.{◌≡◌, ◌≢◌, ℕ, ◌+◌, ◌<◌, Option, Some, IsTrue}
+use Rattle.std.specs.Prelude.{◌≡◌, ◌≢◌, ℕ, ◌+◌, ◌-◌, ◌^◌, ◌<◌, ◌≤◌, min, max, Option, Some, None, Result, OnOk, IsTrue}
 use Rattle.trap_model.specs.declared.numbers.Geometry.{Geometry}
 use Rattle.trap_bank.specs.Disks.{View}
 use Rattle.trap_bank.specs.Faults.{Rose}
@@ -16,3 +16,28 @@ pub record HasFailed (g : Geometry) (lost : Option ℕ) (old new : View) (member
   pub inside : member < g.members
   pub apart : lost ≢ Some member
   pub rose : Rose (old.faults (member + 1)) (new.faults (member + 1))
+
+-- the moment after so many calls of a bank that counts each of them, up to the end of 64 bits
+abbrev pub moment_after : ℕ → ℕ → ℕ
+moment_after calls moment = max moment (min (moment + calls) (2 ^ 64 - 1))
+
+-- the bank was called exactly so often
+pub record Costs (calls : ℕ) (old new : View) : Type 0 where
+  pub way : new.by_one ≡ old.by_one
+  pub moment : IsTrue old.tells → IsTrue old.by_one → new.moment ≡ moment_after calls old.moment
+
+-- the bank was called at most so often
+pub record CostsAtMost (calls : ℕ) (old new : View) : Type 0 where
+  pub way : new.by_one ≡ old.by_one
+  pub moment : IsTrue old.tells → IsTrue old.by_one → new.moment ≤ moment_after calls old.moment
+
+-- a read of a place takes one call, or where its member is lost, one for each other member
+pub record ReadCosts {T E : Type 0} (g : Geometry) (lost : Option ℕ) (member : ℕ) (result : Result T E) (old new : View) : Type 0 where
+  pub own : lost ≢ Some member → Costs 1 old new
+  pub others : lost ≡ Some member → OnOk result (Costs (g.members - 1) old new)
+  pub most : CostsAtMost (g.members - 1) old new
+
+-- the plan of a write takes two calls where no member is lost, and never more than there are members
+pub record PlanCosts {T E : Type 0} (g : Geometry) (lost : Option ℕ) (result : Result T E) (old new : View) : Type 0 where
+  pub whole : lost ≡ None → OnOk result (Costs 2 old new)
+  pub most : CostsAtMost g.members old new

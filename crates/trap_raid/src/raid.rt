@@ -2,11 +2,11 @@
 
 ghost use Rattle.std.specs.Prelude.{◌≡◌, ◌<◌, ℕ, List, Option, Some, None, length, IsTrue, OnOk, IfErr};
 ghost use Rattle.std.specs.Option.{ForSome};
-ghost use Rattle.trap_map.specs.Layout.{volume, parity_member, block_place};
+ghost use Rattle.trap_map.specs.Layout.{volume};
 ghost use Rattle.trap_map.specs.Table.{table};
-ghost use Rattle.trap_raid.specs.Members.{IsPlace, PlaceFits, MembersHold};
-ghost use Rattle.trap_raid.specs.Reads.{OnlyReads, HasFailed};
-ghost use Rattle.trap_raid.specs.Plan.{IsPlan};
+ghost use Rattle.trap_raid.specs.Members.{IsPlace, PlaceFits, BlockFits, MembersHold};
+ghost use Rattle.trap_raid.specs.Reads.{OnlyReads, HasFailed, ReadCosts, PlanCosts};
+ghost use Rattle.trap_raid.specs.Plan.{AreBlocks, IsPlan};
 
 use crate::MemberFailed;
 use crate::reads::{read_member, read_others};
@@ -89,6 +89,7 @@ impl Raid {
             → OnOk result (into.new ≡ table self.now.g image place.row place.member) }
         ensures cause { IfErr result (λ failed.
             HasFailed self.now.g self.now.lost (B.view bank.old) (B.view bank.new) failed.member) }
+        ensures cost { ReadCosts self.now.g self.now.lost place.member result (B.view bank.old) (B.view bank.new) }
 
         // Stopped at any moment, the disks are as they were.
         ensures any_moment { OnlyReads (B.view bank.old) (B.view bank.new) }
@@ -113,19 +114,14 @@ impl Raid {
         scratch: &mut [u8],
     ) -> Result<(), MemberFailed>
         requires block { block < volume self.now.g }
-        requires block_disks { let place = block_place self.now.g block in
-            PlaceFits self.now.g self.now.lost (B.view bank.old) place.row place.member }
-        requires parity_disks { let row = (block_place self.now.g block).row in
-            PlaceFits self.now.g self.now.lost (B.view bank.old) row (parity_member self.now.g row) }
-        requires fresh { length fresh.now ≡ self.now.g.block }
-        requires delta { length delta.old ≡ self.now.g.block }
-        requires parity { length parity.old ≡ self.now.g.block }
-        requires scratch { length scratch.old ≡ self.now.g.block }
+        requires disks { BlockFits self.now.g self.now.lost (B.view bank.old) block }
+        requires blocks { AreBlocks self.now.g fresh.now delta.old parity.old scratch.old }
         ensures plan { IsTrue (B.view bank.old).tells → (image : List (List ℕ))
             → MembersHold self.now.g (B.view bank.old).now.disks self.now.lost image
             → OnOk result (IsPlan self.now.g image block fresh.now delta.new parity.new) }
         ensures cause { IfErr result (λ failed.
             HasFailed self.now.g self.now.lost (B.view bank.old) (B.view bank.new) failed.member) }
+        ensures cost { PlanCosts self.now.g self.now.lost result (B.view bank.old) (B.view bank.new) }
 
         // Stopped at any moment, the disks are as they were.
         ensures any_moment { OnlyReads (B.view bank.old) (B.view bank.new) }

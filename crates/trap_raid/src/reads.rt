@@ -1,9 +1,9 @@
 //! What stands at a place, from the members' disks.
 
-ghost use Rattle.std.specs.Prelude.{◌≡◌, ◌≢◌, ℕ, ◌<◌, Option, Some, None, length, IsTrue, OnOk, IfErr};
+ghost use Rattle.std.specs.Prelude.{◌≡◌, ◌≢◌, ℕ, ◌-◌, ◌<◌, Option, Some, None, length, IsTrue, OnOk, IfErr};
 ghost use Rattle.trap_block.specs.Xor.{xor_but};
 ghost use Rattle.trap_raid.specs.Members.{IsPlace, RowFits, member_place};
-ghost use Rattle.trap_raid.specs.Reads.{OnlyReads, HasFailed};
+ghost use Rattle.trap_raid.specs.Reads.{OnlyReads, HasFailed, Costs, CostsAtMost};
 
 use trap_bank::{Bank, Failed};
 use trap_block::xor_into;
@@ -31,6 +31,7 @@ pub(crate) fn read_member<B: Bank>(
         (into.new ≡ member_place g.now (B.view bank.old).now.disks place.row place.member) }
     ensures cause { IfErr result (λ failed. (failed.member ≡ place.member)
         × HasFailed g.now None (B.view bank.old) (B.view bank.new) failed.member) }
+    ensures cost { Costs 1 (B.view bank.old) (B.view bank.new) }
     ensures any_moment { OnlyReads (B.view bank.old) (B.view bank.new) }
 {
     let at = 16 + u64::from(place.row) * u64::from(g.block);
@@ -60,6 +61,8 @@ pub(crate) fn read_others<B: Bank>(
         place.member (member_place g.now (B.view bank.old).now.disks place.row) g.now.members) }
     ensures cause { IfErr result (λ failed.
         HasFailed g.now (Some place.member) (B.view bank.old) (B.view bank.new) failed.member) }
+    ensures cost { OnOk result (Costs (g.now.members - 1) (B.view bank.old) (B.view bank.new)) }
+    ensures cost_at_most { CostsAtMost (g.now.members - 1) (B.view bank.old) (B.view bank.new) }
     ensures any_moment { OnlyReads (B.view bank.old) (B.view bank.new) }
 {
     into.fill(0);

@@ -1,9 +1,10 @@
-use Rattle.std.proofs.Common.{◌≡◌, ◌<◌, ℕ, List, IsTrue, length, ap, sym, subst, ◌∙◌}
+use Rattle.std.proofs.Common.{Ok, ◌≡◌, ◌<◌, ℕ, List, IsTrue, length, ap, sym, subst, ◌∙◌}
 use Rattle.trap_map.specs.declared.places.Place.{Place}
 use Rattle.trap_map.specs.Layout.{parity_member, block_place}
 use Rattle.trap_raid.specs.Condition.{Condition}
 use Rattle.trap_raid.proofs.ReadLemmas.{only_reads_then, still_tells, place_fits_along, place_fits_at, failed_after}
-use Rattle.trap_raid.proofs.TableLemmas.{hold_along, plan_from_reads}
+use Rattle.trap_raid.proofs.TableLemmas.{hold_along, members_apart, plan_from_reads}
+use Rattle.trap_raid.proofs.CostLemmas.{plan_costs}
 use Rattle.trap_raid.proofs.raid.Raid.write_plan.Goals as goal
 
 -- the row's parity is read where the block's place was found
@@ -17,7 +18,7 @@ read_place-requires-2-clause-disks g c =
     place_fits_along c.args.self.now.g c.args.self.now.lost (g.B.Bank.view c.args.bank.now) (g.B.Bank.view c.read_place.new.bank) c.place_of-place.result.row c.parity_of.result
     c.read_place.ensures.any_moment
     (place_fits_at c.args.self.now.g c.args.self.now.lost (g.B.Bank.view c.args.bank.now) (block_place c.args.self.now.g c.args.block).row (parity_member c.args.self.now.g (block_place c.args.self.now.g c.args.block).row)
-    c.place_of-place.result.row c.parity_of.result (sym is_row) (sym is_member) c.requires.parity_disks)
+    c.place_of-place.result.row c.parity_of.result (sym is_row) (sym is_member) c.requires.disks.parity)
 
 pub returns-in_err-read_place-2-clause-any_moment : goal.returns-in_err-read_place-2-clause-any_moment
 returns-in_err-read_place-2-clause-any_moment g c = only_reads_then _ _ _ c.read_place.ensures.any_moment c.read_place-2.ensures.any_moment
@@ -37,6 +38,22 @@ returns-clause-plan g c = λ told image holds.
     let again = hold_along c.args.self.now.g c.args.self.now.lost old.now mid.now image (c.read_place.ensures.any_moment.same told) holds in
     plan_from_reads c.args.self.now.g image c.args.block c.place_of-place.result c.parity_of.result c.args.fresh.now
     c.read_place.new.into c.read_place-2.new.into c.xor_into.new.dst c.xor_into-2.new.dst
-    holds.image_ c.requires.block c.requires.fresh is_place is_member
+    holds.image_ c.requires.block c.requires.blocks.fresh_size is_place is_member
     (c.in_ok-read_place.ensures.table told image holds) c.xor_into.ensures
     (c.in_ok-read_place-2.ensures.table (still_tells old mid c.read_place.ensures.any_moment told) image again) c.xor_into-2.ensures
+
+pub returns-in_err-read_place-2-clause-cost : goal.returns-in_err-read_place-2-clause-cost
+returns-in_err-read_place-2-clause-cost g c =
+    plan_costs c.args.self.now.g c.args.self.now.lost c.place_of-place.result.member c.parity_of.result
+    c.read_place.result c.read_place-2.result c.from_residual-in_err-read_place-2.result
+    (g.B.Bank.view c.args.bank.now) (g.B.Bank.view c.read_place.new.bank) (g.B.Bank.view c.read_place-2.new.bank)
+    (members_apart c.self.inside.g c.args.block c.place_of-place.result c.parity_of.result c.place_of-place.ensures.place c.parity_of.ensures.parity)
+    c.read_place.ensures.any_moment c.read_place.ensures.cost c.read_place-2.ensures.cost
+
+pub returns-clause-cost : goal.returns-clause-cost
+returns-clause-cost g c =
+    plan_costs c.args.self.now.g c.args.self.now.lost c.place_of-place.result.member c.parity_of.result
+    c.read_place.result c.read_place-2.result (Ok tt)
+    (g.B.Bank.view c.args.bank.now) (g.B.Bank.view c.read_place.new.bank) (g.B.Bank.view c.read_place-2.new.bank)
+    (members_apart c.self.inside.g c.args.block c.place_of-place.result c.parity_of.result c.place_of-place.ensures.place c.parity_of.ensures.parity)
+    c.read_place.ensures.any_moment c.read_place.ensures.cost c.read_place-2.ensures.cost
