@@ -1,0 +1,6 @@
+pub mod Gates
+pub mod Keeping
+pub mod Putting
+pub mod Beginning
+pub mod Mounting
+pub mod Beside

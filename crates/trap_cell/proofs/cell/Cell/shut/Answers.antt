@@ -1,0 +1,12 @@
+use Rattle.std.proofs.Common.{sym, ◌∙◌}
+use Rattle.trap_cell.proofs.Putting.{shut_torn, shut_done, shut_before, shuts_keep}
+use Rattle.trap_cell.proofs.cell.Cell.shut.Goals as goal
+
+pub returns-in_err-write_through-clause-any_moment : goal.returns-in_err-write_through-clause-any_moment
+returns-in_err-write_through-clause-any_moment g c = shut_torn _ _ _ _ _ (sym c.is_other_open-is_open.ensures ∙ c.if-is_open.true) c.requires.stands c.disk-disk.ensures.is c.other_start-start.ensures.is c.write_through.ensures.any_moment
+
+pub returns-in_ok-write_through-clause-any_moment : goal.returns-in_ok-write_through-clause-any_moment
+returns-in_ok-write_through-clause-any_moment g c = shut_torn _ _ _ _ _ (sym c.is_other_open-is_open.ensures ∙ c.if-is_open.true) c.requires.stands c.disk-disk.ensures.is c.other_start-start.ensures.is c.write_through.ensures.any_moment
+
+pub returns-in_ok-write_through-clause-ok : goal.returns-in_ok-write_through-clause-ok
+returns-in_ok-write_through-clause-ok g c = shut_done _ _ _ _ _ (sym c.is_other_open-is_open.ensures ∙ c.if-is_open.true) c.requires.stands c.disk-disk.ensures.is c.other_start-start.ensures.is c.in_ok-write_through.ensures.ok

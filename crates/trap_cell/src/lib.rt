@@ -1,0 +1,9 @@
+//! The gated cell: a value in two slots, changed by writing the slot that isn't current and then its gate byte.
+#![tactic(auto)]
+
+mod cell;
+mod fault;
+mod heads;
+
+pub use cell::Cell;
+pub use fault::CellFault;
