@@ -8,3 +8,6 @@ mod writer;
 
 pub use reader::{check, decode, BadCode};
 pub use writer::code;
+
+#[cfg(test)]
+mod tests;
