@@ -49,7 +49,7 @@ zeros-between block at start from run =
     let count = length-replicate {A = ℕ} (start - at) 0 in
     ext_get_or 0 (slice_range block at start) (replicate (start - at) 0) (omega arith)
     (λ (k : ℕ) (below : k < length (slice_range block at start)).
-        get_or-between block at start k 0 (omega arith) ∙ run.zeros k (omega arith) ∙ sym (get_or-replicate {A = ℕ} (start - at) k 0 0 (omega arith)))
+    get_or-between block at start k 0 (omega arith) ∙ run.zeros k (omega arith) ∙ sym (get_or-replicate {A = ℕ} (start - at) k 0 0 (omega arith)))
 
 -- a front of a list and the bytes behind it
 pub front-more : (block : List ℕ) (at start : ℕ) → at ≤ start → take at block ++ slice_range block at start ≡ take start block
@@ -78,10 +78,10 @@ coded-follows block bytes at start stop some found coded =
     (λ (more : start < length block). inl (record {
       zeros = ⊎_elim
           (λ (few : start - at < coded.least).
-              let nonzero = found.end more in
-              let same : at + (start - at) ≡ start = omega arith in
-              let here : get_or block start 0 ≡ 0 = subst (λ (i : ℕ). get_or block i 0 ≡ 0) same (coded.zeros (start - at) few) in
-              absurd (omega arith))
+          let nonzero = found.end more in
+          let same : at + (start - at) ≡ start = omega arith in
+          let here : get_or block start 0 ≡ 0 = subst (λ (i : ℕ). get_or block i 0 ≡ 0) same (coded.zeros (start - at) few) in
+          absurd (omega arith))
           (λ (enough : coded.least ≤ start - at). enough)
           (cases_lt (start - at) coded.least);
       literal = found.literal more;

@@ -33,11 +33,10 @@ read-more bytes least owed at s inside next =
     let lens : length (drop at bytes) ≡ length (spelling s ++ behind) = ap length next.spelled in
     let left = length-drop at bytes in
     let parts = length-append (spelling s) behind in
-    let front = length-spelling s in
-    (
+    let front = length-spelling s in (
       omega arith,
       ap (λ (l : List ℕ). take at bytes ++ l) (sym (take_at (spelling s) behind (4 + length s.literal) front) ∙ ap (λ (l : List ℕ). take (4 + length s.literal) l) (sym next.spelled))
-      ∙ sym (take-add at (4 + length s.literal) bytes),
+          ∙ sym (take-add at (4 + length s.literal) bytes),
     )
 
 pub decoded-more : (old out bytes : List ℕ) (least filled at end : ℕ) (s : Segment) → IsDecoded old bytes least filled at
@@ -50,7 +49,7 @@ decoded-more old out bytes least filled at end s decoded next same place front =
     let within = Follows_within least (length old - filled) s next.rules in
     let len = length-take-le filled old room in
     let more = begun-more (length old) least (take filled old) (take at bytes) s decoded.begun
-        (subst (λ (n : ℕ). Follows least (length old - n) s) (sym len) next.rules) in
+    (subst (λ (n : ℕ). Follows least (length old - n) s) (sym len) next.rules) in
     record {
       inside = read.0;
       room = omega arith;
@@ -71,7 +70,7 @@ checked-more size bytes least filled at end s checked next place =
     let parts = length-append checked.front (contents s) in
     let more_len = length-contents s in
     let more = begun-more size least checked.front (take at bytes) s checked.begun
-        (subst (λ (n : ℕ). Follows least (size - n) s) (sym len) next.rules) in
+    (subst (λ (n : ℕ). Follows least (size - n) s) (sym len) next.rules) in
     record {
       inside = read.0;
       room = omega arith;
@@ -131,7 +130,7 @@ pub decoded_done : (out bytes : List ℕ) (least filled at : ℕ) → IsDecoded 
 decoded_done out bytes least filled at decoded whole read =
     begun_all (length out) least out bytes
     (subst (λ (l : List ℕ). Begun (length out) least l bytes) (take_all filled out whole)
-      (subst (λ (l : List ℕ). Begun (length out) least (take filled out) l) (take_all at bytes read) decoded.begun))
+    (subst (λ (l : List ℕ). Begun (length out) least (take filled out) l) (take_all at bytes read) decoded.begun))
     refl
 
 pub checked_done : (size : ℕ) (bytes : List ℕ) (least filled at : ℕ) → IsChecked size bytes least filled at → size ≤ filled → length bytes ≤ at → IsCode size bytes

@@ -31,11 +31,11 @@ apart-more bytes at end gap apart run few stop = record {
   none = λ place from below four. ⊎_elim
       (λ (before : place < end). apart.none place from before four)
       (λ (behind : end ≤ place).
-          let inside = four.inside in
-          let nonzero = stop (omega arith) in
-          let at : place + (end + gap - place) ≡ end + gap = omega arith in
-          let here : get_or bytes (end + gap) 0 ≡ 0 = subst (λ (i : ℕ). get_or bytes i 0 ≡ 0) at (four.zeros (end + gap - place) (omega arith)) in
-          absurd (omega arith))
+      let inside = four.inside in
+      let nonzero = stop (omega arith) in
+      let at : place + (end + gap - place) ≡ end + gap = omega arith in
+      let here : get_or bytes (end + gap) 0 ≡ 0 = subst (λ (i : ℕ). get_or bytes i 0 ≡ 0) at (four.zeros (end + gap - place) (omega arith)) in
+      absurd (omega arith))
       (cases_lt place end);
 }
 
@@ -64,12 +64,12 @@ pub zeros-behind : (block : List ℕ) (stop end : ℕ) → end ≤ stop → AreZ
 zeros-behind block stop end order run found within k below = ⊎_elim
     (λ (before : end + k < stop). run.zeros k (omega arith))
     (λ (behind : stop ≤ end + k). ⊎_elim
-        (λ (inside : stop < length block).
-            let four = found inside in
-            let at : stop + (end + k - stop) ≡ end + k = omega arith in
-            subst (λ (i : ℕ). get_or block i 0 ≡ 0) at (four.zeros (end + k - stop) (omega arith)))
-        (λ (past : length block ≤ stop). get_or_past block (end + k) 0 (omega arith))
-        (cases_lt stop (length block)))
+    (λ (inside : stop < length block).
+    let four = found inside in
+    let at : stop + (end + k - stop) ≡ end + k = omega arith in
+    subst (λ (i : ℕ). get_or block i 0 ≡ 0) at (four.zeros (end + k - stop) (omega arith)))
+    (λ (past : length block ≤ stop). get_or_past block (end + k) 0 (omega arith))
+    (cases_lt stop (length block)))
     (cases_lt (end + k) stop)
 
 -- where four zero bytes stand nowhere, nonzero ends make a literal, and a literal has them nowhere

@@ -6,7 +6,7 @@ mod reader;
 mod scans;
 mod writer;
 
-pub use reader::{check, decode, BadCode};
+pub use reader::{BadCode, check, decode};
 pub use writer::code;
 
 #[cfg(test)]

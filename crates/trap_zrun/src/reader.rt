@@ -66,12 +66,7 @@ pub struct BadCode {
 }
 
 // The segment at a place, where one follows.
-fn segment_at(
-    bytes: &[u8],
-    at: usize,
-    least: usize,
-    owed: usize,
-) -> Result<(usize, &[u8]), BadCode>
+fn segment_at(bytes: &[u8], at: usize, least: usize, owed: usize) -> Result<(usize, &[u8]), BadCode>
     requires inside { at ≤ length bytes.now }
     requires some { 1 ≤ owed }
     requires small { owed < 2 ^ 16 }

@@ -10,12 +10,12 @@ fn each_worked_block_has_its_code(rt: HostRuntime) {
     let three = [0xaa, 0, 0, 0, 0xbb, 0, 0, 0, 0, 0, 0, 0, 0, 0, 0, 0];
     let four = [0xaa, 0, 0, 0, 0, 0xbb, 0, 0, 0, 0, 0, 0, 0, 0, 0, 0];
     let of_most = [
-        0, 0, 0, 0x10, 0x11, 0x11, 0x11, 0x11, 0x11, 0x11, 0x11, 0x11, 0x11, 0x11, 0x11, 0x11, 0x11,
-        0x11, 0x11, 0x11,
+        0, 0, 0, 0x10, 0x11, 0x11, 0x11, 0x11, 0x11, 0x11, 0x11, 0x11, 0x11, 0x11, 0x11, 0x11,
+        0x11, 0x11, 0x11, 0x11,
     ];
     let of_tail = [
-        0, 0, 0, 0x0f, 0x11, 0x11, 0x11, 0x11, 0x11, 0x11, 0x11, 0x11, 0x11, 0x11, 0x11, 0x11, 0x11,
-        0x11, 0x11, 0, 1, 0, 0,
+        0, 0, 0, 0x0f, 0x11, 0x11, 0x11, 0x11, 0x11, 0x11, 0x11, 0x11, 0x11, 0x11, 0x11, 0x11,
+        0x11, 0x11, 0x11, 0, 1, 0, 0,
     ];
     let of_three = [0, 0, 0, 5, 0xaa, 0, 0, 0, 0xbb, 0, 0x0b, 0, 0];
     let of_four = [0, 0, 0, 1, 0xaa, 0, 4, 0, 1, 0xbb, 0, 0x0a, 0, 0];
@@ -95,7 +95,10 @@ fn blocks_of_each_size_with_runs_at_each_edge_go_round(rt: HostRuntime) {
                     make_run(block, 0, first);
                     make_run(block, size / 2, middle);
                     make_run(block, size - last, last);
-                    assert!(rt; goes_round(block), "{size} bytes with runs of {first}, {middle}, {last}");
+                    assert!(rt;
+                        goes_round(block),
+                        "{size} bytes with runs of {first}, {middle}, {last}"
+                    );
                 }
             }
         }

@@ -9,7 +9,7 @@ stopped : (c : goal.After-from_residual) → IsRefused (length c.args.out.now) c
 stopped c =
     subst (λ (n : ℕ). IsRefused n c.args.bytes.now c.in_err-zeros.field-0.0.at) c.loop-filled.auto.out
     (refused_there (length c.loop-filled.out) c.args.bytes.now c.loop-filled.at c.in_err-zeros.field-0.0.at c.in_err-zeros.ensures.none.0
-      (decoded_stops c.loop-filled.out c.args.bytes.now c.loop-filled.least c.loop-filled.filled c.loop-filled.at c.loop-filled.invariant c.loop-filled-test.true c.in_err-zeros.ensures.none.1))
+    (decoded_stops c.loop-filled.out c.args.bytes.now c.loop-filled.least c.loop-filled.filled c.loop-filled.at c.loop-filled.invariant c.loop-filled-test.true c.in_err-zeros.ensures.none.1))
 
 pub returns-in_err-zeros-clause-refused : goal.returns-in_err-zeros-clause-refused
 returns-in_err-zeros-clause-refused c = let refused = stopped c in let e = c.from_residual.ensures.1 in search rules
@@ -29,7 +29,7 @@ longer : (c : goal.After-from_residual-in_err-end_at) → IsRefused (length c.ar
 longer c =
     subst (λ (n : ℕ). IsRefused n c.args.bytes.now c.in_err-end_at.field-0.0.at) c.loop-filled.auto.out
     (refused_there (length c.loop-filled.out) c.args.bytes.now c.loop-filled.at c.in_err-end_at.field-0.0.at c.in_err-end_at.ensures.more.0
-      (decoded_long c.loop-filled.out c.args.bytes.now c.loop-filled.least c.loop-filled.filled c.loop-filled.at c.loop-filled.invariant c.loop-filled-test.false c.in_err-end_at.ensures.more.1))
+    (decoded_long c.loop-filled.out c.args.bytes.now c.loop-filled.least c.loop-filled.filled c.loop-filled.at c.loop-filled.invariant c.loop-filled-test.false c.in_err-end_at.ensures.more.1))
 
 pub returns-in_err-end_at-clause-refused : goal.returns-in_err-end_at-clause-refused
 returns-in_err-end_at-clause-refused c = let refused = longer c in let e = c.from_residual-in_err-end_at.ensures.1 in search rules
