@@ -1,9 +1,10 @@
 -- Places fit on disks that have all rows.
 use Rattle.std.proofs.Common.{◌≡◌, ◌≢◌, ℕ, ◌+◌, ◌*◌, ◌/◌, ◌<◌, ◌≤◌, List, Option, Some, IsTrue, refl, sym, ◌∙◌, arith}
+use Rattle.trap_model.specs.Image.{volume}
 use Rattle.trap_model.specs.declared.numbers.Geometry.{Geometry}
 use Rattle.trap_bank.specs.Disks.{View}
 use Rattle.trap_bank.specs.Calls.{IsLawful}
-use Rattle.trap_map.specs.Layout.{volume, parity_member, block_place}
+use Rattle.trap_map.specs.Layout.{parity_member, block_place}
 use Rattle.trap_map.proofs.LeftLemmas.{parity_in-lt}
 use Rattle.trap_map.proofs.PlaceLemmas.{member_within, row_of-within}
 use Rattle.trap_raid.specs.Members.{row_offset, RowFits, PlaceFits, BlockFits, MembersFit, MembersHold}

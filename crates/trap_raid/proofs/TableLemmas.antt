@@ -1,11 +1,12 @@
 -- The table's places from the members that are not lost, and the plan of a write.
 use Rattle.std.proofs.Common.{◌≡◌, ◌≢◌, ℕ, ◌<◌, List, [], length, get_or, set, Option, Some, ap, sym, subst, ◌∙◌}
+use Rattle.trap_model.specs.Image.{volume, IsImage}
 use Rattle.trap_block.specs.Xor.{xor, xor_but}
 use Rattle.trap_block.proofs.OverLemmas.{xor_but_same}
 use Rattle.trap_model.specs.declared.numbers.Geometry.{Geometry}
 use Rattle.trap_map.specs.declared.places.Place.{Place}
-use Rattle.trap_map.specs.Layout.{volume, parity_member, block_place}
-use Rattle.trap_map.specs.Table.{IsImage, row_parity, table}
+use Rattle.trap_map.specs.Layout.{parity_member, block_place}
+use Rattle.trap_map.specs.Table.{row_parity, table}
 use Rattle.trap_map.proofs.PlaceLemmas.{block_is_not_parity}
 use Rattle.trap_map.proofs.TableLemmas.{table_at_block, table_at_parity, table_from_others, parity_after_write}
 use Rattle.trap_bank.specs.Disks.{Contents}

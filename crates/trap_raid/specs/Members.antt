@@ -1,11 +1,12 @@
 -- The places of members as bytes of disks.
 use Rattle.std.specs.Prelude.{◌≡◌, ◌≢◌, ℕ, ◌+◌, ◌*◌, ◌<◌, List, Option, Some}
+use Rattle.trap_model.specs.Image.{IsImage}
 use Rattle.trap_model.specs.declared.numbers.Geometry.{Geometry}
 use Rattle.trap_bank.specs.Disks.{Disks, View, region, size_of}
 use Rattle.trap_bank.specs.Calls.{Fits}
 use Rattle.trap_map.specs.declared.places.Place.{Place}
 use Rattle.trap_map.specs.Layout.{parity_member, block_place}
-use Rattle.trap_map.specs.Table.{IsImage, table}
+use Rattle.trap_map.specs.Table.{table}
 
 -- where a row begins on a member's disk, behind the header
 abbrev pub row_offset : Geometry → ℕ → ℕ

@@ -1,8 +1,8 @@
 //! The members of an array, of which one may be lost.
 
 ghost use Rattle.std.specs.Prelude.{◌≡◌, ◌<◌, ℕ, List, Option, Some, None, length, IsTrue, OnOk, IfErr};
+ghost use Rattle.trap_model.specs.Image.{volume};
 ghost use Rattle.std.specs.Option.{ForSome};
-ghost use Rattle.trap_map.specs.Layout.{volume};
 ghost use Rattle.trap_map.specs.Table.{table};
 ghost use Rattle.trap_raid.specs.Members.{IsPlace, PlaceFits, BlockFits, MembersHold};
 ghost use Rattle.trap_raid.specs.Reads.{OnlyReads, HasFailed, ReadCosts, PlanCosts};
