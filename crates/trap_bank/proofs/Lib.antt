@@ -1,2 +1,10 @@
 pub mod Regions
 pub mod Moves
+pub mod Feeding
+pub mod Ranges
+pub mod MemoryTime
+pub mod MemoryBack
+pub mod MemoryCalls
+pub mod MemoryWrites
+pub mod MemorySyncs
+pub mod MemoryMakes

@@ -4,3 +4,10 @@ pub mod Calls
 pub mod Steps
 pub mod Stream
 pub mod Schedule
+pub mod Counts
+pub mod Listed
+pub mod MemoryInput
+pub mod Kept
+pub mod Record
+pub mod Memory
+pub mod Struck
