@@ -127,6 +127,25 @@ moves_same area a b moves = moves_weaken a b Same Same (Differs area) (Differs a
     (λ x y was same. differs_same area x.disks y.disks same)
     (λ x y was left same. differs_same area x.disks y.disks same)
 
+-- what a read gives after two calls that change one area
+pub torn_again : (area : Area) (a b c : View) → b.tells ≡ a.tells → (IsTrue a.tells → Torn area a.now b.now) → (IsTrue b.tells → Torn area b.now c.now) → IsTrue a.tells → Torn area a.now c.now
+torn_again area a b c tells first second told =
+    let one = first told in
+    let two = second (subst IsTrue (sym tells) told) in
+    record { disks = differs_again area a.now.disks b.now.disks c.now.disks one.disks two.disks; said = two.said ∙ one.said }
+
+-- what a read gives after a call that changes nothing
+pub torn_same : (area : Area) (a b : View) → (IsTrue a.tells → b.now ≡ a.now) → IsTrue a.tells → Torn area a.now b.now
+torn_same area a b same told = record { disks = differs_same area a.now.disks b.now.disks (ap (λ (c : Contents). c.disks) (same told)); said = ap (λ (c : Contents). c.said) (same told) }
+
+-- what a read gives after a call that changes a smaller area
+pub torn_mono : (small large : Area) (x y : Contents) → ((e i : ℕ) → small e i → large e i) → Torn small x y → Torn large x y
+torn_mono small large x y more torn = record { disks = differs_mono small large x.disks y.disks more torn.disks; said = torn.said }
+
+-- what a read gives after a call that changes a smaller range
+pub torn_wider : (d at n from len : ℕ) (x y : Contents) → from ≤ at → at + n ≤ from + len → Torn (Within d at n) x y → Torn (Within d from len) x y
+torn_wider d at n from len x y low high torn = torn_mono (Within d at n) (Within d from len) x y (λ e i within. record { disk = within.disk; from = omega (arith, within.from); to = omega (arith, within.to) }) torn
+
 -- xs where the test holds, else ys
 abbrev mix : (ℕ → Bool) → List ℕ → List ℕ → List ℕ
 mix p [] ys = []

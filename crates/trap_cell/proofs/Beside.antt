@@ -1,13 +1,12 @@
 -- A cell and what happens beside it.
-use Rattle.std.proofs.Common.{◌≡◌, ◌⊎◌, ℕ, ◌+◌, ◌*◌, ◌<◌, ◌≤◌, List, Bool, true, false, not, ◌==◌, Option, Some, None, ⊎_elim, refl, sym, ap, subst, ◌∙◌, arith}
-use Rattle.trap_bank.specs.Disks.{Contents, View, Disks, Area, Within, Differs, byte, region}
-use Rattle.trap_bank.specs.Calls.{MayLeave}
-use Rattle.trap_bank.specs.Steps.{Moves, Same, Settled, Always, PlacedThrough}
-use Rattle.trap_bank.proofs.Regions.{differs_mono, region_apart, region_of_disk, disk_beside}
+use Rattle.std.proofs.Common.{◌≡◌, ◌⊎◌, ℕ, ◌+◌, ◌<◌, ◌≤◌, List, Bool, true, false, not, ◌==◌, Option, Some, None, ⊎_elim, refl, ap, ◌∙◌, arith}
+use Rattle.trap_bank.specs.Disks.{View, Disks, Area, Within, Differs, region}
+use Rattle.trap_bank.specs.Steps.{Moves, Same, Settled, Always}
+use Rattle.trap_bank.proofs.Regions.{differs_mono, region_apart, region_of_disk}
 use Rattle.trap_bank.proofs.Moves.{always_after}
 use Rattle.trap_cell.specs.Slots.{Place, Slots, Stands, slot_at, gate_of, turn_of, value_in, value_at, current, current_slot, cell_value, cell_len, cell_area, other_slot}
 use Rattle.trap_cell.specs.Steps.{PutsIn, IsPut, IsFirst}
-use Rattle.trap_cell.proofs.Keeping.{slot_within, stands_on_disk, value_on_disk}
+use Rattle.trap_cell.proofs.Keeping.{slot_within}
 
 -- no position of the area is in the cell
 abbrev pub Apart : Area → Place → Type 0

@@ -1,5 +1,5 @@
 -- Which slot is current, from the gates and turns of both.
-use Rattle.std.proofs.Common.{◌≡◌, ◌≢◌, ◌⊎◌, ℕ, ◌+◌, ◌%◌, ◌<◌, Bool, true, false, not, ◌==◌, if◌then◌else◌, Option, Some, None, refl, sym, ap, subst, ◌∙◌, arith}
+use Rattle.std.proofs.Common.{◌≡◌, ◌≢◌, ℕ, ◌<◌, Bool, true, false, not, ◌==◌, if◌then◌else◌, Option, Some, None, refl, sym, ap, subst, arith}
 use Rattle.std.proofs.lemmas.Bool.Decides.{nat_tests}
 use Rattle.trap_bank.specs.Disks.{Disks}
 use Rattle.trap_cell.specs.Slots.{is_on, next_turn, current, Place, gate_of, turn_of, value_in, value_at, current_slot, cell_value}

@@ -1,10 +1,10 @@
 -- What the steps of a put leave of a cell.
-use Rattle.std.proofs.Common.{◌≡◌, ◌⊎◌, ℕ, ◌+◌, ◌*◌, ◌<◌, ◌≤◌, List, [], ◌∷◌, length, get_or, Bool, true, false, not, ◌==◌, Option, Some, None, inl, inr, ⊎_elim, refl, sym, ap, subst, ◌∙◌, arith}
-use Rattle.trap_bank.specs.Disks.{Disks, Within, Differs, byte, region}
-use Rattle.trap_bank.proofs.Regions.{region_beside, byte_beside, byte_in_region, differs_again, differs_wider, differs_at, differs_none, region_of_disk, byte_of_disk}
+use Rattle.std.proofs.Common.{◌≡◌, ◌⊎◌, ℕ, ◌+◌, ◌<◌, ◌≤◌, List, [], ◌∷◌, Bool, true, false, not, ◌==◌, Option, Some, None, inl, inr, ⊎_elim, refl, sym, ap, subst, ◌∙◌, arith}
+use Rattle.trap_bank.specs.Disks.{Disks, Within, Differs, region}
+use Rattle.trap_bank.proofs.Regions.{region_beside, byte_beside, byte_in_region, differs_again, differs_wider, differs_none, region_of_disk, byte_of_disk}
 use Rattle.trap_cell.specs.Slots.{is_on, next_turn, Place, Slots, Stands, slot_at, gate_of, turn_of, value_in, value_at, current_slot, cell_value, cell_len, other_slot, shut_of, turned}
-use Rattle.trap_cell.specs.Steps.{PutsIn, IsPut, Keeps, Shuts, Fills, IsReady}
-use Rattle.trap_cell.proofs.Gates.{seen, is_seen, current_on, alone, overtaken, not_overtaken, on_gate, on_turn, off_gate, value_of, not_not}
+use Rattle.trap_cell.specs.Steps.{PutsIn, Keeps, Shuts, Fills, IsReady}
+use Rattle.trap_cell.proofs.Gates.{seen, is_seen, current_on, alone, overtaken, not_overtaken, on_gate, off_gate, value_of, not_not}
 
 -- a slot lies before the other or behind it
 pub slots_apart : (p : Place) (b : Bool) → (slot_at p b + (2 + p.size) ≤ slot_at p (not b)) ⊎ (slot_at p (not b) + (2 + p.size) ≤ slot_at p b)
@@ -102,8 +102,8 @@ shuts_torn s x y stands torn = record { keeps = record { differs = keeps.differs
     keeps : Keeps (shut_of s) x y
     keeps = keeps_seen (shut_of s) x y stands (behind_gate s x y torn)
         (alone s.second (gate_of s.place s.second x) (turn_of s.place s.second x) (gate_of s.place (not s.second) y) (turn_of s.place (not s.second) y)
-          (current_on s.second (gate_of s.place s.second x) (turn_of s.place s.second x) (gate_of s.place (not s.second) x) (turn_of s.place (not s.second) x) (stands_on (shut_of s) x stands))
-          (off_gate (gate_of s.place (not s.second) y) (turn_of s.place (not s.second) y) shut))
+        (current_on s.second (gate_of s.place s.second x) (turn_of s.place s.second x) (gate_of s.place (not s.second) x) (turn_of s.place (not s.second) x) (stands_on (shut_of s) x stands))
+        (off_gate (gate_of s.place (not s.second) y) (turn_of s.place (not s.second) y) shut))
 
 -- two steps that keep the current slot
 pub keeps_then : (s : Slots) (x y z : Disks) → Keeps s x y → Keeps s y z → Keeps s x z
@@ -150,19 +150,22 @@ puts_torn s fresh x y ready torn = record { differs = gate_part s x y torn; eith
     by true open_ = inr (value_of s.place (not s.second) y (opened s fresh x y ready torn open_) ∙ ap {B = Option (List ℕ)} Some (value_beyond s x y torn ∙ ready.value))
     by false shut = inl (keeps_value (shut_of s) x y ready.stands (keeps_seen (shut_of s) x y ready.stands (gate_part s x y torn)
         (alone s.second (gate_of s.place s.second x) (turn_of s.place s.second x) (gate_of s.place (not s.second) y) (turn_of s.place (not s.second) y)
-          (current_on s.second (gate_of s.place s.second x) (turn_of s.place s.second x) (gate_of s.place (not s.second) x) (turn_of s.place (not s.second) x) (ready_on s fresh x ready))
-          (off_gate (gate_of s.place (not s.second) y) (turn_of s.place (not s.second) y) shut))))
+        (current_on s.second (gate_of s.place s.second x) (turn_of s.place s.second x) (gate_of s.place (not s.second) x) (turn_of s.place (not s.second) x) (ready_on s fresh x ready))
+        (off_gate (gate_of s.place (not s.second) y) (turn_of s.place (not s.second) y) shut))))
 
 -- the other slot's gate is open and stays so
 pub put_written : (s : Slots) (fresh : List ℕ) (x y : Disks) → IsReady s fresh x → Differs (Within s.place.disk (slot_at s.place (not s.second)) 1) x y → region y s.place.disk (slot_at s.place (not s.second)) 1 ≡ 165 ∷ []
     → (cell_value s.place y ≡ Some fresh) × Stands (turned s) y
-put_written s fresh x y ready torn there = (value_of s.place (not s.second) y now ∙ ap {B = Option (List ℕ)} Some (value_beyond s x y torn ∙ ready.value), record {
-  current = now;
-  turn = beyond_gate s x y torn ∙ ready.turn;
-  gate = subst (λ (b : Bool). (gate_of s.place b y == 165) ≡ true) (sym (not_not s.second))
-      (ap (λ (g : ℕ). g == 165) (same_gate s x y (gate_part s x y torn))
+put_written s fresh x y ready torn there = (
+  value_of s.place (not s.second) y now ∙ ap {B = Option (List ℕ)} Some (value_beyond s x y torn ∙ ready.value),
+  record {
+    current = now;
+    turn = beyond_gate s x y torn ∙ ready.turn;
+    gate = subst (λ (b : Bool). (gate_of s.place b y == 165) ≡ true) (sym (not_not s.second))
+        (ap (λ (g : ℕ). g == 165) (same_gate s x y (gate_part s x y torn))
         ∙ on_gate (gate_of s.place s.second x) (turn_of s.place s.second x) (current_on s.second (gate_of s.place s.second x) (turn_of s.place s.second x) (gate_of s.place (not s.second) x) (turn_of s.place (not s.second) x) (ready_on s fresh x ready)));
-})
+  },
+)
   where
     now : current_slot s.place y ≡ Some (not s.second)
     now = opened s fresh x y ready torn (ap (λ (g : ℕ). g == 165) (gate_written s y 165 there))

@@ -1,13 +1,12 @@
 -- What a mount finds.
-use Rattle.std.proofs.Common.{◌≡◌, ◌⊎◌, ℕ, ◌+◌, ◌*◌, ◌<◌, ◌≤◌, List, [], ◌∷◌, length, get_or, Bool, true, false, not, ◌==◌, if◌then◌else◌, Option, Some, None, IsTrue, Result, Ok, refl, sym, ap, ap₂, subst, ◌∙◌, arith}
-use Rattle.trap_bank.specs.Disks.{Contents, View, Disks, Within, Differs, byte, region}
-use Rattle.trap_bank.specs.Calls.{MayLeave, Reads}
+use Rattle.std.proofs.Common.{◌≡◌, ℕ, ◌+◌, List, Bool, true, false, not, ◌==◌, if◌then◌else◌, Option, Some, None, IsTrue, sym, ap, ap₂, subst, ◌∙◌, arith}
+use Rattle.trap_bank.specs.Disks.{Contents, View, Disks, region}
 use Rattle.trap_bank.specs.Steps.{Moves, Same, Always}
-use Rattle.trap_bank.proofs.Regions.{byte_of_region, byte_in_region}
-use Rattle.trap_bank.proofs.Moves.{read_steps, same_then, always_same}
+use Rattle.trap_bank.proofs.Regions.{byte_of_region}
+use Rattle.trap_bank.proofs.Moves.{always_same}
 use Rattle.trap_cell.specs.declared.heads.Heads.{Heads}
 use Rattle.trap_cell.specs.Heads.{AreAt}
-use Rattle.trap_cell.specs.Slots.{current, Place, Slots, Stands, place_of, slot_at, gate_of, turn_of, value_in, value_at, current_slot, cell_value, cell_len}
+use Rattle.trap_cell.specs.Slots.{current, Place, Stands, slot_at, gate_of, turn_of, value_at, current_slot, cell_value, cell_len}
 use Rattle.trap_cell.proofs.Gates.{value_of}
 
 -- which slot is current, from what was read

@@ -1,12 +1,10 @@
 -- The steps of a put, with a crash at any moment.
-use Rattle.std.proofs.Common.{◌≡◌, ◌⊎◌, ℕ, ◌+◌, ◌<◌, ◌≤◌, List, [], ◌∷◌, length, IsTrue, Result, Ok, Bool, true, false, not, Option, Some, inl, inr, refl, sym, ap, ap₂, subst, ◌∙◌, arith}
-use Rattle.trap_bank.specs.Disks.{Contents, View, Disks, Within, Differs, Torn, byte, region}
-use Rattle.trap_bank.specs.Calls.{MayLeave}
-use Rattle.trap_bank.specs.Calls.{Writes}
+use Rattle.std.proofs.Common.{◌≡◌, ℕ, ◌+◌, ◌≤◌, List, [], ◌∷◌, length, IsTrue, true, false, not, inl, inr, refl, sym, ap, ap₂, subst, ◌∙◌, arith}
+use Rattle.trap_bank.specs.Disks.{View, Disks, Within, Differs, Torn, Quiet, byte, region}
 use Rattle.trap_bank.specs.Steps.{Moves, Always, PlacedThrough}
 use Rattle.trap_bank.proofs.Regions.{differs_at, differs_mono, differs_again, byte_beside, byte_in_region, byte_of_disk}
-use Rattle.trap_bank.proofs.Moves.{write_steps, moves_then, moves_weaken, no_moves, always_after}
-use Rattle.trap_cell.specs.Slots.{Slots, Stands, slot_at, next_turn, shut_of, turned, cell_value, turn_of, value_in}
+use Rattle.trap_bank.proofs.Moves.{read_is_left, moves_then, moves_weaken, no_moves, always_after}
+use Rattle.trap_cell.specs.Slots.{Slots, Stands, slot_at, next_turn, shut_of, turned, turn_of, value_in}
 use Rattle.trap_cell.specs.Steps.{PutsIn, IsPut, Keeps, Shuts, Fills, IsReady}
 use Rattle.trap_cell.proofs.Keeping.{keeps_torn, shuts_written, shuts_none, keeps_none, shuts_stands, keeps_then, keeps_puts, keeps_puts_then, fills_ready, puts_torn, put_written, shuts_torn}
 
@@ -174,3 +172,66 @@ put_done s t fresh a b c d known stands first second third = moves_then a c d (K
       stands = subst (λ (u : Slots). Stands u z.disks) (sym known) put.stands;
       read = put.read;
     })
+
+-- what a read gives after the gate was written, whatever the write answered
+pub shut_contents : (s : Slots) (d start : ℕ) (a b : View) → s.other_open ≡ true → Always a (Stands s) → d ≡ s.place.disk → start ≡ slot_at s.place (not s.second)
+    → (IsTrue a.tells → Torn (Within d start 1) a.now b.now) → IsTrue a.tells → Quiet (Keeps s) a.now b.now
+shut_contents s d start a b open_ stands same place contents told =
+    let torn = contents told in
+    record { disks = keeps_torn s a.now.disks b.now.disks open_ (stands a.now (read_is_left a told)) (at_gate s d start a.now.disks b.now.disks same place torn.disks); said = torn.said }
+
+-- what a read gives where the gate was shut before
+pub shut_nothing : (s : Slots) (a : View) → Always a (Stands s) → IsTrue a.tells → Quiet (Keeps s) a.now a.now
+shut_nothing s a stands told = record { disks = keeps_none s a.now.disks (stands a.now (read_is_left a told)); said = refl }
+
+-- what a read gives after a write behind the gate
+pub fill_part : (s : Slots) (d at n : ℕ) (a b : View) → Always a (Stands (shut_of s)) → d ≡ s.place.disk → slot_at s.place (not s.second) + 1 ≤ at → at + n ≤ slot_at s.place (not s.second) + (2 + s.place.size)
+    → (IsTrue a.tells → Torn (Within d at n) a.now b.now) → IsTrue a.tells → Quiet (Shuts s) a.now b.now
+fill_part s d at n a b stands same low high contents told =
+    let torn = contents told in
+    record { disks = shuts_torn s a.now.disks b.now.disks (stands a.now (read_is_left a told)) (behind s d at n a.now.disks b.now.disks same low high torn.disks); said = torn.said }
+
+-- what a read gives after both
+pub fill_contents : (s : Slots) (d start n : ℕ) (a b c : View) → Always a (Stands (shut_of s)) → d ≡ s.place.disk → start ≡ slot_at s.place (not s.second) → n ≡ s.place.size → b.tells ≡ a.tells
+    → (IsTrue a.tells → Torn (Within d (start + 1) 1) a.now b.now) → (IsTrue b.tells → Torn (Within d (start + 2) n) b.now c.now) → IsTrue a.tells → Quiet (Shuts s) a.now c.now
+fill_contents s d start n a b c stands same place len tells first second told =
+    let one = first told in
+    let two = second (subst IsTrue (sym tells) told) in
+    record {
+      disks = shuts_torn s a.now.disks c.now.disks (stands a.now (read_is_left a told))
+          (differs_again _ a.now.disks b.now.disks c.now.disks (behind s d (start + 1) 1 a.now.disks b.now.disks same (omega arith) (omega arith) one.disks) (behind s d (start + 2) n b.now.disks c.now.disks same (omega arith) (omega arith) two.disks));
+      said = two.said ∙ one.said;
+    }
+
+-- what a read gives after the gate was opened, whatever the write answered
+pub open_contents : (s : Slots) (fresh : List ℕ) (d start : ℕ) (a b : View) → Always a (IsReady s fresh) → d ≡ s.place.disk → start ≡ slot_at s.place (not s.second)
+    → (IsTrue a.tells → Torn (Within d start 1) a.now b.now) → IsTrue a.tells → Quiet (PutsIn s fresh) a.now b.now
+open_contents s fresh d start a b ready same place contents told =
+    let torn = contents told in
+    record { disks = puts_torn s fresh a.now.disks b.now.disks (ready a.now (read_is_left a told)) (at_gate s d start a.now.disks b.now.disks same place torn.disks); said = torn.said }
+
+-- what a read gives after a put that stopped while the gate was shut
+pub put_shut_contents : (s : Slots) (fresh : List ℕ) (a b : View) → Always a (Stands s) → (IsTrue a.tells → Quiet (Keeps s) a.now b.now) → IsTrue a.tells → Quiet (PutsIn s fresh) a.now b.now
+put_shut_contents s fresh a b stands contents told =
+    let keeps = contents told in
+    record { disks = keeps_puts s fresh a.now.disks b.now.disks (stands a.now (read_is_left a told)) keeps.disks; said = keeps.said }
+
+-- and while the slot was filled
+pub put_fill_contents : (s : Slots) (fresh : List ℕ) (a b c : View) → Always a (Stands s) → b.tells ≡ a.tells → (IsTrue a.tells → Quiet (Keeps s) a.now b.now) → (IsTrue b.tells → Quiet (Shuts s) b.now c.now) → IsTrue a.tells → Quiet (PutsIn s fresh) a.now c.now
+put_fill_contents s fresh a b c stands tells first second told =
+    let one = first told in
+    let two = second (subst IsTrue (sym tells) told) in
+    record { disks = keeps_puts s fresh a.now.disks c.now.disks (stands a.now (read_is_left a told)) (keeps_then s a.now.disks b.now.disks c.now.disks one.disks two.disks.keeps); said = two.said ∙ one.said }
+
+-- and while the gate opened, or after
+pub put_open_contents : (s : Slots) (fresh : List ℕ) (a b c d : View) → Always a (Stands s) → b.tells ≡ a.tells → c.tells ≡ b.tells
+    → (IsTrue a.tells → Quiet (Keeps s) a.now b.now) → (IsTrue b.tells → Quiet (Shuts s) b.now c.now) → (IsTrue c.tells → Quiet (PutsIn s fresh) c.now d.now) → IsTrue a.tells → Quiet (PutsIn s fresh) a.now d.now
+put_open_contents s fresh a b c d stands tells tells' first second third told =
+    let one = first told in
+    let told' : IsTrue b.tells = subst IsTrue (sym tells) told in
+    let two = second told' in
+    let three = third (subst IsTrue (sym tells') told') in
+    record {
+      disks = keeps_puts_then s fresh a.now.disks c.now.disks d.now.disks (stands a.now (read_is_left a told)) (keeps_then s a.now.disks b.now.disks c.now.disks one.disks two.disks.keeps) three.disks;
+      said = three.said ∙ (two.said ∙ one.said);
+    }

@@ -1,7 +1,7 @@
 -- What the steps of a cell do to disks, old before new.
 use Rattle.std.specs.Prelude.{◌≡◌, ◌⊎◌, ℕ, List, not, ◌==◌, Some, false}
 use Rattle.trap_bank.specs.Disks.{Disks, View, Differs}
-use Rattle.trap_cell.specs.Slots.{Slots, Stands, Place, cell_area, other_slot, shut_of, next_turn, gate_of, turn_of, value_in, current_slot, cell_value}
+use Rattle.trap_cell.specs.Slots.{Slots, Stands, cell_area, other_slot, shut_of, next_turn, gate_of, turn_of, value_in, current_slot, cell_value}
 
 -- the cell has its value from before, or this one, and no byte outside the slot that wasn't current changed
 pub record PutsIn (s : Slots) (fresh : List ℕ) (old new : Disks) : Type 0 where

@@ -2,16 +2,15 @@
 
 ghost use Rattle.std.specs.Prelude.{◌≡◌, ◌+◌, ◌*◌, ◌<◌, ◌≤◌, ◌^◌, ◌↔◌, ℕ, None, Some, length, not, OnErr, OnOk, IfOk, IsErrOf, IsTrue};
 ghost use Rattle.trap_bank.specs.Faults.{Rose};
-ghost use Rattle.trap_bank.specs.Disks.{Differs, region};
+ghost use Rattle.trap_bank.specs.Disks.{Differs, Torn, Quiet, region};
 ghost use Rattle.trap_bank.specs.Calls.{Fits};
 ghost use Rattle.trap_bank.specs.Steps.{Moves, Same, Always};
 ghost use Rattle.trap_cell.specs.Slots.{Slots, Stands, place_of, slot_at, next_turn, cell_len, cell_area, cell_value, shut_of, turned};
 ghost use Rattle.trap_cell.specs.Steps.{PutsIn, IsPut, IsFirst, Keeps, Shuts, Fills, IsReady};
 
-use std::marker::Model;
-
 use crate::fault::CellFault;
 use crate::heads::{HEAD_BYTES, Heads, ON, slot_start};
+use std::marker::Model;
 use trap_bank::{Bank, DiskFault, write_through};
 
 /// The gate byte of a slot that is off.
@@ -36,10 +35,10 @@ impl Model for Cell {
     ghost Value = { Slots };
 
     ghost view = { λ c. record {
-        place = place_of c.disk c.at c.size;
-        second = c.second;
-        turn = c.turn;
-        other_open = c.other_open;
+      place = place_of c.disk c.at c.size;
+      second = c.second;
+      turn = c.turn;
+      other_open = c.other_open;
     } };
 
     ghost invariant = { λ c. (c.disk ≤ 20) × (c.turn < 3) × (c.at + 2 * (2 + c.size) < 2 ^ 64) };
@@ -55,6 +54,8 @@ impl Cell {
         ensures place { IfOk result (λ cell. cell.place ≡ place_of disk at (length value.now)) }
         ensures ok { IfOk result (λ cell. Moves (B.view bank.old) (B.view bank.new)
             (Differs (cell_area (place_of disk at (length value.now)))) (IsFirst (B.view bank.new) cell value.now)) }
+        ensures contents { IsTrue (B.view bank.old).tells
+            → Torn (cell_area (place_of disk at (length value.now))) (B.view bank.old).now (B.view bank.new).now }
         ensures sizes { (e : ℕ) → (B.view bank.new).sizes e ≡ (B.view bank.old).sizes e }
         ensures cause { OnErr result (Rose ((B.view bank.old).faults disk) ((B.view bank.new).faults disk)) }
 
@@ -80,7 +81,12 @@ impl Cell {
 
     /// Finds the current slot, and fills `value` with the cell's value, whose length the caller knows. After a
     /// fault `value` holds any bytes.
-    pub fn mount<B: Bank>(bank: &mut B, disk: u8, at: u64, value: &mut [u8]) -> Result<Cell, CellFault>
+    pub fn mount<B: Bank>(
+        bank: &mut B,
+        disk: u8,
+        at: u64,
+        value: &mut [u8],
+    ) -> Result<Cell, CellFault>
         requires disk { disk ≤ 20 }
         requires ends { at + 2 * (2 + length value.old) < 2 ^ 64 }
         requires room { Fits (B.view bank.old) disk (at + 2 * (2 + length value.old)) }
@@ -92,6 +98,7 @@ impl Cell {
         ensures value { IfOk result (λ cell. IsTrue (B.view bank.old).tells
             → cell_value cell.place (B.view bank.old).now.disks ≡ Some value.new) }
         ensures stands { IfOk result (λ cell. Always (B.view bank.new) (Stands cell)) }
+        ensures same { IsTrue (B.view bank.old).tells → (B.view bank.new).now ≡ (B.view bank.old).now }
         ensures sizes { (e : ℕ) → (B.view bank.new).sizes e ≡ (B.view bank.old).sizes e }
         ensures no_value { IsTrue (B.view bank.old).tells → ¬ IsErrOf result CellFault.DiskFault
             → (IsErrOf result CellFault.NoValue ↔ (cell_value (place_of disk at (length value.old)) (B.view bank.old).now.disks ≡ None)) }
@@ -163,6 +170,7 @@ impl Cell {
         ensures sizes { (e : ℕ) → (B.view bank.new).sizes e ≡ (B.view bank.old).sizes e }
         ensures cause { OnErr result (Rose ((B.view bank.old).faults self.now.place.disk) ((B.view bank.new).faults self.now.place.disk)) }
         ensures any_moment { Moves (B.view bank.old) (B.view bank.new) (Keeps self.now) (Keeps self.now) }
+        ensures contents { IsTrue (B.view bank.old).tells → Quiet (Keeps self.now) (B.view bank.old).now (B.view bank.new).now }
         ensures ok { OnOk result (Moves (B.view bank.old) (B.view bank.new) (Keeps self.now) (Shuts self.now)) }
     {
         let is_open = self.is_other_open();
@@ -184,6 +192,7 @@ impl Cell {
         ensures sizes { (e : ℕ) → (B.view bank.new).sizes e ≡ (B.view bank.old).sizes e }
         ensures cause { OnErr result (Rose ((B.view bank.old).faults self.now.place.disk) ((B.view bank.new).faults self.now.place.disk)) }
         ensures any_moment { Moves (B.view bank.old) (B.view bank.new) (Shuts self.now) (Shuts self.now) }
+        ensures contents { IsTrue (B.view bank.old).tells → Quiet (Shuts self.now) (B.view bank.old).now (B.view bank.new).now }
         ensures ok { OnOk result (Moves (B.view bank.old) (B.view bank.new) (Shuts self.now) (Fills self.now fresh.now)) }
     {
         let disk = self.disk();
@@ -203,6 +212,8 @@ impl Cell {
         ensures sizes { (e : ℕ) → (B.view bank.new).sizes e ≡ (B.view bank.old).sizes e }
         ensures cause { OnErr result (Rose ((B.view bank.old).faults self.now.place.disk) ((B.view bank.new).faults self.now.place.disk)) }
         ensures any_moment { Moves (B.view bank.old) (B.view bank.new) (PutsIn self.now fresh.now) (PutsIn self.now fresh.now) }
+        ensures contents { IsTrue (B.view bank.old).tells
+            → Quiet (PutsIn self.now fresh.now) (B.view bank.old).now (B.view bank.new).now }
         ensures ok { OnOk result (Moves (B.view bank.old) (B.view bank.new)
             (PutsIn self.now fresh.now) (IsPut (B.view bank.new) self.now (turned self.now) fresh.now)) }
     {
@@ -221,6 +232,8 @@ impl Cell {
         requires stands { Always (B.view bank.old) (Stands self.old) }
         ensures ok { OnOk result (Moves (B.view bank.old) (B.view bank.new)
             (PutsIn self.old value.now) (IsPut (B.view bank.new) self.old self.new value.now)) }
+        ensures contents { IsTrue (B.view bank.old).tells
+            → Quiet (PutsIn self.old value.now) (B.view bank.old).now (B.view bank.new).now }
         ensures place { self.new.place ≡ self.old.place }
         ensures sizes { (e : ℕ) → (B.view bank.new).sizes e ≡ (B.view bank.old).sizes e }
         ensures cause { OnErr result (Rose ((B.view bank.old).faults self.old.place.disk) ((B.view bank.new).faults self.old.place.disk)) }

@@ -1,6 +1,6 @@
-use Rattle.std.proofs.Common.{length, arith}
+use Rattle.std.proofs.Common.{length, refl, arith}
 use Rattle.trap_bank.proofs.Moves.{moves_again}
-use Rattle.trap_cell.proofs.Beginning.{begin_part, begin_three, begin_synced, begin_done}
+use Rattle.trap_cell.proofs.Beginning.{part_torn, two_torn, three_torn, all_torn, begin_part, begin_three, begin_synced, begin_done}
 use Rattle.trap_cell.proofs.cell.Cell.first.Goals as goal
 
 pub returns-in_err-write-clause-any_moment : goal.returns-in_err-write-clause-any_moment
@@ -20,3 +20,18 @@ returns-clause-any_moment g c = begin_synced _ c.args.disk c.args.at (length c.a
 
 pub returns-clause-ok : goal.returns-clause-ok
 returns-clause-ok g c = begin_done _ _ _ _ c.args.disk c.args.at c.args.value.now _ _ _ _ _ c.in_ok-write.ensures.call c.in_ok-write-2.ensures.call c.in_ok-write-3.ensures.call c.in_ok-sync.ensures.call
+
+pub returns-in_err-write-clause-contents : goal.returns-in_err-write-clause-contents
+returns-in_err-write-clause-contents g c = part_torn _ _ _ _ _ _ _ _ c.write.ensures.call (omega arith) (omega arith)
+
+pub returns-in_err-write-2-clause-contents : goal.returns-in_err-write-2-clause-contents
+returns-in_err-write-2-clause-contents g c = two_torn _ _ _ _ _ _ _ _ _ refl c.write.ensures.call c.write-2.ensures.call
+
+pub returns-in_err-write-3-clause-contents : goal.returns-in_err-write-3-clause-contents
+returns-in_err-write-3-clause-contents g c = three_torn _ _ _ _ _ _ _ _ _ _ _ refl c.write.ensures.call c.write-2.ensures.call c.write-3.ensures.call
+
+pub returns-in_err-sync-clause-contents : goal.returns-in_err-sync-clause-contents
+returns-in_err-sync-clause-contents g c = all_torn _ _ _ _ _ _ _ _ _ _ _ _ _ refl c.write.ensures.call c.write-2.ensures.call c.write-3.ensures.call c.sync.ensures.call
+
+pub returns-clause-contents : goal.returns-clause-contents
+returns-clause-contents g c = all_torn _ _ _ _ _ _ _ _ _ _ _ _ _ refl c.write.ensures.call c.write-2.ensures.call c.write-3.ensures.call c.sync.ensures.call

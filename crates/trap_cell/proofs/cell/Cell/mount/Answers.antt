@@ -1,3 +1,15 @@
+use Rattle.std.proofs.Common.{sym, ◌∙◌, length}
 use Rattle.trap_bank.proofs.Moves.{read_steps, same_then}
-use Rattle.trap_cell.proofs.Mounting.{mount_stands, mount_value, mount_none}
+use Rattle.trap_cell.specs.Slots.{place_of}
+use Rattle.trap_cell.proofs.Mounting.{mount_stands}
 use Rattle.trap_cell.proofs.cell.Cell.mount.Goals as goal
+
+pub returns-in_err-read-clause-any_moment : goal.returns-in_err-read-clause-any_moment
+returns-in_err-read-clause-any_moment g c = same_then _ _ _ c.read.ensures.any_moment (read_steps _ _ _ _ _ _ _ c.read-2.ensures.call)
+
+pub returns-clause-any_moment : goal.returns-clause-any_moment
+returns-clause-any_moment g c = same_then _ _ _ c.read.ensures.any_moment (read_steps _ _ _ _ _ _ _ c.read-2.ensures.call)
+
+pub returns-clause-stands : goal.returns-clause-stands
+returns-clause-stands g c = mount_stands c.in_ok-heads.heads (place_of c.args.disk c.args.at (length c.args.value.now)) _ _ _ (g.B.Bank.view c.args.bank.now) _ c.requires.stable c.in_ok-heads.ensures.heads (sym c.in-Some.is ∙ c.current.ensures) c.turn-turn.ensures.turn c.is_other_open-other_open.ensures
+    (same_then _ _ _ c.read.ensures.any_moment (read_steps _ _ _ _ _ _ _ c.read-2.ensures.call))

@@ -1,4 +1,4 @@
-use Rattle.trap_cell.proofs.Putting.{open_torn, open_done}
+use Rattle.trap_cell.proofs.Putting.{open_torn, open_done, open_contents}
 use Rattle.trap_cell.proofs.cell.Cell.open.Goals as goal
 
 pub returns-in_err-write_through-clause-any_moment : goal.returns-in_err-write_through-clause-any_moment
@@ -9,3 +9,9 @@ returns-clause-any_moment g c = open_torn _ _ _ _ _ _ c.requires.ready c.disk-di
 
 pub returns-clause-ok : goal.returns-clause-ok
 returns-clause-ok g c = open_done _ _ _ _ _ _ c.requires.ready c.disk-disk.ensures.is c.other_start-start.ensures.is c.in_ok-write_through.ensures.ok
+
+pub returns-in_err-write_through-clause-contents : goal.returns-in_err-write_through-clause-contents
+returns-in_err-write_through-clause-contents g c = open_contents _ _ _ _ (g.B.Bank.view c.args.bank.now) (g.B.Bank.view c.write_through.new.bank) c.requires.ready c.disk-disk.ensures.is c.other_start-start.ensures.is c.write_through.ensures.contents
+
+pub returns-clause-contents : goal.returns-clause-contents
+returns-clause-contents g c = open_contents _ _ _ _ (g.B.Bank.view c.args.bank.now) (g.B.Bank.view c.write_through.new.bank) c.requires.ready c.disk-disk.ensures.is c.other_start-start.ensures.is c.write_through.ensures.contents

@@ -1,5 +1,5 @@
 use Rattle.std.proofs.Common.{sym, ◌∙◌}
-use Rattle.trap_cell.proofs.Putting.{shut_torn, shut_done, shut_before, shuts_keep}
+use Rattle.trap_cell.proofs.Putting.{shut_torn, shut_done, shut_contents}
 use Rattle.trap_cell.proofs.cell.Cell.shut.Goals as goal
 
 pub returns-in_err-write_through-clause-any_moment : goal.returns-in_err-write_through-clause-any_moment
@@ -10,3 +10,9 @@ returns-in_ok-write_through-clause-any_moment g c = shut_torn _ _ _ _ _ (sym c.i
 
 pub returns-in_ok-write_through-clause-ok : goal.returns-in_ok-write_through-clause-ok
 returns-in_ok-write_through-clause-ok g c = shut_done _ _ _ _ _ (sym c.is_other_open-is_open.ensures ∙ c.if-is_open.true) c.requires.stands c.disk-disk.ensures.is c.other_start-start.ensures.is c.in_ok-write_through.ensures.ok
+
+pub returns-in_err-write_through-clause-contents : goal.returns-in_err-write_through-clause-contents
+returns-in_err-write_through-clause-contents g c = shut_contents _ _ _ (g.B.Bank.view c.args.bank.now) (g.B.Bank.view c.write_through.new.bank) (sym c.is_other_open-is_open.ensures ∙ c.if-is_open.true) c.requires.stands c.disk-disk.ensures.is c.other_start-start.ensures.is c.write_through.ensures.contents
+
+pub returns-in_ok-write_through-clause-contents : goal.returns-in_ok-write_through-clause-contents
+returns-in_ok-write_through-clause-contents g c = shut_contents _ _ _ (g.B.Bank.view c.args.bank.now) (g.B.Bank.view c.write_through.new.bank) (sym c.is_other_open-is_open.ensures ∙ c.if-is_open.true) c.requires.stands c.disk-disk.ensures.is c.other_start-start.ensures.is c.write_through.ensures.contents
