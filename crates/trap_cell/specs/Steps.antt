@@ -1,7 +1,8 @@
 -- What the steps of a cell do to disks, old before new.
-use Rattle.std.specs.Prelude.{◌≡◌, ◌⊎◌, ℕ, List, not, ◌==◌, Some, false}
+use Rattle.std.specs.Prelude.{◌≡◌, ◌⊎◌, ℕ, List, not, ◌==◌, Some, false, IsTrue}
 use Rattle.trap_bank.specs.Disks.{Disks, View, Differs}
-use Rattle.trap_cell.specs.Slots.{Slots, Stands, cell_area, other_slot, shut_of, next_turn, gate_of, turn_of, value_in, current_slot, cell_value}
+use Rattle.trap_bank.specs.Steps.{Always}
+use Rattle.trap_cell.specs.Slots.{Place, Slots, Stands, cell_area, other_slot, shut_of, next_turn, gate_of, turn_of, value_in, current_slot, cell_value}
 
 -- the cell has its value from before, or this one, and no byte outside the slot that wasn't current changed
 pub record PutsIn (s : Slots) (fresh : List ℕ) (old new : Disks) : Type 0 where
@@ -45,3 +46,9 @@ pub record IsReady (s : Slots) (fresh : List ℕ) (disks : Disks) : Type 0 where
   pub stands : Stands (shut_of s) disks
   pub turn : turn_of s.place (not s.second) disks ≡ next_turn s.turn
   pub value : value_in s.place (not s.second) disks ≡ fresh
+
+-- the program has read the cell's value, and every crash leaves the cell as the program knows it
+pub record IsMounted (old new : View) (p : Place) (value_ : List ℕ) (s : Slots) : Type 0 where
+  pub place : s.place ≡ p
+  pub value : IsTrue old.tells → cell_value p old.now.disks ≡ Some value_
+  pub stands : Always new (Stands s)

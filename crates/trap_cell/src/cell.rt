@@ -1,12 +1,14 @@
 //! A cell: its first value, its mount and its puts.
 
-ghost use Rattle.std.specs.Prelude.{◌≡◌, ◌+◌, ◌*◌, ◌<◌, ◌≤◌, ◌^◌, ◌↔◌, ℕ, None, Some, length, not, OnErr, OnOk, IfOk, IsErrOf, IsTrue};
+ghost use Rattle.std.specs.Prelude.{◌≡◌, ◌+◌, ◌*◌, ◌<◌, ◌≤◌, ◌^◌, ◌↔◌, ℕ, None, length, not};
+ghost use Rattle.std.specs.Prelude.{OnErr, OnOk, IfOk, IsErrOf, IsTrue};
 ghost use Rattle.trap_bank.specs.Faults.{Rose};
 ghost use Rattle.trap_bank.specs.Disks.{Differs, Torn, Quiet, region};
 ghost use Rattle.trap_bank.specs.Calls.{Fits};
 ghost use Rattle.trap_bank.specs.Steps.{Moves, Same, Always};
-ghost use Rattle.trap_cell.specs.Slots.{Slots, Stands, place_of, slot_at, next_turn, cell_len, cell_area, cell_value, shut_of, turned};
-ghost use Rattle.trap_cell.specs.Steps.{PutsIn, IsPut, IsFirst, Keeps, Shuts, Fills, IsReady};
+ghost use Rattle.trap_cell.specs.Slots.{Slots, Stands, place_of, slot_at, next_turn, cell_len};
+ghost use Rattle.trap_cell.specs.Slots.{cell_area, cell_value, shut_of, turned};
+ghost use Rattle.trap_cell.specs.Steps.{PutsIn, IsPut, IsFirst, IsMounted, Keeps, Shuts, Fills, IsReady};
 
 use crate::fault::CellFault;
 use crate::heads::{HEAD_BYTES, Heads, ON, slot_start};
@@ -61,7 +63,8 @@ impl Cell {
 
         // Stopped at any moment, nothing outside the cell has changed.
         ensures any_moment { Moves (B.view bank.old) (B.view bank.new)
-            (Differs (cell_area (place_of disk at (length value.now)))) (Differs (cell_area (place_of disk at (length value.now)))) }
+            (Differs (cell_area (place_of disk at (length value.now))))
+            (Differs (cell_area (place_of disk at (length value.now)))) }
     {
         let size = value.len() as u64;
         bank.write(disk, at, &[ON, 0])?;
@@ -94,14 +97,13 @@ impl Cell {
         // No position of the cell is unsynced.
         requires stable { Always (B.view bank.old) (λ disks. region disks disk at (2 * (2 + length value.old))
             ≡ region (B.view bank.old).now.disks disk at (2 * (2 + length value.old))) }
-        ensures place { IfOk result (λ cell. cell.place ≡ place_of disk at (length value.old)) }
-        ensures value { IfOk result (λ cell. IsTrue (B.view bank.old).tells
-            → cell_value cell.place (B.view bank.old).now.disks ≡ Some value.new) }
-        ensures stands { IfOk result (λ cell. Always (B.view bank.new) (Stands cell)) }
+        ensures mounted { IfOk result
+            (IsMounted (B.view bank.old) (B.view bank.new) (place_of disk at (length value.old)) value.new) }
+        ensures no_value { IsTrue (B.view bank.old).tells → ¬ IsErrOf result CellFault.DiskFault
+            → (IsErrOf result CellFault.NoValue
+            ↔ (cell_value (place_of disk at (length value.old)) (B.view bank.old).now.disks ≡ None)) }
         ensures same { IsTrue (B.view bank.old).tells → (B.view bank.new).now ≡ (B.view bank.old).now }
         ensures sizes { (e : ℕ) → (B.view bank.new).sizes e ≡ (B.view bank.old).sizes e }
-        ensures no_value { IsTrue (B.view bank.old).tells → ¬ IsErrOf result CellFault.DiskFault
-            → (IsErrOf result CellFault.NoValue ↔ (cell_value (place_of disk at (length value.old)) (B.view bank.old).now.disks ≡ None)) }
         ensures cause { IsErrOf result CellFault.DiskFault
             → Rose ((B.view bank.old).faults disk) ((B.view bank.new).faults disk) }
         ensures any_moment { Moves (B.view bank.old) (B.view bank.new) Same Same }
@@ -165,13 +167,17 @@ impl Cell {
 
     /// Shuts the gate of the slot that isn't current, where it is open.
     fn shut<B: Bank>(&self, bank: &mut B) -> Result<(), DiskFault>
-        requires room { Fits (B.view bank.old) self.now.place.disk (self.now.place.at + cell_len self.now.place) }
+        requires room { Fits (B.view bank.old) self.now.place.disk
+            (self.now.place.at + cell_len self.now.place) }
         requires stands { Always (B.view bank.old) (Stands self.now) }
         ensures sizes { (e : ℕ) → (B.view bank.new).sizes e ≡ (B.view bank.old).sizes e }
-        ensures cause { OnErr result (Rose ((B.view bank.old).faults self.now.place.disk) ((B.view bank.new).faults self.now.place.disk)) }
+        ensures cause { OnErr result
+            (Rose ((B.view bank.old).faults self.now.place.disk) ((B.view bank.new).faults self.now.place.disk)) }
         ensures any_moment { Moves (B.view bank.old) (B.view bank.new) (Keeps self.now) (Keeps self.now) }
-        ensures contents { IsTrue (B.view bank.old).tells → Quiet (Keeps self.now) (B.view bank.old).now (B.view bank.new).now }
-        ensures ok { OnOk result (Moves (B.view bank.old) (B.view bank.new) (Keeps self.now) (Shuts self.now)) }
+        ensures contents { IsTrue (B.view bank.old).tells
+            → Quiet (Keeps self.now) (B.view bank.old).now (B.view bank.new).now }
+        ensures ok { OnOk result
+            (Moves (B.view bank.old) (B.view bank.new) (Keeps self.now) (Shuts self.now)) }
     {
         let is_open = self.is_other_open();
         let disk = self.disk();
@@ -187,13 +193,17 @@ impl Cell {
     /// Writes the next turn and the value behind the gate that is shut.
     fn fill<B: Bank>(&self, bank: &mut B, fresh: &[u8]) -> Result<(), DiskFault>
         requires len { length fresh.now ≡ self.now.place.size }
-        requires room { Fits (B.view bank.old) self.now.place.disk (self.now.place.at + cell_len self.now.place) }
+        requires room { Fits (B.view bank.old) self.now.place.disk
+            (self.now.place.at + cell_len self.now.place) }
         requires stands { Always (B.view bank.old) (Stands (shut_of self.now)) }
         ensures sizes { (e : ℕ) → (B.view bank.new).sizes e ≡ (B.view bank.old).sizes e }
-        ensures cause { OnErr result (Rose ((B.view bank.old).faults self.now.place.disk) ((B.view bank.new).faults self.now.place.disk)) }
+        ensures cause { OnErr result
+            (Rose ((B.view bank.old).faults self.now.place.disk) ((B.view bank.new).faults self.now.place.disk)) }
         ensures any_moment { Moves (B.view bank.old) (B.view bank.new) (Shuts self.now) (Shuts self.now) }
-        ensures contents { IsTrue (B.view bank.old).tells → Quiet (Shuts self.now) (B.view bank.old).now (B.view bank.new).now }
-        ensures ok { OnOk result (Moves (B.view bank.old) (B.view bank.new) (Shuts self.now) (Fills self.now fresh.now)) }
+        ensures contents { IsTrue (B.view bank.old).tells
+            → Quiet (Shuts self.now) (B.view bank.old).now (B.view bank.new).now }
+        ensures ok { OnOk result
+            (Moves (B.view bank.old) (B.view bank.new) (Shuts self.now) (Fills self.now fresh.now)) }
     {
         let disk = self.disk();
         let start = self.other_start();
@@ -207,11 +217,14 @@ impl Cell {
     /// Opens the gate of a slot that is ready: the commit.
     fn open<B: Bank>(&self, bank: &mut B, fresh: &[u8]) -> Result<(), DiskFault>
         requires len { length fresh.now ≡ self.now.place.size }
-        requires room { Fits (B.view bank.old) self.now.place.disk (self.now.place.at + cell_len self.now.place) }
+        requires room { Fits (B.view bank.old) self.now.place.disk
+            (self.now.place.at + cell_len self.now.place) }
         requires ready { Always (B.view bank.old) (IsReady self.now fresh.now) }
         ensures sizes { (e : ℕ) → (B.view bank.new).sizes e ≡ (B.view bank.old).sizes e }
-        ensures cause { OnErr result (Rose ((B.view bank.old).faults self.now.place.disk) ((B.view bank.new).faults self.now.place.disk)) }
-        ensures any_moment { Moves (B.view bank.old) (B.view bank.new) (PutsIn self.now fresh.now) (PutsIn self.now fresh.now) }
+        ensures cause { OnErr result
+            (Rose ((B.view bank.old).faults self.now.place.disk) ((B.view bank.new).faults self.now.place.disk)) }
+        ensures any_moment { Moves (B.view bank.old) (B.view bank.new)
+            (PutsIn self.now fresh.now) (PutsIn self.now fresh.now) }
         ensures contents { IsTrue (B.view bank.old).tells
             → Quiet (PutsIn self.now fresh.now) (B.view bank.old).now (B.view bank.new).now }
         ensures ok { OnOk result (Moves (B.view bank.old) (B.view bank.new)
@@ -228,7 +241,8 @@ impl Cell {
     /// begun or mounted. After a fault the old value stands or the new one: mount the cell again to learn which.
     pub fn put<B: Bank>(&mut self, bank: &mut B, value: &[u8]) -> Result<(), DiskFault>
         requires len { length value.now ≡ self.old.place.size }
-        requires room { Fits (B.view bank.old) self.old.place.disk (self.old.place.at + cell_len self.old.place) }
+        requires room { Fits (B.view bank.old) self.old.place.disk
+            (self.old.place.at + cell_len self.old.place) }
         requires stands { Always (B.view bank.old) (Stands self.old) }
         ensures ok { OnOk result (Moves (B.view bank.old) (B.view bank.new)
             (PutsIn self.old value.now) (IsPut (B.view bank.new) self.old self.new value.now)) }
@@ -236,11 +250,13 @@ impl Cell {
             → Quiet (PutsIn self.old value.now) (B.view bank.old).now (B.view bank.new).now }
         ensures place { self.new.place ≡ self.old.place }
         ensures sizes { (e : ℕ) → (B.view bank.new).sizes e ≡ (B.view bank.old).sizes e }
-        ensures cause { OnErr result (Rose ((B.view bank.old).faults self.old.place.disk) ((B.view bank.new).faults self.old.place.disk)) }
+        ensures cause { OnErr result
+            (Rose ((B.view bank.old).faults self.old.place.disk) ((B.view bank.new).faults self.old.place.disk)) }
 
         // Stopped at any moment, the cell has its old value or this one, and nothing outside the slot that wasn't
         // current has changed.
-        ensures any_moment { Moves (B.view bank.old) (B.view bank.new) (PutsIn self.old value.now) (PutsIn self.old value.now) }
+        ensures any_moment { Moves (B.view bank.old) (B.view bank.new)
+            (PutsIn self.old value.now) (PutsIn self.old value.now) }
     {
         self.shut(bank)?;
         self.fill(bank, value)?;

@@ -1,6 +1,7 @@
 //! The gates and turns of a cell's slots, as a mount reads them.
 
-ghost use Rattle.std.specs.Prelude.{◌≡◌, ◌+◌, ◌*◌, ◌<◌, ◌≤◌, ◌^◌, ◌==◌, ℕ, Some, not, if◌then◌else◌, IfOk, OnErr, IsTrue};
+ghost use Rattle.std.specs.Prelude.{◌≡◌, ◌+◌, ◌*◌, ◌<◌, ◌≤◌, ◌^◌, ◌==◌, ℕ};
+ghost use Rattle.std.specs.Prelude.{Some, if◌then◌else◌, IfOk, OnErr, IsTrue};
 ghost use Rattle.trap_bank.specs.Faults.{Rose};
 ghost use Rattle.trap_bank.specs.Calls.{Fits};
 ghost use Rattle.trap_bank.specs.Steps.{Moves, Same};
@@ -88,7 +89,8 @@ impl Heads {
 
     /// The turn of the slot that is current.
     pub fn turn(&self, second: bool) -> u8
-        requires current { current self.now.first.gate self.now.first.turn self.now.second.gate self.now.second.turn ≡ Some second }
+        requires current { current self.now.first.gate self.now.first.turn
+            self.now.second.gate self.now.second.turn ≡ Some second }
         ensures turn { result ≡ (if second then self.now.second.turn else self.now.first.turn) }
         ensures few { result < 3 }
     {
