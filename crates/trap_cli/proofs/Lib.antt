@@ -1,1 +1,3 @@
 pub mod FilesLemmas
+pub mod TouchingLemmas
+pub mod VolumeLemmas

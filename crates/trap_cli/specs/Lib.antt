@@ -1,2 +1,6 @@
 pub mod Counts
 pub mod Files
+pub mod Touching
+pub mod Store
+pub mod PlainVolume
+pub mod Session

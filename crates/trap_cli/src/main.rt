@@ -1,7 +1,10 @@
 //! The program.
 #![tactic(auto)]
 
+mod blocks;
 mod edge;
+mod outcome;
+mod session;
 
 use edge::{FileBank, StdinSource};
 use std::process::ExitCode;

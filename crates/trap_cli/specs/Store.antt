@@ -1,0 +1,59 @@
+-- A store of states on disks, and what one line does to it and to the port.
+use Rattle.std.specs.Prelude.{◌≡◌, ℕ, ◌++◌, Bool, true, false, Result, Ok, Err}
+use Rattle.trap_bank.specs.Faults.{Rose}
+use Rattle.trap_bank.specs.Disks.{Contents, Disks, View}
+use Rattle.trap_bank.specs.Calls.{SaysPart}
+use Rattle.trap_model.specs.Machine.{Machine}
+use Rattle.trap_model.specs.declared.request.Request.{Request}
+use Rattle.trap_script.specs.Lines.{goes_on}
+use Rattle.trap_script.specs.Replies.{reply_text}
+use Rattle.trap_cli.specs.declared.outcome.Next.{Next}
+use Rattle.trap_cli.specs.declared.outcome.Next.TheVariants.{More, Quit}
+use Rattle.trap_cli.specs.declared.outcome.Fault.{Fault}
+use Rattle.trap_cli.specs.declared.outcome.Fault.TheVariants.{Disk, Port}
+
+-- a machine whose states stand on disks
+pub record Store (S : Type 0) : Type 1 where
+  pub machine : Machine S
+  -- the size of a block in bytes
+  pub block : ℕ
+  -- the disks hold the state
+  pub holds : Disks → S → Type 0
+  -- what the disks hold after one of them failed in the request
+  pub torn : Disks → S → Request → Type 0
+
+-- the reply was said, and the disks hold the state after the request
+pub record Replied {S : Type 0} (store : Store S) (s : S) (asked : Request) (old new : Contents) : Type 0 where
+  pub more : goes_on asked ≡ true
+  pub said : new.said ≡ old.said ++ reply_text (store.machine.reply s asked)
+  pub holds : store.holds new.disks (store.machine.next s asked)
+
+-- the port failed in the reply; the disks hold the state after the request
+pub record CutShort {S : Type 0} (store : Store S) (s : S) (asked : Request) (old new : Contents) : Type 0 where
+  pub more : goes_on asked ≡ true
+  pub part : SaysPart (reply_text (store.machine.reply s asked)) old new
+  pub holds : store.holds new.disks (store.machine.next s asked)
+
+-- a disk failed in the request, and nothing was said
+pub record Struck {S : Type 0} (store : Store S) (s : S) (asked : Request) (old new : Contents) : Type 0 where
+  pub more : goes_on asked ≡ true
+  pub said : new.said ≡ old.said
+  pub torn : store.torn new.disks s asked
+
+-- the request ends the session, and nothing was done
+pub record LeftAlone {S : Type 0} (store : Store S) (s : S) (asked : Request) (old new : Contents) : Type 0 where
+  pub ends : goes_on asked ≡ false
+  pub said : new.said ≡ old.said
+  pub holds : store.holds new.disks s
+
+-- what one line does, by its answer
+abbrev pub Served : {S : Type 0} → Store S → Result Next Fault → S → Request → Contents → Contents → Type 0
+Served store (Ok More) s asked old new = Replied store s asked old new
+Served store (Ok Quit) s asked old new = LeftAlone store s asked old new
+Served store (Err Disk) s asked old new = Struck store s asked old new
+Served store (Err Port) s asked old new = CutShort store s asked old new
+
+-- the count of what failed rose
+abbrev pub HasRisen : Fault → View → View → Type 0
+HasRisen Disk old new = Rose (old.faults 0) (new.faults 0)
+HasRisen Port old new = Rose old.port_faults new.port_faults
