@@ -1,3 +1,12 @@
 pub mod ZeroRuns
 pub mod Splits
 pub mod LogRecords
+pub mod SameBytes
+pub mod RunLemmas
+pub mod Images
+pub mod Histories
+pub mod Validity
+pub mod Dropping
+pub mod Adding
+pub mod KeptValid
+pub mod CodeOf

@@ -12,7 +12,7 @@ pub record Split (bytes : List ℕ) : Type 0 where
   pub meant : bytes ≡ flat_map contents segments
 
 -- one nonzero byte is a literal
-one-literal : (n : ℕ) → IsLiteral (suc n ∷ [])
+pub one-literal : (n : ℕ) → IsLiteral (suc n ∷ [])
 one-literal n = record {
   begins = omega arith;
   ends = omega arith;
@@ -20,10 +20,10 @@ one-literal n = record {
 }
 
 -- a nonzero byte, zero bytes and a literal
-abbrev joined : ℕ → ℕ → List ℕ → List ℕ
+abbrev pub joined : ℕ → ℕ → List ℕ → List ℕ
 joined n zeros literal = suc n ∷ (replicate zeros 0 ++ literal)
 
-length-joined : (n zeros : ℕ) (literal : List ℕ) → length (joined n zeros literal) ≡ suc (zeros + length literal)
+pub length-joined : (n zeros : ℕ) (literal : List ℕ) → length (joined n zeros literal) ≡ suc (zeros + length literal)
 length-joined n zeros literal =
     let front = length-replicate {A = ℕ} zeros 0 in
     let len = length-append (replicate {A = ℕ} zeros 0) literal in
@@ -55,7 +55,7 @@ joined-apart n zeros literal few is (suc p) run = ⊎_elim
     (cases_lt zeros p)
 
 -- a nonzero byte, fewer than four zero bytes and a literal are a literal
-joined-literal : (n zeros : ℕ) (literal : List ℕ) → zeros < 4 → IsLiteral literal → IsLiteral (joined n zeros literal)
+pub joined-literal : (n zeros : ℕ) (literal : List ℕ) → zeros < 4 → IsLiteral literal → IsLiteral (joined n zeros literal)
 joined-literal n zeros literal few is = record {
   begins = omega arith;
   ends =

@@ -3,7 +3,7 @@ use Rattle.std.specs.Prelude.{◌≡◌, ℕ, ◌+◌, ◌^◌, List, [], ◌∷
 use Rattle.trap_model.specs.Machine.{Machine}
 use Rattle.trap_model.specs.Image.{volume, block_of}
 use Rattle.trap_model.specs.State.{last, last_time, time_at, image, image_at, image_by, above, kept}
-use Rattle.trap_model.specs.Size.{size_of}
+use Rattle.trap_model.specs.Size.{entry_size}
 use Rattle.trap_model.specs.declared.numbers.Geometry.{Geometry}
 use Rattle.trap_model.specs.declared.history.Entry.{Entry}
 use Rattle.trap_model.specs.declared.history.State.{State}
@@ -25,7 +25,7 @@ entry_of g s time block bytes = record { time = time; block = block; bytes = byt
 -- whether there is no room for a further entry: they are as many as may be, or its record doesn't fit into the ring
 abbrev pub full : Geometry → State → Entry → Bool
 full g s entry =
-    (length s.entries == g.entries) || nat_lt g.ring (kept s + size_of (block_of (image s) entry.block) entry)
+    (length s.entries == g.entries) || nat_lt g.ring (kept s + entry_size (block_of (image s) entry.block) entry)
 
 -- why a write to a block of the array is refused, where it is
 abbrev pub write_refusal : Geometry → State → Entry → Option Refusal

@@ -1,5 +1,5 @@
 -- Replies that were given.
-use Rattle.std.specs.Prelude.{ℕ, zero, suc, List, [], ◌∷◌, length, drop, nat_eq, if◌then◌else◌}
+use Rattle.std.specs.Prelude.{ℕ, suc, List, [], ◌∷◌, length, drop, nat_eq, if◌then◌else◌}
 use Rattle.std.specs.List.{starts_with}
 
 -- how many of these texts, one after the other, begin the bytes: the greatest number of them

@@ -7,18 +7,18 @@ use Rattle.trap_model.specs.declared.history.Entry.{Entry}
 abbrev pub volume : Geometry → ℕ
 volume g = g.rows * (g.members - 1)
 
+-- the block of an image with this number
+abbrev pub block_of : List (List ℕ) → ℕ → List ℕ
+block_of image number = slice_index_or image number []
+
 -- an image has a block of the array's size for each number below the volume
 pub record IsImage (g : Geometry) (image : List (List ℕ)) : Type 0 where
   pub long : length image ≡ volume g
-  pub sized : (b : ℕ) → b < volume g → length (slice_index_or image b []) ≡ g.block
+  pub sized : (number : ℕ) → number < volume g → length (block_of image number) ≡ g.block
 
 -- zero blocks
 abbrev pub zero_image : Geometry → List (List ℕ)
 zero_image g = replicate (volume g) (replicate g.block 0)
-
--- the block of an image with this number
-abbrev pub block_of : List (List ℕ) → ℕ → List ℕ
-block_of image block = slice_index_or image block []
 
 -- the image with the entry's bytes as its block
 abbrev pub written : List (List ℕ) → Entry → List (List ℕ)

@@ -6,5 +6,7 @@ pub mod ZeroRun
 pub mod LogRecord
 pub mod Image
 pub mod Size
+pub mod Runs
 pub mod State
 pub mod ArrayStep
+pub mod PlainArray

@@ -1,11 +1,10 @@
 -- The state of a volume of eight blocks and a number, and what a request does to it.
-use Rattle.std.specs.Prelude.{◌≡◌, ℕ, zero, suc, ◌+◌, List, [], ◌∷◌, length, replicate, get_or, set, map, flat_map, Bool, IsTrue, nat_lt, if◌then◌else◌}
+use Rattle.std.specs.Prelude.{◌≡◌, ℕ, ◌+◌, List, [], length, replicate, get_or, set, flat_map, IsTrue, nat_lt, if◌then◌else◌}
 use Rattle.trap_model.specs.Machine.{Machine}
 use Rattle.trap_model.specs.declared.request.Request.{Request}
 use Rattle.trap_model.specs.declared.request.Request.TheVariants.{Write, Read, At, By, Info, Keep, Quit, Bad}
 use Rattle.trap_model.specs.declared.request.Reply.{Reply}
 use Rattle.trap_model.specs.declared.request.Reply.TheVariants.{Kept, Is, No, Silent}
-use Rattle.trap_model.specs.declared.request.Refusal.{Refusal}
 use Rattle.trap_model.specs.declared.request.Refusal.TheVariants.{NoLine, NoBlock}
 
 -- how many blocks the plain volume has, and how many bytes each block has

@@ -68,3 +68,7 @@ pub record IsValid (g : Geometry) (s : State) : Type 0 where
   pub last_most : last s ≤ 2 ^ 40
   pub few : length s.entries ≤ g.entries
   pub fits : kept s ≤ g.ring
+
+-- an array of some numbers can stand for it
+abbrev pub IsSound : State → Type 0
+IsSound s = (g : Geometry) × IsValid g s

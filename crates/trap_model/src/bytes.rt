@@ -1,9 +1,8 @@
 //! The contents of a block.
 
-ghost use Rattle.std.specs.Prelude.{◌≡◌, IfOk};
+ghost use Rattle.std.specs.Prelude.{◌≡◌, replicate, length, IfOk};
 
-use std::alloc::AllocError as OutOfMemory;
-use std::alloc::Global;
+use std::alloc::{AllocError as OutOfMemory, Global};
 use std::marker::Model;
 
 /// The contents of a block. A contract sees the list of its bytes.
@@ -28,6 +27,15 @@ impl Block {
         let mut copy = Vec::with_capacity(alloc, bytes.len())?;
         copy.extend_from_slice(bytes)?;
         Ok(Block { bytes: copy })
+    }
+
+    /// A block of zero bytes.
+    pub(crate) fn zeros(alloc: Global, size: usize) -> Result<Block, OutOfMemory>
+        ensures { IfOk result (λ block. block ≡ replicate size 0) }
+    {
+        Ok(Block {
+            bytes: vec![in alloc; 0; size]?,
+        })
     }
 
     /// The bytes.

@@ -1,34 +1,21 @@
-//! Images, entries, and the state of an array.
+//! Entries, and the state of an array.
 
-ghost use Rattle.std.specs.Prelude.{◌≡◌, ◌<◌, [], length, slice_index_or};
+ghost use Rattle.std.specs.Prelude.{◌≡◌, ◌<◌, [], ◌∷◌, ◌++◌, length, OnOk, OnErr};
 
-use crate::Block;
+use crate::{Block, Image};
+use std::alloc::{AllocError as OutOfMemory, Global};
 use std::marker::Model;
-
-/// An image of a volume. A contract sees the list of its blocks.
-#[derive(Debug, Drop)]
-pub struct Image {
-    blocks: Vec<Block>,
-}
-
-impl Model for Image {
-    ghost use Rattle.std.specs.Prelude.{ℕ, List};
-
-    ghost Value = { List (List ℕ) };
-
-    ghost view = { λ image. image.blocks.items };
-}
 
 /// A write that was kept.
 #[derive(Debug, Drop)]
 pub struct Entry {
-    /// When it was written; any number, never below that of the entry before.
+    /// When it was written: any number, never below that of the entry before.
     pub time: u64,
     /// Which block, below the volume.
     pub block: u32,
     /// The block's new contents.
     pub bytes: Block,
-    /// Whether it is marked: its record holds the new contents too.
+    /// Whether it is marked: its record then holds the new contents too.
     pub snap: bool,
 }
 
@@ -52,10 +39,45 @@ impl Model for Entries {
 pub struct State {
     /// How many entries were dropped.
     pub first: u64,
-    /// The time of the last dropped entry, or 0.
+    /// The time of the last dropped entry, 0 where none was dropped.
     pub base_time: u64,
     /// The image before the first entry.
     pub base: Image,
     /// The retained entries.
     pub entries: Entries,
+}
+
+impl Entries {
+    /// None.
+    pub(crate) fn new(alloc: Global) -> Entries
+        ensures { result ≡ [] }
+    {
+        Entries {
+            items: Vec::new(alloc),
+        }
+    }
+
+    /// All of them.
+    pub(crate) fn as_slice(&self) -> &[Entry]
+        ensures { result.now ≡ self.now }
+    {
+        self.items.as_slice()
+    }
+
+    /// Adds an entry at the end.
+    pub(crate) fn push(&mut self, entry: Entry) -> Result<(), OutOfMemory>
+        ensures ok { OnOk result (self.new ≡ self.old ++ entry ∷ []) }
+        ensures err { OnErr result (self.new ≡ self.old) }
+    {
+        self.items.push(entry)?;
+        Ok(())
+    }
+
+    /// Takes the oldest entry.
+    pub(crate) fn pop_front(&mut self) -> Entry
+        requires { 0 < length self.old }
+        ensures { self.old ≡ result ∷ self.new }
+    {
+        self.items.remove(0)
+    }
 }

@@ -1,17 +1,27 @@
 //! The model of the array: what a volume is, what may be asked of it, and what a request does.
 #![tactic(auto)]
 
+pub mod array_laws;
 mod asked;
 mod bytes;
+mod code;
+mod entry_size;
+mod history;
+mod image;
+mod instants;
+mod keeping;
 pub mod laws;
 mod log_record;
-mod history;
 mod numbers;
+mod plain;
+mod refusing;
 mod request;
 
 pub use asked::Asked;
 pub use bytes::Block;
+pub use history::{Entries, Entry, State};
+pub use image::Image;
 pub use log_record::LogRec;
-pub use history::{Entries, Entry, Image, State};
 pub use numbers::Geometry;
+pub use plain::Plain;
 pub use request::{Refusal, Reply, Request};

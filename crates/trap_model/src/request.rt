@@ -46,13 +46,24 @@ pub enum Refusal {
 #[derive(Debug, Drop)]
 pub enum Reply {
     /// The write has this number, or entries up to this number are dropped.
-    Kept { seq: u64 },
+    Kept {
+        seq: u64,
+    },
     /// Present contents.
-    Is { bytes: Block },
+    Is {
+        bytes: Block,
+    },
     /// Contents at an instant.
-    At { bytes: Block },
+    At {
+        bytes: Block,
+    },
     /// The numbers of the history.
-    Span { first: u64, last: u64, base_time: u64, last_time: u64 },
+    Span {
+        first: u64,
+        last: u64,
+        base_time: u64,
+        last_time: u64,
+    },
     /// The request is refused.
     No(Refusal),
     /// No reply.

@@ -1,0 +1,6 @@
+use Rattle.std.proofs.Common.{◌≡◌, take}
+use Rattle.trap_model.specs.Image.{block_of, image_after}
+use Rattle.trap_model.proofs.history.State.block_after.Given as goal
+
+abbrev pub invariant-loop-entry : goal.invariant-loop-entry
+invariant-loop-entry l = l.found ≡ block_of (image_after l.self.base (take l.entry-index l.entry-items)) l.number
