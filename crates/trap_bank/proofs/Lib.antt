@@ -8,3 +8,6 @@ pub mod MemoryCalls
 pub mod MemoryWrites
 pub mod MemorySyncs
 pub mod MemoryMakes
+pub mod Drawing
+pub mod CrashedRanges
+pub mod CrashedDisks

@@ -117,7 +117,7 @@ agree_everywhere to from ranges same agree =
     ext_get_or 0 to from same (λ i below. agree i (λ h. subst (λ (rs : List Range). InRanges rs i) none_left h))
 
 -- a list with more behind it, cut to its length
-pub cut_to_length : (xs ys : List ℕ) (n : ℕ) → length xs ≡ n → take n (xs ++ ys) ≡ xs
+pub cut_to_length : {A : Type 0} (xs ys : List A) (n : ℕ) → length xs ≡ n → take n (xs ++ ys) ≡ xs
 cut_to_length xs ys n long = subst (λ (k : ℕ). take k (xs ++ ys) ≡ xs) long (take-append_seam xs ys)
 
 pub length-copied : (to from : List ℕ) (range : Range) → length to ≡ length from → range.at + range.len ≤ length from

@@ -11,3 +11,5 @@ pub mod Kept
 pub mod Record
 pub mod Memory
 pub mod Struck
+pub mod Draws
+pub mod Crash

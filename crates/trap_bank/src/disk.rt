@@ -46,9 +46,9 @@ impl Model for Bytes {
 /// The bytes as a read gives them, as the last sync left them, and the ranges written since.
 #[derive(Debug, Drop)]
 pub(crate) struct Disk {
-    bytes: Vec<u8>,
-    stable: Vec<u8>,
-    ranges: Ranges,
+    pub(crate) bytes: Vec<u8>,
+    pub(crate) stable: Vec<u8>,
+    pub(crate) ranges: Ranges,
 }
 
 impl Model for Disk {
@@ -131,6 +131,12 @@ impl Ranges {
         &self.items
     }
 
+    pub(crate) fn clear(&mut self)
+        ensures { self.new ≡ [] }
+    {
+        self.items.clear();
+    }
+
     fn push(&mut self, range: Range) -> Result<(), AllocError>
         ensures ok { OnOk result (self.new ≡ self.old ++ range ∷ []) }
         ensures err { OnErr result (self.new ≡ self.old) }
@@ -157,7 +163,7 @@ fn overwrite(bytes: &mut [u8], at: usize, fresh: &[u8])
 }
 
 /// Copies these ranges, outside of which both have the same bytes.
-fn copy_ranges(to: &mut [u8], from: &[u8], ranges: &[Range])
+pub(crate) fn copy_ranges(to: &mut [u8], from: &[u8], ranges: &[Range])
     requires same { length to.old ≡ length from.now }
     requires inside { All (λ range. range.at + range.len ≤ length from.now) ranges.now }
     requires agree { AgreeOutside ranges.now to.old from.now }

@@ -2,8 +2,10 @@
 #![tactic(auto)]
 
 mod chosen;
+mod crashing;
 mod disk;
 mod disks;
+mod draws;
 mod input;
 mod listed;
 mod memory;
