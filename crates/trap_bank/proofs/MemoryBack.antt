@@ -9,7 +9,8 @@ use Rattle.trap_bank.specs.declared.record.Change.TheVariants.{Made, Written, Sy
 use Rattle.trap_bank.specs.Disks.{bytes_of}
 use Rattle.trap_bank.specs.Kept.{Kept, overlaid, written_disk, settled_disk, zero_disk}
 use Rattle.trap_bank.specs.Record.{State, before, bytes_kept, ranges_kept, with_disk, option_overlaid}
-use Rattle.trap_bank.specs.Memory.{Memory, disk_at, state_of, option_written, option_settled, option_range}
+use Rattle.trap_bank.specs.Memory.{Memory, disk_at, state_of}
+use Rattle.trap_bank.specs.MemorySteps.{option_written, option_settled, option_range}
 use Rattle.trap_bank.proofs.Ranges.{length-overlaid, overlaid-outside, copied_within, apart_before}
 use Rattle.trap_bank.proofs.MemoryTime.{changed}
 

@@ -11,7 +11,8 @@ use Rattle.trap_bank.specs.Calls.{Fits, Goes, Elapses, MayLeave, LeftOver, LeftS
 use Rattle.trap_bank.specs.Counts.{one_more, with_raised}
 use Rattle.trap_bank.specs.Kept.{Kept, InRanges, overlaid, zero_disk}
 use Rattle.trap_bank.specs.Record.{State, still, area_of, contents_of, InCall, bytes_kept, ranges_kept}
-use Rattle.trap_bank.specs.Memory.{Memory, IsSound, IsStruck, IsWorn, disk_at, state_of, view_of, option_written, option_settled, option_range}
+use Rattle.trap_bank.specs.Memory.{Memory, IsSound, disk_at, state_of, view_of}
+use Rattle.trap_bank.specs.MemorySteps.{IsStruck, IsWorn, option_written, option_settled, option_range}
 use Rattle.trap_bank.proofs.Ranges.{length-overlaid, overlaid-outside, overlaid_there, in_split}
 use Rattle.trap_bank.proofs.MemoryTime.{recounted, changed, goes, idle, recorded, raised, none_falls}
 use Rattle.trap_bank.proofs.MemoryBack.{set_tells, not_seen, settled_bytes, back_from_write, back_from_sync, back_from_make, back_from_say}

@@ -7,7 +7,8 @@ use Rattle.trap_bank.specs.Disks.{Disks, Contents, Differs, Torn, bytes_of, size
 use Rattle.trap_bank.specs.Calls.{Goes, Elapses, MayLeave, LeftOver, LeftSaying, SaysPart, Syncs, Says}
 use Rattle.trap_bank.specs.Kept.{Kept, InRanges}
 use Rattle.trap_bank.specs.Record.{State, still, area_of, contents_of, InCall, bytes_kept, ranges_kept}
-use Rattle.trap_bank.specs.Memory.{Memory, IsSound, disk_at, state_of, view_of, option_settled, as_shown}
+use Rattle.trap_bank.specs.Memory.{Memory, IsSound, disk_at, state_of, view_of, as_shown}
+use Rattle.trap_bank.specs.MemorySteps.{option_settled}
 use Rattle.trap_bank.proofs.MemoryTime.{changed, goes, recorded}
 use Rattle.trap_bank.proofs.MemoryBack.{set_tells, not_seen, settled_bytes, back_from_sync, back_from_say}
 use Rattle.trap_bank.proofs.MemoryCalls.{on_disk}

@@ -9,7 +9,8 @@ use Rattle.trap_bank.specs.Calls.{Goes, Elapses, MayLeave}
 use Rattle.trap_bank.specs.Counts.{one_more}
 use Rattle.trap_bank.specs.Kept.{Kept}
 use Rattle.trap_bank.specs.Record.{State, before, still, InCall, InCalls, BeganBefore}
-use Rattle.trap_bank.specs.Memory.{Memory, IsSound, state_of, view_of, blamed}
+use Rattle.trap_bank.specs.Memory.{Memory, IsSound, state_of, view_of}
+use Rattle.trap_bank.specs.MemorySteps.{blamed}
 
 -- the same bank with other counts
 abbrev pub recounted : Memory → ℕ → List ℕ → ℕ → ℕ → Memory

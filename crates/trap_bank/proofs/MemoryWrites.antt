@@ -9,7 +9,8 @@ use Rattle.trap_bank.specs.Disks.{Disks, Contents, Within, Either, Differs, Torn
 use Rattle.trap_bank.specs.Calls.{Fits, Goes, Elapses, MayLeave, LeftOver, Writes}
 use Rattle.trap_bank.specs.Kept.{Kept, InRanges, overlaid}
 use Rattle.trap_bank.specs.Record.{State, still, area_of, contents_of, InCall, bytes_kept, ranges_kept}
-use Rattle.trap_bank.specs.Memory.{Memory, IsSound, disk_at, state_of, view_of, option_written, option_range}
+use Rattle.trap_bank.specs.Memory.{Memory, IsSound, disk_at, state_of, view_of}
+use Rattle.trap_bank.specs.MemorySteps.{option_written, option_range}
 use Rattle.trap_bank.proofs.Ranges.{length-overlaid, overlaid-outside, overlaid_there, in_split}
 use Rattle.trap_bank.proofs.MemoryTime.{changed, goes, recorded}
 use Rattle.trap_bank.proofs.MemoryBack.{set_tells, back_from_write}

@@ -10,6 +10,8 @@ pub mod MemoryInput
 pub mod Kept
 pub mod Record
 pub mod Memory
+pub mod MemoryFields
+pub mod MemorySteps
 pub mod Struck
 pub mod Draws
 pub mod Crash

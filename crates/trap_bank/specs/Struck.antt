@@ -1,6 +1,7 @@
 -- When a call of a bank in memory fails, and what then becomes of the bank.
 use Rattle.std.specs.Prelude.{◌≡◌, ◌⊎◌, ◌↔◌, ℕ, ◌+◌, ◌<◌, List, Result, IsErr, MatchResult, OnErr}
-use Rattle.trap_bank.specs.Memory.{Memory, IsStruck, IsWorn, written}
+use Rattle.trap_bank.specs.Memory.{Memory}
+use Rattle.trap_bank.specs.MemorySteps.{IsStruck, IsWorn, written}
 use Rattle.trap_bank.specs.Counts.{one_more, with_raised}
 
 -- The call fails exactly where it is to fail, or where it found no memory. What is to fail stays the same, and one more

@@ -2,7 +2,8 @@
 
 ghost use Rattle.std.specs.Prelude.{◌≡◌, ◌↔◌, ◌+◌, ◌-◌, ◌<◌, ◌≤◌, ◌^◌, ◌∷◌, IfOk, IsTrue, MatchOption, OnErr, OnOk, length, take};
 ghost use Rattle.trap_bank.specs.Calls.{Fits};
-ghost use Rattle.trap_bank.specs.Memory.{view_of, disk_at, no_disks, IsWorn, IsStruck, passed, starved, blamed, port_blamed, written, synced, made, spoken};
+ghost use Rattle.trap_bank.specs.Memory.{view_of, disk_at, no_disks};
+ghost use Rattle.trap_bank.specs.MemorySteps.{IsWorn, IsStruck, passed, found_no_memory, blamed, port_blamed, written, synced, made, spoken};
 ghost use Rattle.trap_bank.specs.Record.{bytes_kept};
 
 use crate::Failed;
@@ -33,14 +34,15 @@ pub struct MemoryBank {
 }
 
 impl Model for MemoryBank {
-    ghost use Rattle.std.specs.Prelude.{reverse};
-    ghost use Rattle.trap_bank.specs.Memory.{Memory, IsMemory};
+    ghost use Rattle.trap_bank.specs.Memory.{Memory};
 
     ghost Value = { Memory };
 
-    ghost view = { λ bank. record { disks = bank.disks.items; said = bank.said.items; past = reverse bank.past.items; since = bank.since; moment = bank.moment; faults = bank.faults; port_faults = bank.port_faults; starved = bank.starved; chosen = bank.chosen.numbers; fuse = bank.fuse } };
+    ghost use Rattle.trap_bank.specs.MemoryFields.{memory_of, IsKeptRight};
 
-    ghost invariant = { λ bank. IsMemory (record { disks = bank.disks.items; said = bank.said.items; past = reverse bank.past.items; since = bank.since; moment = bank.moment; faults = bank.faults; port_faults = bank.port_faults; starved = bank.starved; chosen = bank.chosen.numbers; fuse = bank.fuse }) };
+    ghost view = { memory_of };
+
+    ghost invariant = { IsKeptRight };
 }
 
 impl MemoryBank {

@@ -4,7 +4,8 @@ ghost use Rattle.std.specs.Prelude.{◌≡◌, ◌↔◌, ◌+◌, ◌<◌, ◌�
 ghost use Rattle.trap_bank.specs.declared.record.Entry.{Entry};
 ghost use Rattle.trap_bank.specs.Calls.{Fits};
 ghost use Rattle.trap_bank.specs.Disks.{region};
-ghost use Rattle.trap_bank.specs.Memory.{view_of, IsWorn, IsStruck, IsBurnt, IsSound, passed, starved, blamed, port_blamed, written, synced, made, spoken};
+ghost use Rattle.trap_bank.specs.Memory.{view_of, IsSound};
+ghost use Rattle.trap_bank.specs.MemorySteps.{IsWorn, IsStruck, IsBurnt, passed, found_no_memory, blamed, port_blamed, written, synced, made, spoken};
 
 use crate::disk::Disk;
 use crate::record::{Change, Entry};
@@ -46,7 +47,7 @@ impl MemoryBank {
     /// A call found no memory.
     pub(crate) fn starve(&mut self)
         requires { IsWorn self.old → ⊥ }
-        ensures { self.new ≡ starved self.old }
+        ensures { self.new ≡ found_no_memory self.old }
     {
         self.moment += 1;
         self.starved += 1;

@@ -2,7 +2,8 @@ use Rattle.std.proofs.Common.{◌≡◌, ℕ, ◌+◌, ap, subst, sym, ◌∙◌
 use Rattle.trap_bank.specs.declared.disks.Failed.{Failed}
 use Rattle.trap_bank.specs.Calls.{Reads}
 use Rattle.trap_bank.specs.Counts.{one_more}
-use Rattle.trap_bank.specs.Memory.{Memory, passed, blamed, view_of}
+use Rattle.trap_bank.specs.Memory.{Memory, view_of}
+use Rattle.trap_bank.specs.MemorySteps.{passed, blamed}
 use Rattle.trap_bank.proofs.MemoryCalls.{fails_reading, reads, has_a_number}
 use Rattle.trap_bank.proofs.memory_calls.MemoryBankBank.read.Goals as goal
 

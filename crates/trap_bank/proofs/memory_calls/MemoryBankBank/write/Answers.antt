@@ -1,7 +1,8 @@
 use Rattle.std.proofs.Common.{◌≡◌, ℕ, ◌+◌, ap, subst, sym, ◌∙◌, refl, arith, le_refl, Err, Ok}
 use Rattle.trap_bank.specs.declared.disks.Failed.{Failed}
 use Rattle.trap_bank.specs.Calls.{Writes}
-use Rattle.trap_bank.specs.Memory.{Memory, starved, blamed, written, view_of}
+use Rattle.trap_bank.specs.Memory.{Memory, view_of}
+use Rattle.trap_bank.specs.MemorySteps.{found_no_memory, blamed, written}
 use Rattle.trap_bank.specs.Counts.{one_more, with_raised}
 use Rattle.trap_bank.proofs.MemoryTime.{raised, none_falls}
 use Rattle.trap_bank.proofs.MemoryCalls.{on_disk, counted, fits_bytes, fails_writing, not_used_up, used_up}
@@ -36,7 +37,7 @@ returns-else-struck-clause-call c =
 pub returns-in-Err-clause-call : goal.returns-in-Err-clause-call
 returns-in-Err-clause-call c =
     let m : Memory = c.args.self.now in
-    let new : c.blame-in-Err.new.self ≡ blamed (starved m) c.args.d =
-    c.blame-in-Err.ensures ∙ ap (λ (n : Memory). blamed n c.args.d) (c.starve.ensures ∙ ap starved c.in-Err.ensures.err) in
+    let new : c.blame-in-Err.new.self ≡ blamed (found_no_memory m) c.args.d =
+    c.blame-in-Err.ensures ∙ ap (λ (n : Memory). blamed n c.args.d) (c.starve.ensures ∙ ap found_no_memory c.in-Err.ensures.err) in
     subst (λ (n : Memory). Writes {T = Unit {0}} {E = Failed} c.args.d c.args.at c.args.bytes.now (Err c.blame-in-Err.result) (view_of m) (view_of n)) (sym new)
     (fails_writing c.blame-in-Err.result m c.args.d c.args.at c.args.bytes.now (one_more m.moment) (m.starved + 1) c.is_worn.ensures.sound c.requires.disk refl)
