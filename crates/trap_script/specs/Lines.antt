@@ -43,7 +43,8 @@ write_request (Some time) None bytes = Bad
 write_request None block bytes = Bad
 
 abbrev pub write_form : ℕ → List (List ℕ) → Request
-write_form size (time ∷ block ∷ hex ∷ []) = write_request (number_of time) (number_of block) (decode_sized hex size)
+write_form size (time ∷ block ∷ hex ∷ []) =
+    write_request (number_of time) (number_of block) (decode_sized hex size)
 write_form size [] = Bad
 write_form size (time ∷ []) = Bad
 write_form size (time ∷ block ∷ []) = Bad

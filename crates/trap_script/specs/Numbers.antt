@@ -6,7 +6,8 @@ use Rattle.std.specs.Str.Parse.{digits_value}
 -- one to twenty bytes, and no leading zero other than `0` itself
 abbrev pub has_shape : List ℕ → Bool
 has_shape text =
-    nat_le 1 (length text) && nat_le (length text) 20 && (not (slice_index text 0 == 48) || length text == 1)
+    nat_le 1 (length text) && nat_le (length text) 20
+    && (not (slice_index text 0 == 48) || length text == 1)
 
 -- the number that a text is, if it is one below 2 ^ 64 in decimal digits
 abbrev pub number_of : List ℕ → Option ℕ

@@ -8,6 +8,7 @@ use Rattle.trap_model.specs.declared.request.Reply.TheVariants.{Kept, Is, At, Sp
 use Rattle.trap_script.specs.declared.answers.Answer.{Answer}
 use Rattle.trap_script.specs.declared.answers.Answer.TheVariants as answer
 
+-- a refusal without its line feed
 abbrev pub refusal_words : Refusal → List ℕ
 refusal_words NoLine = codes "no line"
 refusal_words NoBlock = codes "no block"
@@ -17,9 +18,11 @@ refusal_words Full = codes "no full"
 refusal_words (NotKept bound) = codes "no kept " ++ decimal bound
 refusal_words (Ahead last) = codes "no ahead " ++ decimal last
 
+-- the numbers of the history without their line feed
 abbrev pub span_words : ℕ → ℕ → ℕ → ℕ → List ℕ
 span_words first last base_time last_time =
-    codes "is " ++ decimal first ++ codes " " ++ decimal last ++ codes " " ++ decimal base_time ++ codes " " ++ decimal last_time
+    codes "is " ++ decimal first ++ codes " " ++ decimal last
+    ++ codes " " ++ decimal base_time ++ codes " " ++ decimal last_time
 
 -- a reply without its line feed
 abbrev pub reply_words : Reply → List ℕ
@@ -35,7 +38,8 @@ abbrev pub reply_text : Reply → List ℕ
 reply_text (Kept seq) = reply_words (Kept seq) ++ codes "\n"
 reply_text (Is bytes) = reply_words (Is bytes) ++ codes "\n"
 reply_text (At bytes) = reply_words (At bytes) ++ codes "\n"
-reply_text (Span first last base_time last_time) = reply_words (Span first last base_time last_time) ++ codes "\n"
+reply_text (Span first last base_time last_time) =
+    reply_words (Span first last base_time last_time) ++ codes "\n"
 reply_text (No refusal) = reply_words (No refusal) ++ codes "\n"
 reply_text Silent = []
 

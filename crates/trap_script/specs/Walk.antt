@@ -37,26 +37,26 @@ first_texts m s requests j = flat_map (λ text. text) (take j (reply_texts m s r
 abbrev pub all_texts : {S : Type 0} → Machine S → S → List Request → List ℕ
 all_texts m s requests = flat_map (λ text. text) (reply_texts m s requests)
 
--- Below, a store holds states, and bytes are said on a port: the list of all that was said before, and of
--- all that is said now.
+-- Below, a store holds states, and bytes are said on a port: the list of all that was said before,
+-- and of all that is said now.
 
 -- the first j replies were said, and the store holds the state after their requests
-pub record Answered {S : Type 0} (m : Machine S) (Holds : S → Type 0) (s : S) (requests : List Request) (j : ℕ)
-    (before now : List ℕ) : Type 0 where
+pub record Answered {S : Type 0} (m : Machine S) (Holds : S → Type 0) (s : S)
+    (requests : List Request) (j : ℕ) (before now : List ℕ) : Type 0 where
   pub within : j ≤ length requests
   pub said : now ≡ before ++ first_texts m s requests j
   pub holds : Holds (state_after m s requests j)
 
 -- every reply was said, and the store holds the last state
-pub record AnsweredAll {S : Type 0} (m : Machine S) (Holds : S → Type 0) (s : S) (requests : List Request)
-    (before now : List ℕ) : Type 0 where
+pub record AnsweredAll {S : Type 0} (m : Machine S) (Holds : S → Type 0) (s : S)
+    (requests : List Request) (before now : List ℕ) : Type 0 where
   pub said : now ≡ before ++ all_texts m s requests
   pub holds : Holds (last_state m s requests)
 
--- a front of the replies was said, and the store holds the state after the requests whose replies were given,
--- or after one more
-pub record AnsweredPart {S : Type 0} (m : Machine S) (Holds : S → Type 0) (s : S) (requests : List Request)
-    (before now : List ℕ) : Type 0 where
+-- a front of the replies was said, and the store holds the state after the requests whose replies
+-- were given, or after one more
+pub record AnsweredPart {S : Type 0} (m : Machine S) (Holds : S → Type 0) (s : S)
+    (requests : List Request) (before now : List ℕ) : Type 0 where
   pub part : List ℕ
   pub rest : List ℕ
   pub said : now ≡ before ++ part

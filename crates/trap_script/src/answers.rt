@@ -94,7 +94,8 @@ fn put_refusal(refusal: Refusal, out: &mut [u8]) -> usize
 fn put_span(span: Span4, out: &mut [u8]) -> usize
     requires { 86 ≤ length out.old }
     ensures end { result ≤ 86 }
-    ensures so_far { take result out.new ≡ span_words span.first span.last span.base_time span.last_time }
+    ensures so_far { take result out.new
+        ≡ span_words span.first span.last span.base_time span.last_time }
 {
     let at = put(out, 0, b"is ");
     let at = put_number(out, at, span.first);
@@ -129,8 +130,9 @@ fn put_words(answer: &Answer, out: &mut [u8]) -> usize
     }
 }
 
-/// Writes the text of an answer with its line feed at the front of `out`, and answers how long it is.
-/// `out` has room for 88 bytes and two for each byte of contents that the answer shows.
+/// Writes the text of an answer with its line feed at the front of `out`, and answers how long it
+/// is. `out` has room for 88 bytes and two for each byte of contents that the answer shows. What
+/// stands in it behind the text is not said.
 pub fn write_answer(answer: &Answer, out: &mut [u8]) -> usize
     requires { 88 + 2 * shown_len answer.now ≤ length out.old }
     ensures end { result ≤ length out.new }

@@ -8,7 +8,8 @@ ghost use Rattle.trap_script.specs.Walk.{states, state_after, replies};
 
 /// A text is a number exactly where it is the number's decimal text, and the number is below 2^64.
 pub fn numbers()
-    ensures { (text : List ℕ) (n : ℕ) → (number_of text ≡ Some n) ↔ ((n < 2 ^ 64) × (text ≡ decimal n)) }
+    ensures { (text : List ℕ) (n : ℕ)
+        → (number_of text ≡ Some n) ↔ ((n < 2 ^ 64) × (text ≡ decimal n)) }
 {}
 
 /// State number `j` of the list of states is the one after the first `j` requests, and there is one

@@ -48,7 +48,8 @@ fn is_letter(name: &[u8], letter: u8) -> bool
 
 // `Q`
 fn quit_form(rest: Option<&[u8]>) -> Line
-    ensures asked { (fresh : List ℕ) → quit_form (fields_after (option_copied rest.entry)) ≡ request_with result fresh }
+    ensures asked { (fresh : List ℕ)
+        → quit_form (fields_after (option_copied rest.entry)) ≡ request_with result fresh }
 {
     match rest {
         None => Line::Quit,
@@ -58,7 +59,8 @@ fn quit_form(rest: Option<&[u8]>) -> Line
 
 // `R BLOCK`
 fn read_form(rest: Option<&[u8]>) -> Line
-    ensures asked { (fresh : List ℕ) → read_form (fields_after (option_copied rest.entry)) ≡ request_with result fresh }
+    ensures asked { (fresh : List ℕ)
+        → read_form (fields_after (option_copied rest.entry)) ≡ request_with result fresh }
 {
     let Some(rest) = rest else {
         return Line::Bad;
@@ -75,7 +77,8 @@ fn read_form(rest: Option<&[u8]>) -> Line
 
 // `W TIME BLOCK HEX`
 fn write_form(rest: Option<&[u8]>, fresh: &mut [u8]) -> Line
-    ensures asked { write_form (length fresh.old) (fields_after (option_copied rest.entry)) ≡ request_with result fresh.new }
+    ensures asked { write_form (length fresh.old) (fields_after (option_copied rest.entry))
+        ≡ request_with result fresh.new }
     ensures buffer { LeavesBuffer result fresh.old fresh.new }
 {
     let Some(rest) = rest else {
@@ -105,9 +108,10 @@ fn write_form(rest: Option<&[u8]>, fresh: &mut [u8]) -> Line
     }
 }
 
-/// Reads a line without its line feed; `fresh` has as many bytes as a block, at most 4096. For a write
-/// `fresh` then holds the block's new contents. After a line without a form it holds any bytes, and
-/// after every other line it is as it was. `Bad` comes exactly where the line has no form.
+/// Reads a line without its line feed; `fresh` has as many bytes as a block, at most 4096. For a
+/// write `fresh` then holds the block's new contents. After a line without a form it holds any
+/// bytes, and after every other line it is as it was. `Bad` comes exactly where the line has no
+/// form.
 pub fn read_line(line: &[u8], fresh: &mut [u8]) -> Line
     requires { length fresh.old ≤ 4096 }
     ensures request { request_of (length fresh.old) line.now ≡ request_with result fresh.new }

@@ -13,8 +13,8 @@ fn has_shape(bytes: &[u8]) -> bool
     bytes[0] != b'0' || bytes.len() == 1
 }
 
-/// A number of 1 to 20 decimal digits, at most 2^64 - 1, without a leading zero other than `0` itself.
-/// None exactly where the bytes are no such number.
+/// A number of 1 to 20 decimal digits, at most 2^64 - 1, without a leading zero other than `0`
+/// itself. None exactly where the bytes are no such number.
 pub fn read_number(bytes: &[u8]) -> Option<u64>
     ensures { result ≡ number_of bytes.now }
 {
