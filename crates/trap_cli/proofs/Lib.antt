@@ -1,3 +1,4 @@
 pub mod FilesLemmas
 pub mod TouchingLemmas
 pub mod VolumeLemmas
+pub mod Serving

@@ -1,7 +1,7 @@
 -- Images, and the disk on which they stand.
-use Rattle.std.proofs.Common.{◌≡◌, ◌≢◌, ◌⊎◌, inl, inr, ⊎_elim, ℕ, zero, suc, ◌+◌, ◌*◌, ◌-◌, ◌<◌, ◌≤◌, nat_lt, List, [], ◌∷◌, ◌++◌, length, get_or, set, take, drop, Option, Some, None, Bool, true, false, IsTrue, OnOk, OnErr, Result, Ok, Err, refl, sym, ap, subst, ◌∙◌, append-nil, take-append-drop, length-append, length-drop, arith, rules}
+use Rattle.std.proofs.Common.{◌≡◌, ◌≢◌, ◌⊎◌, inl, inr, ⊎_elim, ℕ, zero, suc, ◌+◌, ◌*◌, ◌-◌, ◌<◌, ◌≤◌, nat_lt, List, [], ◌∷◌, ◌++◌, length, get_or, set, take, drop, replicate, Option, Some, None, Bool, true, false, IsTrue, OnOk, OnErr, Result, Ok, Err, refl, sym, ap, subst, ◌∙◌, append-nil, take-append-drop, length-append, length-drop, arith, rules}
 use Rattle.std.specs.Prelude.{flat_map}
-use Rattle.std.proofs.lemmas.List.{take_all, drop-drop, get_or-set_same, get_or-set_other}
+use Rattle.std.proofs.lemmas.List.{drop-drop, get_or-replicate, get_or-set_same, get_or-set_other}
 use Rattle.std.proofs.Math.ListN.{length-set}
 use Rattle.std.proofs.Math.Seq.{drop-append_seam, drop-append-add, take-append_seam}
 use Rattle.trap_bank.specs.Disks.{Disks, View, Within, Differs, region, bytes_of, size_of}
@@ -45,8 +45,11 @@ blocks_whole (block ∷ image) bytes long each =
         ap (take 16) (drop-drop (16 * k) 16 bytes ∙ ap (λ n. drop n bytes) (omega arith)) ∙ each (suc k) (omega (arith, within))) in
     sym (take-append-drop 16 bytes) ∙ ap (λ l. l ++ drop 16 bytes) first ∙ ap (λ l. block ++ l) behind
 
-lt_true : (k n : ℕ) → k < n → IsTrue (nat_lt k n)
+pub lt_true : (k n : ℕ) → k < n → IsTrue (nat_lt k n)
 lt_true k n within = grind arith
+
+true_lt : (k n : ℕ) → IsTrue (nat_lt k n) → k < n
+true_lt k n within = grind arith
 
 module _ {image : List (List ℕ)} (shape : IsPlainImage image) where
   sizes_of : (k : ℕ) → k < length image → length (get_or image k []) ≡ 16
@@ -134,12 +137,10 @@ placed old new image block bytes within long differs there holds =
         (λ (other : k ≢ block). others.others k inside other ∙ sym (get_or-set_other image block k bytes [] other))
         (same_or_not k block)
 
-zeros_long : (k : ℕ) → IsTrue (nat_lt k plain_volume) → length (get_or plain_zeros k []) ≡ plain_block
-zeros_long k within = ?
-
 -- zeros are the zero image
 pub zeros_hold : (disks : Disks) → disks 0 ≡ Some (image_bytes plain_zeros) → PlainHolds disks plain_zeros
-zeros_hold disks zeros = record { shape = record { blocks = refl; sizes = λ k within. zeros_long k within }; disk = zeros }
+zeros_hold disks zeros = record { shape = record { blocks = refl; sizes = λ k within.
+    ap (λ (block : List ℕ). length block) (get_or-replicate plain_volume k (replicate plain_block 0) [] (true_lt k plain_volume within)) }; disk = zeros }
 
 -- What a write of a block leaves, failed or not.
 pub write_torn : {T E : Type 0} {result : Result T E} {v0 v1 : View} {image : List (List ℕ)} (block : ℕ) (bytes : List ℕ)

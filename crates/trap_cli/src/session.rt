@@ -1,6 +1,6 @@
 //! A session over the plain volume: one line and its reply.
 
-ghost use Rattle.std.specs.Prelude.{◌≡◌, ◌+◌, ◌^◌, ◌<◌, ◌≤◌, vec_len, Some, IsTrue, IfOk, IfErr, OnOk, OnErr, List, ℕ};
+ghost use Rattle.std.specs.Prelude.{◌≡◌, ◌+◌, ◌^◌, ◌<◌, ◌≤◌, length, vec_len, Some, IsTrue, IfOk, IfErr, OnOk, OnErr, List, ℕ};
 ghost use Rattle.trap_model.specs.Plain.{PlainState, next1};
 ghost use Rattle.trap_model.specs.declared.request.Request.TheVariants as request;
 ghost use Rattle.trap_script.specs.Lines.{request_of, request_with};
@@ -26,6 +26,27 @@ const REPLY_BYTES: usize = 88 + 2 * BLOCK_BYTES;
 
 /// The longest line of a session, in bytes.
 pub const LINE_BYTES: usize = 44 + 2 * BLOCK_BYTES;
+
+// Reads the block, and replies with its bytes.
+fn show_block<B: Bank>(bank: &mut B, block: u64, bytes: &mut [u8], out: &mut [u8]) -> Result<Next, Fault>
+    requires block { block < 8 }
+    requires whole { length bytes.old ≡ 16 }
+    requires room { length out.old ≡ 120 }
+    requires size { (B.view bank.old).sizes 0 ≡ Some 128 }
+    ensures served { (s : PlainState) → IsTrue (B.view bank.old).tells
+        → PlainHolds (B.view bank.old).now.disks s.image
+        → Served plain_store result s (request.Read block) (B.view bank.old).now (B.view bank.new).now }
+    ensures fault { IfErr result (λ fault. HasRisen fault (B.view bank.old) (B.view bank.new)) }
+    ensures serves { ServesOn 0 (B.view bank.old) (B.view bank.new) }
+{
+    let Ok(()) = read_block(bank, block, bytes) else {
+        return Err(Fault::Disk);
+    };
+    let Ok(()) = say_answer(bank, &Answer::Is { bytes }, out) else {
+        return Err(Fault::Port);
+    };
+    Ok(Next::More)
+}
 
 /// The buffers of a session, and how many writes it accepted.
 #[derive(Debug, Drop)]
@@ -90,14 +111,7 @@ impl Session {
         ensures serves { ServesOn 0 (B.view bank.old) (B.view bank.new) }
         ensures number { self.new.number ≡ self.old.number }
     {
-        let Ok(()) = read_block(bank, block, self.fresh.as_mut_slice()) else {
-            return Err(Fault::Disk);
-        };
-        let answer = Answer::Is { bytes: self.fresh.as_slice() };
-        let Ok(()) = say_answer(bank, &answer, self.out.as_mut_slice()) else {
-            return Err(Fault::Port);
-        };
-        Ok(Next::More)
+        show_block(bank, block, self.fresh.as_mut_slice(), self.out.as_mut_slice())
     }
 
     // Replies that the request is refused.
