@@ -69,12 +69,12 @@ within_cell s x y differs = let within = slot_within s.place (not s.second) in
     differs_mono (other_slot s) (cell_area s.place) x y (λ e i inside. record { disk = inside.disk; from = omega (arith, inside.from, within.0); to = omega (arith, inside.to, within.1) }) differs
 
 -- after a put every crash leaves the cell as the program then knows it
-pub stands_put : (s t : Slots) (fresh : List ℕ) (a b : View) → Moves a b (PutsIn s fresh) (IsPut b s t fresh) → Always b (Stands t)
-stands_put s t fresh a b moves c left = let from = moves.now c left in from.by.disks.stands
+pub stands_put : (s t : Slots) (fresh : List ℕ) (a b : View) (during : Disks → Disks → Type 0) → Moves a b during (IsPut b s t fresh) → Always b (Stands t)
+stands_put s t fresh a b during moves c left = let from = moves.now c left in from.by.disks.stands
 
 -- and so after a first value
-pub stands_first : (s : Slots) (fresh : List ℕ) (a b : View) → Moves a b (Differs (cell_area s.place)) (IsFirst b s fresh) → Always b (Stands s)
-stands_first s fresh a b moves c left = let from = moves.now c left in from.by.disks.stands
+pub stands_first : (s : Slots) (fresh : List ℕ) (a b : View) (during : Disks → Disks → Type 0) → Moves a b during (IsFirst b s fresh) → Always b (Stands s)
+stands_first s fresh a b during moves c left = let from = moves.now c left in from.by.disks.stands
 
 -- a cell of which no position is unsynced may be mounted
 pub stable_synced : (p : Place) (v : View) → Apart v.unsynced p → Always v (λ disks. region disks p.disk p.at (cell_len p) ≡ region v.now.disks p.disk p.at (cell_len p))

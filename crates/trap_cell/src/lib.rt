@@ -4,6 +4,8 @@
 mod cell;
 mod fault;
 mod heads;
+#[cfg(test)]
+mod tests;
 
 pub use cell::Cell;
 pub use fault::CellFault;
