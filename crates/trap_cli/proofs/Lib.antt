@@ -2,3 +2,5 @@ pub mod FilesLemmas
 pub mod TouchingLemmas
 pub mod VolumeLemmas
 pub mod Serving
+pub mod Walking
+pub mod Stopping

@@ -4,6 +4,7 @@
 mod blocks;
 mod edge;
 mod outcome;
+mod serve;
 mod session;
 
 use edge::{FileBank, StdinSource};

@@ -1,9 +1,9 @@
 //! A session over the plain volume: one line and its reply.
 
-ghost use Rattle.std.specs.Prelude.{◌≡◌, ◌+◌, ◌^◌, ◌<◌, ◌≤◌, length, vec_len, Some, IsTrue, IfOk, IfErr, OnOk, OnErr, List, ℕ};
+ghost use Rattle.std.specs.Prelude.{◌≡◌, ◌+◌, ◌^◌, ◌<◌, ◌≤◌, length, vec_len, Some, IsTrue, false, IfOk, IfErr, OnOk, OnErr, List, ℕ};
 ghost use Rattle.trap_model.specs.Plain.{PlainState, next1};
 ghost use Rattle.trap_model.specs.declared.request.Request.TheVariants as request;
-ghost use Rattle.trap_script.specs.Lines.{request_of, request_with};
+ghost use Rattle.trap_script.specs.Lines.{request_of, request_with, goes_on};
 ghost use Rattle.trap_lines.specs.Reader.{room, IsLine};
 ghost use Rattle.trap_cli.specs.Touching.{ServesOn};
 ghost use Rattle.trap_cli.specs.Store.{Served, HasRisen};
@@ -38,6 +38,7 @@ fn show_block<B: Bank>(bank: &mut B, block: u64, bytes: &mut [u8], out: &mut [u8
         → Served plain_store result s (request.Read block) (B.view bank.old).now (B.view bank.new).now }
     ensures fault { IfErr result (λ fault. HasRisen fault (B.view bank.old) (B.view bank.new)) }
     ensures serves { ServesOn 0 (B.view bank.old) (B.view bank.new) }
+    ensures more { IfOk result (λ next. next ≡ Next.More) }
 {
     let Ok(()) = read_block(bank, block, bytes) else {
         return Err(Fault::Disk);
@@ -85,6 +86,7 @@ impl Session {
         ensures serves { ServesOn 0 (B.view bank.old) (B.view bank.new) }
         ensures number { OnOk result (self.new.number ≡ self.old.number + 1) }
         ensures at_most { self.new.number ≤ self.old.number + 1 }
+        ensures more { IfOk result (λ next. next ≡ Next.More) }
     {
         let Ok(()) = write_block(bank, block, self.fresh.as_slice()) else {
             return Err(Fault::Disk);
@@ -110,6 +112,7 @@ impl Session {
         ensures fault { IfErr result (λ fault. HasRisen fault (B.view bank.old) (B.view bank.new)) }
         ensures serves { ServesOn 0 (B.view bank.old) (B.view bank.new) }
         ensures number { self.new.number ≡ self.old.number }
+        ensures more { IfOk result (λ next. next ≡ Next.More) }
     {
         show_block(bank, block, self.fresh.as_mut_slice(), self.out.as_mut_slice())
     }
@@ -122,6 +125,7 @@ impl Session {
         ensures fault { IfErr result (λ fault. HasRisen fault (B.view bank.old) (B.view bank.new)) }
         ensures serves { ServesOn 0 (B.view bank.old) (B.view bank.new) }
         ensures number { self.new.number ≡ self.old.number }
+        ensures more { IfOk result (λ next. next ≡ Next.More) }
     {
         let Ok(()) = say_answer(bank, &Answer::No(refusal), self.out.as_mut_slice()) else {
             return Err(Fault::Port);
@@ -129,7 +133,7 @@ impl Session {
         Ok(Next::More)
     }
 
-    /// One line and its reply. What a write holds stands in `fresh`.
+    // One line and its reply. What a write holds stands in `fresh`.
     fn one<B: Bank>(&mut self, bank: &mut B, line: Line) -> Result<Next, Fault>
         requires size { (B.view bank.old).sizes 0 ≡ Some 128 }
         requires number { self.old.number < 2 ^ 63 }
@@ -142,6 +146,7 @@ impl Session {
         ensures number { (s : PlainState) → s.number ≡ self.old.number
             → OnOk result (self.new.number ≡ (next1 s (request_with line self.old.fresh.items)).number) }
         ensures at_most { self.new.number ≤ self.old.number + 1 }
+        ensures quit { result ≡ Ok Next.Quit → goes_on (request_with line self.old.fresh.items) ≡ false }
     {
         match line {
             Line::Write { time, block } => {
@@ -163,5 +168,39 @@ impl Session {
             Line::Keep { seq: _ } => self.refuse(bank, Refusal::NoLine),
             Line::Bad => self.refuse(bank, Refusal::NoLine),
         }
+    }
+
+    // Reads the line found last, of `len` bytes. One that is longer than any line is none.
+    fn read_found(&mut self, reader: &LineReader, len: usize) -> Line
+        requires { room reader.now ≡ 76 }
+        ensures request { (line : List ℕ) → IsLine line len reader.now
+            → request_of 16 line ≡ request_with result self.new.fresh.items }
+        ensures number { self.new.number ≡ self.old.number }
+    {
+        if len > LINE_BYTES {
+            return Line::Bad;
+        }
+        read_line(reader.line(len), self.fresh.as_mut_slice())
+    }
+
+    /// Answers the line found last, of `len` bytes.
+    pub fn answer<B: Bank>(&mut self, bank: &mut B, reader: &LineReader, len: usize) -> Result<Next, Fault>
+        requires size { (B.view bank.old).sizes 0 ≡ Some 128 }
+        requires number { self.old.number < 2 ^ 63 }
+        requires room { room reader.now ≡ 76 }
+        ensures served { (line : List ℕ) (s : PlainState) → IsLine line len reader.now
+            → IsTrue (B.view bank.old).tells → s.number ≡ self.old.number
+            → PlainHolds (B.view bank.old).now.disks s.image
+            → Served plain_store result s (request_of 16 line) (B.view bank.old).now (B.view bank.new).now }
+        ensures fault { IfErr result (λ fault. HasRisen fault (B.view bank.old) (B.view bank.new)) }
+        ensures serves { ServesOn 0 (B.view bank.old) (B.view bank.new) }
+        ensures number { (line : List ℕ) (s : PlainState) → IsLine line len reader.now → s.number ≡ self.old.number
+            → OnOk result (self.new.number ≡ (next1 s (request_of 16 line)).number) }
+        ensures at_most { self.new.number ≤ self.old.number + 1 }
+        ensures quit { (line : List ℕ) → IsLine line len reader.now → result ≡ Ok Next.Quit
+            → goes_on (request_of 16 line) ≡ false }
+    {
+        let line = self.read_found(reader, len);
+        self.one(bank, line)
     }
 }

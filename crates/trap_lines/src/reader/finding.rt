@@ -17,7 +17,7 @@ impl LineReader {
     /// as well, and isn't kept.
     pub fn new(alloc: Global, line_bytes: usize) -> Result<LineReader, OutOfMemory>
         ensures none { IfOk result (λ reader. pending reader ≡ []) }
-        ensures used { IfOk result (λ reader. reader.used ≡ 0) }
+        ensures untaken { IfOk result (λ reader. taken reader ≡ 0) }
         ensures room { IfOk result (λ reader. room reader ≡ line_bytes) }
     {
         let chunk = vec![in alloc; 0u8; PIECE_BYTES]?;
