@@ -1,0 +1,3 @@
+pub mod Offsets
+pub mod Appending
+pub mod Getting

@@ -1,0 +1,6 @@
+//! A ring of bytes on a disk, whose kept window no append touches.
+#![tactic(auto)]
+
+mod ring;
+
+pub use ring::Ring;
