@@ -1,0 +1,19 @@
+-- A list of bytes that is read piece by piece, from its end on.
+use Rattle.std.proofs.Common.{◌≡◌, ℕ, ◌+◌, ◌-◌, ◌<◌, ◌≤◌, List, [], ◌∷◌, ◌++◌, length, take, drop, get_or, refl, ap, sym, ◌∙◌}
+use Rattle.std.specs.List.{slice_range}
+use Rattle.std.proofs.lemmas.List.{drop_more, take-append-drop}
+use Rattle.std.proofs.lemmas.List.Folds.{drop_split}
+
+-- what stands from a place on is a piece, and what stands behind it
+pub piece : (xs p rest : List ℕ) (at end : ℕ) → at ≤ end → p ≡ slice_range xs at end → drop end xs ≡ rest → drop at xs ≡ p ++ rest
+piece xs p rest at end low is behind =
+    drop_split xs at end low ∙ ap (λ (q : List ℕ). q ++ drop end xs) (sym is) ∙ ap (λ (r : List ℕ). p ++ r) behind
+
+pub byte : (xs rest : List ℕ) (at : ℕ) → at < length xs → drop (at + 1) xs ≡ rest → drop at xs ≡ get_or xs at 0 ∷ rest
+byte xs rest at inside behind = drop_more xs at 0 inside ∙ ap (λ (r : List ℕ). get_or xs at 0 ∷ r) behind
+
+pub byte_is : (xs : List ℕ) (b : ℕ) (rest : List ℕ) (at : ℕ) → at < length xs → b ≡ get_or xs at 0 → drop (at + 1) xs ≡ rest → drop at xs ≡ b ∷ rest
+byte_is xs b rest at inside is behind = byte xs rest at inside behind ∙ ap (λ (c : ℕ). c ∷ rest) (sym is)
+
+pub front : (xs p rest : List ℕ) (at : ℕ) → take at xs ≡ p → drop at xs ≡ rest → xs ≡ p ++ rest
+front xs p rest at is behind = sym (take-append-drop at xs) ∙ ap (λ (q : List ℕ). q ++ drop at xs) is ∙ ap (λ (r : List ℕ). p ++ r) behind

@@ -1,0 +1,50 @@
+-- The head: the numbers whose put commits, and how they are spelled.
+use Rattle.std.specs.Prelude.{◌≡◌, ℕ, ◌+◌, ◌*◌, ◌^◌, ◌<◌, ◌≤◌, List, ◌∷◌, ◌++◌, Option, Some, None}
+use Rattle.std.specs.Int.{w32, w64, to_be_bytes}
+use Rattle.trap_model.specs.Limits.{greatest_record}
+use Rattle.trap_model.specs.declared.numbers.Geometry.{Geometry}
+use Rattle.trap_format.specs.declared.head.Head.{Head}
+
+-- 0 for none, and else the member's number plus 1
+abbrev pub lost_byte : Option ℕ → ℕ
+lost_byte None = 0
+lost_byte (Some member) = member + 1
+
+-- the 62 bytes of the head's value
+abbrev pub head_value : Head → List ℕ
+head_value h =
+    h.version ∷ lost_byte h.lost ∷ to_be_bytes w32 h.rebuilt ++ to_be_bytes w64 h.first ++ to_be_bytes w64 h.base_time
+    ++ to_be_bytes w64 h.first_off ++ to_be_bytes w64 h.last ++ to_be_bytes w64 h.end_off ++ to_be_bytes w64 h.drained
+    ++ to_be_bytes w64 h.last_time
+
+-- an empty history has no length and no span
+pub record IsEmptyAt (h : Head) : Type 0 where
+  pub offsets : h.first_off ≡ h.end_off
+  pub times : h.base_time ≡ h.last_time
+
+-- the numbers of a head of such an array
+pub record IsHead (g : Geometry) (h : Head) : Type 0 where
+  pub version : h.version ≡ 1
+  -- the lost member, and how many of its rows are rebuilt
+  pub lost : lost_byte h.lost ≤ g.members
+  pub rebuilt : h.rebuilt < g.rows
+  pub none_rebuilt : h.lost ≡ None → h.rebuilt ≡ 0
+  -- dropped, drained, committed
+  pub dropped : h.first ≤ h.drained
+  pub drained : h.drained ≤ h.last
+  pub last_most : h.last ≤ 2 ^ 40
+  pub pending : h.last ≤ h.drained + g.slots
+  pub retained : h.last ≤ h.first + g.entries
+  -- the ring's part from the first record to behind the last
+  pub offsets : h.first_off ≤ h.end_off
+  pub window : h.end_off ≤ h.first_off + g.ring
+  pub end_most : h.end_off ≤ h.last * greatest_record g.block
+  -- times
+  pub times : h.base_time ≤ h.last_time
+  pub time_fits : h.last_time < 2 ^ 64
+  pub empty : h.first ≡ h.last → IsEmptyAt h
+
+-- the bytes are the value of this head, which is one of such an array
+pub record IsHeadValue (g : Geometry) (h : Head) (bytes : List ℕ) : Type 0 where
+  pub head : IsHead g h
+  pub spelled : bytes ≡ head_value h

@@ -1,0 +1,4 @@
+pub mod Checked
+pub mod LogDisk
+pub mod MemberDisk
+pub mod HeadValue

@@ -1,0 +1,13 @@
+//! The formats of an array's disks: which numbers it can have, the headers, and the head.
+#![tactic(auto)]
+
+mod head;
+mod limits;
+mod log_disk;
+mod member_disk;
+mod pieces;
+
+pub use head::Head;
+pub use limits::{BadGeometry, Field, check};
+pub use log_disk::{is_log, log_len, read_log, spell_log};
+pub use member_disk::{member_len, read_member, spell_member};
