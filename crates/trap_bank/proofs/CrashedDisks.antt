@@ -1,13 +1,12 @@
 -- Disks in a crash, one after another, and the bank behind it.
-use Rattle.std.proofs.Common.{◌≡◌, ◌⊎◌, ℕ, zero, suc, ◌+◌, ◌-◌, ◌<◌, ◌≤◌, ◌≢◌, List, [], ◌∷◌, length, replicate, get_or, set, slice_index, Option, Some, None, refl, sym, ◌∙◌, ap, subst, inl, inr, ⊎_elim, arith, add-one, get_or-set_same, get_or-set_other, length-set}
+use Rattle.std.proofs.Common.{◌≡◌, ℕ, ◌+◌, ◌<◌, ◌≤◌, ◌≢◌, List, [], length, replicate, get_or, set, Option, Some, None, refl, sym, ◌∙◌, ap, subst, ⊎_elim, arith, add-one, get_or-set_same, get_or-set_other}
 use Rattle.std.proofs.lemmas.Bool.{cases_lt}
 use Rattle.std.proofs.lemmas.Bool.Decides.{eqb_tells}
 use Rattle.std.proofs.Math.ListN.{get_or-eq_default}
 use mathlib.Core.Path.{fun_ext}
-use Rattle.trap_bank.specs.Disks.{Contents, bytes_of, size_of}
 use Rattle.trap_bank.specs.Kept.{Kept, InRanges}
-use Rattle.trap_bank.specs.Record.{bytes_kept, ranges_kept, contents_of}
-use Rattle.trap_bank.specs.Memory.{Memory, state_of, view_of}
+use Rattle.trap_bank.specs.Record.{bytes_kept, ranges_kept}
+use Rattle.trap_bank.specs.Memory.{Memory, state_of}
 use Rattle.trap_bank.specs.Crash.{Crashed, AllCrashed, Crashes, first_draw, last_draw, option_crashed, stable_kept}
 
 -- the bytes of the next disk are drawn behind those of this one

@@ -1,5 +1,5 @@
 -- Ranges that are filled in a crash.
-use Rattle.std.proofs.Common.{◌≡◌, ◌⊎◌, ℕ, zero, suc, ◌+◌, ◌-◌, ◌<◌, ◌≤◌, List, [], ◌∷◌, length, drop, get_or, slice_index, refl, sym, ◌∙◌, ap, subst, inl, inr, ⊎_elim, arith, le_of_suc-le-suc}
+use Rattle.std.proofs.Common.{◌≡◌, ℕ, zero, suc, ◌+◌, ◌<◌, ◌≤◌, List, [], ◌∷◌, length, drop, get_or, sym, ◌∙◌, ap, inl, inr, arith, le_of_suc-le-suc}
 use Rattle.std.proofs.Math.Seq.{drop-length}
 use Rattle.trap_bank.specs.declared.disk.Range.{Range}
 use Rattle.trap_bank.specs.Draws.{drawn, after_draws}

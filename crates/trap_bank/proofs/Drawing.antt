@@ -1,5 +1,5 @@
 -- Draws, one after another.
-use Rattle.std.proofs.Common.{◌≡◌, ℕ, zero, suc, ◌+◌, ◌<◌, List, [], ◌∷◌, ◌++◌, length, take, refl, ◌∙◌, ap, add-one}
+use Rattle.std.proofs.Common.{◌≡◌, ℕ, zero, suc, ◌+◌, List, [], ◌∷◌, ◌++◌, length, refl, ◌∙◌, ap, add-one}
 use Rattle.trap_bank.specs.Draws.{next_number, drawn_byte, after_draws, drawn}
 
 pub one_more_draw : (n x : ℕ) → after_draws (suc n) x ≡ next_number (after_draws n x)

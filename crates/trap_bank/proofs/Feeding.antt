@@ -1,5 +1,5 @@
 -- What a source in memory gives.
-use Rattle.std.proofs.Common.{◌≡◌, ℕ, ◌+◌, ◌-◌, ◌<◌, ◌≤◌, min, max, List, [], ◌++◌, length, take, drop, sym, ◌∙◌, ap, arith, take-append-drop, drop-drop, length-drop}
+use Rattle.std.proofs.Common.{◌≡◌, ℕ, ◌+◌, ◌-◌, ◌<◌, min, max, List, [], ◌++◌, length, take, drop, sym, ◌∙◌, ap, arith, take-append-drop, drop-drop, length-drop}
 use Rattle.std.proofs.lemmas.List.{nil_from_length}
 
 -- what was left is what was given and what is left

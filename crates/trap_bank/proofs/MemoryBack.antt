@@ -1,5 +1,5 @@
 -- The state before a change is got back from the one behind it.
-use Rattle.std.proofs.Common.{◌≡◌, ◌⊎◌, ℕ, ◌+◌, ◌-◌, ◌<◌, ◌≤◌, List, [], ◌∷◌, ◌++◌, length, take, drop, get_or, slice_set, slice_range, slice_index, Option, Some, None, Bool, true, false, ◌≢◌, if◌then◌else◌, ◌==◌, refl, sym, ◌∙◌, ap, subst, inl, inr, ⊎_elim, arith, length-append, length-take, length-drop, get_or-set_same, get_or-set_other, ext_get_or}
+use Rattle.std.proofs.Common.{◌≡◌, ◌⊎◌, ℕ, ◌+◌, ◌-◌, ◌<◌, ◌≤◌, List, [], ◌∷◌, ◌++◌, length, take, get_or, slice_set, slice_range, slice_index, Option, Some, None, Bool, ◌≢◌, if◌then◌else◌, refl, sym, ◌∙◌, ap, subst, inl, inr, ⊎_elim, arith, length-append, length-take, length-drop, get_or-set_same, get_or-set_other, ext_get_or}
 use Rattle.std.proofs.lemmas.Bool.Decides.{eqb_tells}
 use Rattle.std.proofs.lemmas.Bool.{cases_lt}
 use Rattle.std.proofs.Math.Seq.{take-append_seam}
@@ -7,7 +7,7 @@ use mathlib.Core.Path.{fun_ext}
 use Rattle.trap_bank.specs.declared.disk.Range.{Range}
 use Rattle.trap_bank.specs.declared.record.Change.TheVariants.{Made, Written, Synced, Said}
 use Rattle.trap_bank.specs.Disks.{bytes_of}
-use Rattle.trap_bank.specs.Kept.{Kept, overlaid, written_disk, settled_disk, zero_disk}
+use Rattle.trap_bank.specs.Kept.{Kept, overlaid, zero_disk}
 use Rattle.trap_bank.specs.Record.{State, before, bytes_kept, ranges_kept, with_disk, option_overlaid}
 use Rattle.trap_bank.specs.Memory.{Memory, disk_at, state_of}
 use Rattle.trap_bank.specs.MemorySteps.{option_written, option_settled, option_range}

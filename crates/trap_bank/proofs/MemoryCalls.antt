@@ -1,21 +1,12 @@
 -- What the calls of a bank in memory do, by the views before and behind them.
-use Rattle.std.proofs.Common.{◌≡◌, ◌⊎◌, ℕ, ◌+◌, ◌-◌, ◌^◌, ◌<◌, ◌≤◌, min, max, List, [], ◌∷◌, ◌++◌, length, take, drop, replicate, get_or, slice_set, slice_range, slice_index, Option, Some, None, Bool, true, false, ◌≢◌, if◌then◌else◌, ◌==◌, Result, Ok, Err, OnOk, OnErr, IsTrue, refl, sym, ◌∙◌, ap, subst, inl, inr, ⊎_elim, arith, append-nil, le_refl, ext_get_or}
-use Rattle.std.proofs.lemmas.Bool.Decides.{eqb_tells}
-use Rattle.std.proofs.lemmas.List.{nil_from_length, length-replicate}
-use Rattle.std.proofs.Math.Seq.{drop-append_seam}
-use Rattle.trap_bank.specs.declared.disk.Range.{Range}
-use Rattle.trap_bank.specs.declared.record.Change.TheVariants.{Made, Written, Synced, Said}
-use Rattle.trap_bank.specs.Faults.{Rose}
-use Rattle.trap_bank.specs.Disks.{Disks, Contents, Within, Either, Differs, Torn, Quiet, bytes_of, size_of, region, byte}
-use Rattle.trap_bank.specs.Calls.{Fits, Goes, Elapses, MayLeave, LeftOver, LeftSaying, LeftMaking, SaysPart, Remade, Fewer, Reads, Writes, Syncs, Says, Makes}
+use Rattle.std.proofs.Common.{◌≡◌, ℕ, ◌-◌, ◌^◌, ◌<◌, ◌≤◌, List, [], length, Option, Some, None, Bool, true, false, Ok, Err, IsTrue, refl, sym, inl, inr, arith, append-nil, le_refl}
+use Rattle.trap_bank.specs.Disks.{bytes_of, size_of, region}
+use Rattle.trap_bank.specs.Calls.{Fits, Goes, Reads, Writes, Syncs, Says, Makes}
 use Rattle.trap_bank.specs.Counts.{one_more, with_raised}
-use Rattle.trap_bank.specs.Kept.{Kept, InRanges, overlaid, zero_disk}
-use Rattle.trap_bank.specs.Record.{State, still, area_of, contents_of, InCall, bytes_kept, ranges_kept}
-use Rattle.trap_bank.specs.Memory.{Memory, IsSound, disk_at, state_of, view_of}
-use Rattle.trap_bank.specs.MemorySteps.{IsStruck, IsWorn, option_written, option_settled, option_range}
-use Rattle.trap_bank.proofs.Ranges.{length-overlaid, overlaid-outside, overlaid_there, in_split}
-use Rattle.trap_bank.proofs.MemoryTime.{recounted, changed, goes, idle, recorded, raised, none_falls}
-use Rattle.trap_bank.proofs.MemoryBack.{set_tells, not_seen, settled_bytes, back_from_write, back_from_sync, back_from_make, back_from_say}
+use Rattle.trap_bank.specs.Record.{bytes_kept}
+use Rattle.trap_bank.specs.Memory.{Memory, IsSound, disk_at, view_of}
+use Rattle.trap_bank.specs.MemorySteps.{IsStruck, IsWorn}
+use Rattle.trap_bank.proofs.MemoryTime.{recounted, goes, idle, raised, none_falls}
 
 -- a disk with a number
 pub on_disk : (m : Memory) (d : ℕ) → IsSound m → d ≤ 20 → d < length m.disks

@@ -1,13 +1,12 @@
 -- What it does to a bank in memory to make a disk.
-use Rattle.std.proofs.Common.{◌≡◌, ◌⊎◌, ℕ, ◌+◌, ◌-◌, ◌^◌, ◌<◌, ◌≤◌, List, [], ◌∷◌, length, replicate, get_or, slice_set, slice_index, Option, Some, None, Bool, true, false, ◌≢◌, if◌then◌else◌, ◌==◌, Result, Ok, Err, OnOk, IsTrue, refl, sym, ◌∙◌, ap, subst, inl, inr, ⊎_elim, arith, le_refl, ext_get_or}
+use Rattle.std.proofs.Common.{◌≡◌, ℕ, ◌-◌, ◌^◌, ◌<◌, ◌≤◌, List, length, replicate, slice_set, slice_index, Option, Some, None, Bool, ◌≢◌, if◌then◌else◌, ◌==◌, Ok, refl, sym, ◌∙◌, ap, subst, inl, inr, ⊎_elim, arith, le_refl, ext_get_or}
 use Rattle.std.proofs.lemmas.Bool.Decides.{eqb_tells}
 use Rattle.std.proofs.lemmas.List.{length-replicate}
-use Rattle.trap_bank.specs.declared.disk.Range.{Range}
 use Rattle.trap_bank.specs.declared.record.Change.TheVariants.{Made}
-use Rattle.trap_bank.specs.Disks.{Disks, Contents, Differs, Torn, bytes_of, size_of, byte}
-use Rattle.trap_bank.specs.Calls.{Goes, Elapses, MayLeave, LeftMaking, Remade, Makes}
+use Rattle.trap_bank.specs.Disks.{Disks, Contents, bytes_of, size_of}
+use Rattle.trap_bank.specs.Calls.{MayLeave, LeftMaking, Makes}
 use Rattle.trap_bank.specs.Kept.{Kept, InRanges, zero_disk}
-use Rattle.trap_bank.specs.Record.{State, still, area_of, contents_of, bytes_kept, ranges_kept}
+use Rattle.trap_bank.specs.Record.{still, area_of, bytes_kept, ranges_kept}
 use Rattle.trap_bank.specs.Memory.{Memory, IsSound, disk_at, state_of, view_of}
 use Rattle.trap_bank.proofs.MemoryTime.{changed, goes, recorded}
 use Rattle.trap_bank.proofs.MemoryBack.{set_tells, back_from_make}

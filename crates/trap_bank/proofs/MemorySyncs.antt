@@ -1,12 +1,11 @@
 -- What a sync of a bank in memory does, and what is said on it.
-use Rattle.std.proofs.Common.{◌≡◌, ◌⊎◌, ℕ, ◌+◌, ◌-◌, ◌^◌, ◌<◌, ◌≤◌, List, [], ◌∷◌, ◌++◌, length, take, drop, get_or, slice_set, Option, Some, None, ◌≢◌, Result, Ok, Err, OnOk, OnErr, IsTrue, refl, sym, ◌∙◌, ap, subst, inl, inr, ⊎_elim, arith, le_refl, append-nil}
+use Rattle.std.proofs.Common.{◌≡◌, ℕ, ◌-◌, ◌^◌, ◌<◌, ◌≤◌, List, [], ◌++◌, length, drop, slice_set, Option, Some, None, Ok, refl, sym, ◌∙◌, ap, subst, ⊎_elim, arith, le_refl, append-nil}
 use Rattle.std.proofs.Math.Seq.{drop-append_seam}
-use Rattle.trap_bank.specs.declared.disk.Range.{Range}
 use Rattle.trap_bank.specs.declared.record.Change.TheVariants.{Synced, Said}
-use Rattle.trap_bank.specs.Disks.{Disks, Contents, Differs, Torn, bytes_of, size_of}
-use Rattle.trap_bank.specs.Calls.{Goes, Elapses, MayLeave, LeftOver, LeftSaying, SaysPart, Syncs, Says}
+use Rattle.trap_bank.specs.Disks.{Contents, Torn, size_of}
+use Rattle.trap_bank.specs.Calls.{MayLeave, LeftSaying, Syncs, Says}
 use Rattle.trap_bank.specs.Kept.{Kept, InRanges}
-use Rattle.trap_bank.specs.Record.{State, still, area_of, contents_of, InCall, bytes_kept, ranges_kept}
+use Rattle.trap_bank.specs.Record.{still, area_of, contents_of, bytes_kept, ranges_kept}
 use Rattle.trap_bank.specs.Memory.{Memory, IsSound, disk_at, state_of, view_of, as_shown}
 use Rattle.trap_bank.specs.MemorySteps.{option_settled}
 use Rattle.trap_bank.proofs.MemoryTime.{changed, goes, recorded}

@@ -1,5 +1,5 @@
 -- What a call of a bank in memory does to counts and to the moments since which a crash may have left something.
-use Rattle.std.proofs.Common.{◌≡◌, ◌⊎◌, ℕ, ◌+◌, ◌-◌, ◌^◌, ◌<◌, ◌≤◌, min, max, List, [], ◌∷◌, length, get_or, set, slice_set, slice_index, Option, None, Result, OnOk, refl, sym, ◌∙◌, ap, subst, inl, inr, ⊎_elim, arith, get_or-set_same, get_or-set_other, true}
+use Rattle.std.proofs.Common.{◌≡◌, ◌⊎◌, ℕ, ◌+◌, ◌-◌, ◌^◌, ◌<◌, ◌≤◌, min, List, [], ◌∷◌, length, get_or, slice_set, slice_index, Option, Result, OnOk, refl, sym, subst, inl, inr, ⊎_elim, arith, get_or-set_same, get_or-set_other}
 use Rattle.std.proofs.lemmas.Bool.Decides.{eqb_tells}
 use Rattle.trap_bank.specs.declared.record.Change.{Change}
 use Rattle.trap_bank.specs.declared.record.Entry.{Entry}
@@ -10,7 +10,6 @@ use Rattle.trap_bank.specs.Counts.{one_more}
 use Rattle.trap_bank.specs.Kept.{Kept}
 use Rattle.trap_bank.specs.Record.{State, before, still, InCall, InCalls, BeganBefore}
 use Rattle.trap_bank.specs.Memory.{Memory, IsSound, state_of, view_of}
-use Rattle.trap_bank.specs.MemorySteps.{blamed}
 
 -- the same bank with other counts
 abbrev pub recounted : Memory → ℕ → List ℕ → ℕ → ℕ → Memory

@@ -1,14 +1,12 @@
 -- What a write to a bank in memory does.
-use Rattle.std.proofs.Common.{◌≡◌, ◌⊎◌, ℕ, ◌+◌, ◌-◌, ◌^◌, ◌<◌, ◌≤◌, List, [], ◌∷◌, ◌++◌, length, take, drop, replicate, get_or, slice_set, slice_range, slice_index, Option, Some, None, ◌≢◌, Result, Ok, Err, OnOk, OnErr, IsTrue, refl, sym, ◌∙◌, ap, subst, inl, inr, ⊎_elim, arith, le_refl, length-take, length-drop}
+use Rattle.std.proofs.Common.{◌≡◌, ◌⊎◌, ℕ, ◌+◌, ◌-◌, ◌^◌, ◌<◌, ◌≤◌, List, [], length, take, drop, get_or, slice_set, slice_index, Option, Some, None, Result, OnOk, OnErr, refl, sym, ◌∙◌, ap, subst, inl, inr, ⊎_elim, arith, le_refl, length-take, length-drop}
 use Rattle.std.proofs.lemmas.List.{nil_from_length}
-use Rattle.trap_bank.specs.declared.disk.Range.{Range}
-use Rattle.trap_bank.specs.declared.record.Change.{Change}
 use Rattle.trap_bank.specs.declared.record.Change.TheVariants.{Written}
 use Rattle.trap_bank.specs.Faults.{Rose}
-use Rattle.trap_bank.specs.Disks.{Disks, Contents, Within, Either, Differs, Torn, bytes_of, size_of, region, byte}
-use Rattle.trap_bank.specs.Calls.{Fits, Goes, Elapses, MayLeave, LeftOver, Writes}
-use Rattle.trap_bank.specs.Kept.{Kept, InRanges, overlaid}
-use Rattle.trap_bank.specs.Record.{State, still, area_of, contents_of, InCall, bytes_kept, ranges_kept}
+use Rattle.trap_bank.specs.Disks.{Contents, Within, Either, Torn, bytes_of, size_of, region}
+use Rattle.trap_bank.specs.Calls.{MayLeave, LeftOver, Writes}
+use Rattle.trap_bank.specs.Kept.{Kept, InRanges}
+use Rattle.trap_bank.specs.Record.{still, area_of, contents_of, bytes_kept, ranges_kept}
 use Rattle.trap_bank.specs.Memory.{Memory, IsSound, disk_at, state_of, view_of}
 use Rattle.trap_bank.specs.MemorySteps.{option_written, option_range}
 use Rattle.trap_bank.proofs.Ranges.{length-overlaid, overlaid-outside, overlaid_there, in_split}

@@ -1,12 +1,10 @@
 -- A bank in memory.
-use Rattle.std.specs.Prelude.{◌≡◌, ◌⊎◌, ℕ, ◌+◌, ◌-◌, ◌^◌, ◌<◌, ◌≤◌, min, List, [], ◌∷◌, ◌++◌, length, replicate, slice_index, slice_range, slice_set, get_or, Option, Some, None, MatchOption, Contains, true}
-use Rattle.trap_bank.specs.declared.record.Change.TheVariants.{Made, Written, Synced, Said}
+use Rattle.std.specs.Prelude.{◌≡◌, ◌⊎◌, ℕ, ◌^◌, ◌<◌, ◌≤◌, List, [], length, replicate, get_or, Option, None, true}
 use Rattle.trap_bank.specs.declared.record.Entry.{Entry}
 use Rattle.trap_bank.specs.Disks.{Contents, View, size_of}
 use Rattle.std.proofs.Common.{refl, inl, ⊎_elim, lt_irrefl}
 use Rattle.trap_bank.specs.Calls.{MayLeave, IsLawful}
-use Rattle.trap_bank.specs.Counts.{one_more, with_raised}
-use Rattle.trap_bank.specs.Kept.{Kept, zero_disk, written_disk, settled_disk}
+use Rattle.trap_bank.specs.Kept.{Kept}
 use Rattle.trap_bank.specs.Record.{State, still, contents_of, area_of, bytes_kept, ranges_kept, InCalls, BeganBefore}
 
 pub record Memory : Type 0 where

@@ -1,7 +1,7 @@
 -- The fields of a bank in memory, as contracts see them.
 use Rattle.std.specs.Prelude.{reverse}
 use Rattle.trap_bank.specs.declared.memory.MemoryBank.TheInside.{Inside}
-use Rattle.trap_bank.specs.Memory.{Memory, IsMemory}
+use Rattle.trap_bank.specs.Memory.{Memory}
 
 abbrev pub memory_of : Inside → Memory
 memory_of bank = record {
@@ -16,6 +16,3 @@ memory_of bank = record {
   chosen = bank.chosen.numbers;
   fuse = bank.fuse;
 }
-
-abbrev pub IsKeptRight : Inside → Type 0
-IsKeptRight bank = IsMemory (memory_of bank)

@@ -13,6 +13,8 @@ mod memory_calls;
 mod memory_input;
 mod memory_steps;
 mod record;
+#[cfg(test)]
+mod tests;
 mod through;
 mod turning;
 

@@ -34,15 +34,15 @@ pub struct MemoryBank {
 }
 
 impl Model for MemoryBank {
-    ghost use Rattle.trap_bank.specs.Memory.{Memory};
+    ghost use Rattle.trap_bank.specs.Memory.{Memory, IsMemory};
 
     ghost Value = { Memory };
 
-    ghost use Rattle.trap_bank.specs.MemoryFields.{memory_of, IsKeptRight};
+    ghost use Rattle.trap_bank.specs.MemoryFields.{memory_of};
 
     ghost view = { memory_of };
 
-    ghost invariant = { IsKeptRight };
+    ghost invariant = { λ bank. IsMemory (memory_of bank) };
 }
 
 impl MemoryBank {

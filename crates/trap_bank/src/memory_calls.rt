@@ -82,7 +82,8 @@ impl Bank for MemoryBank {
     {
         if self.is_struck() {
             self.pass();
-            return Err(self.blame(d));
+            let failed = self.blame(d);
+            return Err(failed);
         }
         match self.settle(d) {
             Ok(()) => Ok(()),

@@ -1,4 +1,4 @@
-use Rattle.std.proofs.Common.{◌≡◌, ℕ, ◌+◌, ◌<◌, ◌≤◌, List, length, get_or, set, Option, None, subst, sym, ap, ◌∙◌, lt_of_lt_of_le, le_of_eq, le_refl, length-set}
+use Rattle.std.proofs.Common.{◌≡◌, ℕ, ◌<◌, List, length, get_or, Option, None, sym, ◌∙◌, lt_of_lt_of_le, le_of_eq, le_refl, length-set}
 use Rattle.std.proofs.lemmas.List.{get_or_default}
 use Rattle.trap_bank.specs.Kept.{Kept}
 use Rattle.trap_bank.proofs.CrashedDisks.{drawn_next, one_more_crashed, others_left, all_crashed}

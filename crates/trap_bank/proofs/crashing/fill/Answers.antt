@@ -1,9 +1,6 @@
-use Rattle.std.proofs.Common.{◌≡◌, ℕ, ◌+◌, ◌≤◌, List, ◌∷◌, [], drop, length, get_or, subst, sym, ap, ◌∙◌, refl, le_antisymm}
-use Rattle.std.proofs.Math.Seq.{drop-length}
+use Rattle.std.proofs.Common.{◌≡◌, ℕ, ◌+◌, ◌≤◌, List, ◌∷◌, drop, length, get_or, subst, sym, ap, ◌∙◌, le_antisymm}
 use Rattle.trap_bank.specs.declared.disk.Range.{Range}
-use Rattle.trap_bank.specs.Draws.{drawn, after_draws}
-use Rattle.trap_bank.specs.Kept.{AgreeOutside, overlaid}
-use Rattle.trap_bank.specs.Crash.{filled, after_ranges}
+use Rattle.trap_bank.specs.Kept.{AgreeOutside}
 use Rattle.trap_bank.proofs.Ranges.{split_at}
 use Rattle.trap_bank.proofs.CrashedRanges.{filled_more, length-filled, filled_first, numbered_first, all_filled, all_numbered}
 use Rattle.trap_bank.proofs.crashing.fill.Goals as goal

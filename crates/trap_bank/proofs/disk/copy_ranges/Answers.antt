@@ -1,6 +1,6 @@
-use Rattle.std.proofs.Common.{◌≡◌, ℕ, ◌+◌, ◌≤◌, List, ◌∷◌, drop, length, subst, sym, ap, ◌∙◌, get_or, drop-cons, add-one, arith, slice_range, le_antisymm}
+use Rattle.std.proofs.Common.{◌≡◌, ℕ, ◌+◌, ◌≤◌, List, drop, length, subst, sym, ap, ◌∙◌, get_or, le_antisymm}
 use Rattle.trap_bank.specs.declared.disk.Range.{Range}
-use Rattle.trap_bank.specs.Kept.{AgreeOutside, overlaid}
+use Rattle.trap_bank.specs.Kept.{AgreeOutside}
 use Rattle.trap_bank.proofs.Ranges.{copied_more, agree_everywhere, length-copied, split_at}
 use Rattle.trap_bank.proofs.disk.copy_ranges.Goals as goal
 

@@ -1,4 +1,4 @@
-use Rattle.std.proofs.Common.{◌≡◌, ℕ, ◌+◌, ◌≤◌, List, ◌++◌, ◌∷◌, [], length, take, drop, subst, subst₂, ap, sym, ◌∙◌, arith}
+use Rattle.std.proofs.Common.{◌≡◌, ℕ, ◌+◌, ◌≤◌, List, ◌++◌, length, take, drop, subst, subst₂, ap, sym, ◌∙◌}
 use Rattle.trap_bank.specs.declared.disk.Range.{Range}
 use Rattle.trap_bank.specs.Kept.{Kept, IsKept, overlaid}
 use Rattle.trap_bank.proofs.Ranges.{written_is_kept, length-overlaid, cut_to_length}

@@ -1,4 +1,4 @@
-use Rattle.std.proofs.Common.{◌≡◌, ℕ, ◌+◌, ◌<◌, List, ◌++◌, ◌∷◌, [], length, take, set, sym, ◌∙◌, ap, subst, lt_of_lt_of_le, le_of_eq}
+use Rattle.std.proofs.Common.{◌≡◌, ℕ, ◌<◌, List, ◌++◌, ◌∷◌, [], length, sym, ◌∙◌, ap, lt_of_lt_of_le, le_of_eq}
 use Rattle.std.proofs.lemmas.List.{take_more_set}
 use Rattle.trap_bank.specs.Draws.{next_number, drawn_byte, drawn, after_draws}
 use Rattle.trap_bank.proofs.Drawing.{next_draw, next_byte}

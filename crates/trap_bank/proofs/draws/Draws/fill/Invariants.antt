@@ -1,4 +1,4 @@
-use Rattle.std.proofs.Common.{◌≡◌, take, length}
+use Rattle.std.proofs.Common.{◌≡◌, take}
 use Rattle.trap_bank.specs.Draws.{drawn, after_draws}
 use Rattle.trap_bank.proofs.draws.Draws.fill.Given as goal
 

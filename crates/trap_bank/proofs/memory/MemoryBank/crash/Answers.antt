@@ -1,4 +1,4 @@
-use Rattle.std.proofs.Common.{◌≡◌, ℕ, List, [], ◌++◌, length, take, drop, Option, None, reverse, replicate, subst, sym, ap, ◌∙◌}
+use Rattle.std.proofs.Common.{◌≡◌, ℕ, List, [], ◌++◌, length, take, drop, Option, reverse, subst, sym, ap, ◌∙◌}
 use Rattle.trap_bank.specs.declared.record.Entry.{Entry}
 use Rattle.trap_bank.specs.Kept.{Kept}
 use Rattle.trap_bank.specs.Memory.{Memory}

@@ -1,6 +1,5 @@
-use Rattle.std.proofs.Common.{◌≡◌, ℕ, ◌+◌, inl, subst, refl, Contains}
+use Rattle.std.proofs.Common.{◌+◌, inl, subst, refl, Contains}
 use Rattle.trap_bank.specs.Memory.{Memory}
-use Rattle.trap_bank.specs.MemorySteps.{IsStruck}
 use Rattle.trap_bank.proofs.memory.MemoryBank.is_struck.Goals as goal
 
 pub returns-then-has-clause-struck : goal.returns-then-has-clause-struck

@@ -1,4 +1,4 @@
-use Rattle.std.proofs.Common.{◌≡◌, ℕ, ◌+◌, ap, subst, sym, ◌∙◌, refl, Err, Ok}
+use Rattle.std.proofs.Common.{◌≡◌, ◌+◌, ap, subst, sym, ◌∙◌, Err, Ok}
 use Rattle.trap_bank.specs.declared.disks.Failed.{Failed}
 use Rattle.trap_bank.specs.Calls.{Says}
 use Rattle.trap_bank.specs.Memory.{Memory, view_of}

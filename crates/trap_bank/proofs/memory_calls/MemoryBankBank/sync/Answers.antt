@@ -1,4 +1,4 @@
-use Rattle.std.proofs.Common.{◌≡◌, ℕ, ◌+◌, ap, subst, sym, ◌∙◌, refl, Err, Ok}
+use Rattle.std.proofs.Common.{◌≡◌, ◌+◌, ap, subst, sym, ◌∙◌, refl, Err, Ok}
 use Rattle.trap_bank.specs.declared.disks.Failed.{Failed}
 use Rattle.trap_bank.specs.Calls.{Syncs}
 use Rattle.trap_bank.specs.Counts.{one_more}
@@ -11,9 +11,9 @@ use Rattle.trap_bank.proofs.memory_calls.MemoryBankBank.sync.Goals as goal
 pub returns-then-is_struck-clause-call : goal.returns-then-is_struck-clause-call
 returns-then-is_struck-clause-call c =
     let m : Memory = c.args.self.now in
-    let new : c.blame.new.self ≡ blamed (passed m) c.args.d = c.blame.ensures ∙ ap (λ (n : Memory). blamed n c.args.d) c.pass.ensures in
-    subst (λ (n : Memory). Syncs {T = Unit {0}} {E = Failed} c.args.d (Err c.blame.result) (view_of m) (view_of n)) (sym new)
-    (fails_syncing c.blame.result m c.args.d (one_more m.moment) m.starved c.is_struck.ensures.sound c.requires.disk refl)
+    let new : c.blame-failed.new.self ≡ blamed (passed m) c.args.d = c.blame-failed.ensures ∙ ap (λ (n : Memory). blamed n c.args.d) c.pass.ensures in
+    subst (λ (n : Memory). Syncs {T = Unit {0}} {E = Failed} c.args.d (Err c.blame-failed.result) (view_of m) (view_of n)) (sym new)
+    (fails_syncing c.blame-failed.result m c.args.d (one_more m.moment) m.starved c.is_struck.ensures.sound c.requires.disk refl)
 
 pub returns-in-Ok-clause-call : goal.returns-in-Ok-clause-call
 returns-in-Ok-clause-call c =
@@ -25,7 +25,7 @@ returns-in-Ok-clause-call c =
 pub returns-in-Err-clause-call : goal.returns-in-Err-clause-call
 returns-in-Err-clause-call c =
     let m : Memory = c.args.self.now in
-    let new : c.blame-in-Err.new.self ≡ blamed (found_no_memory m) c.args.d =
-    c.blame-in-Err.ensures ∙ ap (λ (n : Memory). blamed n c.args.d) (c.starve.ensures ∙ ap found_no_memory c.in-Err.ensures.err) in
-    subst (λ (n : Memory). Syncs {T = Unit {0}} {E = Failed} c.args.d (Err c.blame-in-Err.result) (view_of m) (view_of n)) (sym new)
-    (fails_syncing c.blame-in-Err.result m c.args.d (one_more m.moment) (m.starved + 1) c.is_struck.ensures.sound c.requires.disk refl)
+    let new : c.blame.new.self ≡ blamed (found_no_memory m) c.args.d =
+    c.blame.ensures ∙ ap (λ (n : Memory). blamed n c.args.d) (c.starve.ensures ∙ ap found_no_memory c.in-Err.ensures.err) in
+    subst (λ (n : Memory). Syncs {T = Unit {0}} {E = Failed} c.args.d (Err c.blame.result) (view_of m) (view_of n)) (sym new)
+    (fails_syncing c.blame.result m c.args.d (one_more m.moment) (m.starved + 1) c.is_struck.ensures.sound c.requires.disk refl)
