@@ -4,3 +4,4 @@ pub mod VolumeLemmas
 pub mod Serving
 pub mod Walking
 pub mod Stopping
+pub mod Ending

@@ -4,3 +4,4 @@ pub mod Touching
 pub mod Store
 pub mod PlainVolume
 pub mod Session
+pub mod Run

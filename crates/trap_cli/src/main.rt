@@ -4,6 +4,7 @@
 mod blocks;
 mod edge;
 mod outcome;
+mod run;
 mod serve;
 mod session;
 

@@ -1,0 +1,144 @@
+//! A run of the program: its words, its input and its disks give what it says and its status.
+
+ghost use Rattle.std.specs.Prelude.{◌≡◌, ◌↔◌, ◌^◌, ◌≤◌, ℕ, List, Some, IsTrue, string_bytes, map, codes, ◌∷◌, []};
+ghost use Rattle.trap_model.specs.Plain.{PlainState};
+ghost use Rattle.trap_cli.specs.Touching.{TouchesOnly, ServesOn};
+ghost use Rattle.trap_cli.specs.PlainVolume.{PlainHolds, plain_store};
+ghost use Rattle.trap_cli.specs.Session.{StopsAs, StopsBy};
+ghost use Rattle.trap_cli.specs.Run.{status_of, last_line, IsSession, IsOtherSize, BeginsTold, CauseOf, Untouched, LeavesRefused, SaysLast, Runs};
+
+use crate::outcome::Ended;
+use crate::serve::serve;
+use crate::session::{LINE_BYTES, Session};
+use std::alloc::Global;
+use trap_bank::{Bank, Source, Turns};
+use trap_lines::LineReader;
+
+// The size of a plain volume in bytes.
+const VOLUME_BYTES: u64 = 128;
+
+// The exit status.
+fn status(ended: Ended) -> u8
+    ensures { result ≡ status_of ended }
+{
+    match ended {
+        Ended::Done => 0,
+        Ended::Usage => 2,
+        Ended::NotAnArray => 3,
+        Ended::Log => 6,
+        Ended::Input => 8,
+        Ended::Port => 9,
+        Ended::Memory => 10,
+        Ended::TooLong => 12,
+    }
+}
+
+// Says the last line, where there is one. That the port may fail in it changes nothing.
+fn say_last<B: Bank>(bank: &mut B, ended: Ended)
+    ensures last { IsTrue (B.view bank.old).tells
+        → SaysLast (last_line ended) (B.view bank.old).now.said (B.view bank.old) (B.view bank.new) }
+    ensures disks { IsTrue (B.view bank.old).tells → (B.view bank.new).now.disks ≡ (B.view bank.old).now.disks }
+    ensures serves { ServesOn 0 (B.view bank.old) (B.view bank.new) }
+{
+    match ended {
+        Ended::Done => {}
+        Ended::Usage => say(bank, b"fault usage\n"),
+        Ended::NotAnArray => say(bank, b"fault not an array\n"),
+        Ended::Log => say(bank, b"fault log\n"),
+        Ended::Input => say(bank, b"fault input\n"),
+        Ended::Port => {}
+        Ended::Memory => say(bank, b"fault memory\n"),
+        Ended::TooLong => say(bank, b"fault too long\n"),
+    }
+}
+
+// Says the line.
+fn say<B: Bank>(bank: &mut B, line: &[u8])
+    ensures last { IsTrue (B.view bank.old).tells
+        → SaysLast line.now (B.view bank.old).now.said (B.view bank.old) (B.view bank.new) }
+    ensures disks { IsTrue (B.view bank.old).tells → (B.view bank.new).now.disks ≡ (B.view bank.old).now.disks }
+    ensures serves { ServesOn 0 (B.view bank.old) (B.view bank.new) }
+{
+    match bank.say(line) {
+        Ok(()) => {}
+        Err(_) => {}
+    }
+}
+
+// Takes the memory of the session, and answers its lines.
+fn answer_lines<B: Bank, S: Source>(alloc: Global, bank: &mut B, source: &mut S) -> Ended
+    requires size { (B.view bank.old).sizes 0 ≡ Some 128 }
+    requires below { (S.stream source.old).given ≤ 2 ^ 62 }
+    ensures stops { (s : PlainState) (input : List ℕ) → (S.stream source.old).left ≡ Some input
+        → IsTrue (B.view bank.old).tells → s.number ≡ 0 → PlainHolds (B.view bank.old).now.disks s.image
+        → StopsAs plain_store result s input (B.view bank.old).now (B.view bank.new).now
+        (S.stream source.old) (S.stream source.new) }
+    ensures cause { StopsBy 16 result (B.view bank.old) (B.view bank.new) (S.stream source.old) (S.stream source.new) }
+    ensures serves { ServesOn 0 (B.view bank.old) (B.view bank.new) }
+{
+    let Ok(mut session) = Session::new(alloc) else {
+        return Ended::Memory;
+    };
+    let Ok(mut reader) = LineReader::new(alloc, LINE_BYTES) else {
+        return Ended::Memory;
+    };
+    serve(&mut session, &mut reader, bank, source)
+}
+
+// Whether the words are `session` alone.
+fn is_session(words: &[String]) -> bool
+    ensures { IsTrue result ↔ IsSession words.now }
+{
+    words.len() == 1 && words[0].as_str() == "session"
+}
+
+// All but the last line.
+fn work<B: Bank, S: Source>(alloc: Global, words: &[String], bank: &mut B, source: &mut S) -> Ended
+    requires below { (S.stream source.old).given ≤ 2 ^ 62 }
+    ensures stops { (s : PlainState) (input : List ℕ) → BeginsTold s input (B.view bank.old) (S.stream source.old)
+        → StopsAs plain_store result s input (B.view bank.old).now (B.view bank.new).now
+        (S.stream source.old) (S.stream source.new) }
+    ensures refused { LeavesRefused result (B.view bank.old) (B.view bank.new) }
+    ensures cause { CauseOf result words.now (B.view bank.old) (B.view bank.new)
+        (S.stream source.old) (S.stream source.new) }
+    ensures touches { TouchesOnly 0 (B.view bank.old) (B.view bank.new) }
+{
+    if !is_session(words) {
+        return Ended::Usage;
+    }
+    match bank.size(0) {
+        None => match bank.make(0, VOLUME_BYTES) {
+            Ok(()) => answer_lines(alloc, bank, source),
+            Err(_) => Ended::Log,
+        },
+        Some(size) => {
+            if size != VOLUME_BYTES {
+                return Ended::NotAnArray;
+            }
+            answer_lines(alloc, bank, source)
+        }
+    }
+}
+
+/// All that the program does. The words are those behind the program's name. What contracts say of
+/// bytes said and of disk 0 holds where the bank and the source tell them.
+pub fn run<B: Bank, S: Source, T: Turns>(
+    alloc: Global,
+    words: &[String],
+    bank: &mut B,
+    source: &mut S,
+    _turns: &mut T,
+) -> u8
+    requires below { (S.stream source.old).given ≤ 2 ^ 62 }
+    ensures runs { Runs result words.now (B.view bank.old) (B.view bank.new) (S.stream source.old) (S.stream source.new) }
+
+    // The refusals come exactly so.
+    ensures usage { (result ≡ 2) ↔ (IsSession words.now → ⊥) }
+    ensures not_an_array { (result ≡ 3) ↔ (IsSession words.now × IsOtherSize (B.view bank.old)) }
+    ensures touches { TouchesOnly 0 (B.view bank.old) (B.view bank.new) }
+    ensures turns { _turns.new ≡ _turns.old }
+{
+    let ended = work(alloc, words, bank, source);
+    say_last(bank, ended);
+    status(ended)
+}
