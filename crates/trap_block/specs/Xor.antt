@@ -1,4 +1,4 @@
--- The exclusive-or of blocks, which are lists of bytes of one length, and over the members of a row.
+-- The exclusive-or of two blocks, which are lists of bytes of one length, and over a row's members.
 use Rattle.std.specs.Prelude.{◌≡◌, ◌≢◌, ℕ, ◌<◌, zero, suc, List, [], ◌∷◌, length, replicate, bit_xor, ◌==◌, if◌then◌else◌}
 
 -- a block of this many zero bytes

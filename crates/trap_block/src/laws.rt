@@ -13,8 +13,8 @@ pub fn exclusive_or()
     ensures size { (xs ys : List ℕ) → length ys ≡ length xs → length (xor xs ys) ≡ length xs }
 {}
 
-/// Where the exclusive-or over all members is zero, each member's block is the exclusive-or of the others',
-/// and the other way round.
+/// Where the exclusive-or over all members is zero, each member's block is the exclusive-or of the
+/// others', and the other way round.
 pub fn members()
     ensures one { (size n one : ℕ) (block_of : ℕ → List ℕ) → HaveSize size block_of n → one < n →
         xor_over size block_of n ≡ zeros size → block_of one ≡ xor_but size one block_of n }

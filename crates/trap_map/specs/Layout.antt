@@ -27,4 +27,5 @@ block_at g member row =
 
 -- whose a place is
 abbrev pub owner_of : Geometry → ℕ → ℕ → Owner
-owner_of g member row = if member == parity_member g row then Parity else Block (block_at g member row)
+owner_of g member row =
+    if member == parity_member g row then Parity else Block (block_at g member row)

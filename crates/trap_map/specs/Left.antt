@@ -1,11 +1,11 @@
 -- The left-symmetric layout by its two numbers, the members and the blocks of a chunk.
 use Rattle.std.specs.Prelude.{ℕ, ◌+◌, ◌-◌, ◌/◌, ◌%◌}
 
--- parity stands on the last member in stripe 0, and one member further to the left in each next stripe
+-- parity stands on the last member in stripe 0, and one member further to the left in each next one
 abbrev pub parity_in : ℕ → ℕ → ℕ
 parity_in members stripe = (members - 1) - stripe % members
 
--- a stripe's data chunks follow its parity round the members: where the chunk stands that has so many before it
+-- a stripe's data chunks follow its parity round the members: where one with so many before it stands
 abbrev pub member_in : ℕ → ℕ → ℕ → ℕ
 member_in members stripe before = (parity_in members stripe + 1 + before) % members
 

@@ -21,14 +21,14 @@ pub fn places()
         (owner_of g member row ≡ Parity) ↔ (member ≡ parity_member g row) }
 {}
 
-/// The table holds each block at its place. The exclusive-or over a row is zero, so each place is the
-/// exclusive-or of the row's others.
+/// The table holds each block at its place. The exclusive-or over a row is zero, so each place is
+/// the exclusive-or of the row's others.
 pub fn rows()
     ensures block { (g : Geometry) (image : List (List ℕ)) (block : ℕ) →
         table g image (block_place g block).row (block_place g block).member
         ≡ slice_index_or image block [] }
-    ensures zero { (g : Geometry) (image : List (List ℕ)) (row : ℕ) → IsImage g image → row < g.rows →
-        xor_over g.block (table g image row) g.members ≡ zeros g.block }
+    ensures zero { (g : Geometry) (image : List (List ℕ)) (row : ℕ) → IsImage g image →
+        row < g.rows → xor_over g.block (table g image row) g.members ≡ zeros g.block }
     ensures one { (g : Geometry) (image : List (List ℕ)) (row member : ℕ) → IsImage g image →
         row < g.rows → member < g.members →
         table g image row member ≡ xor_but g.block member (table g image row) g.members }

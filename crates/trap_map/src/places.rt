@@ -24,7 +24,8 @@ pub enum Owner {
     Parity,
 }
 
-/// Where a block stands. A stripe is `chunk` rows; its data chunks follow its parity round the members.
+/// Where a block stands. A stripe is `chunk` rows; its data chunks follow its parity round the
+/// members.
 #[tactic(auto, using(crate::proofs::PlaceLemmas::place_row_fits))]
 pub fn place_of(g: &Geometry, block: u32) -> Place
     requires { block < volume g.now }
@@ -44,8 +45,8 @@ pub fn place_of(g: &Geometry, block: u32) -> Place
     }
 }
 
-/// The member with the parity of a row: the last one in the first stripe, and one further to the left in
-/// each next.
+/// The member with the parity of a row: the last one in the first stripe, and one further to the
+/// left in each next.
 pub fn parity_of(g: &Geometry, row: u32) -> u8
     requires { row < g.now.rows }
     ensures parity { result ≡ parity_member g.now row }

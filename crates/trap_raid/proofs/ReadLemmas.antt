@@ -1,11 +1,11 @@
 -- Calls that only read, one after the other.
-use Rattle.std.proofs.Common.{◌≡◌, ◌≢◌, ℕ, ◌+◌, ◌<◌, ◌≤◌, List, Option, Some, IsTrue, Result, add-one, refl, sym, ap, subst, ◌∙◌, arith}
+use Rattle.std.proofs.Common.{◌≡◌, ◌≢◌, ℕ, ◌+◌, List, Option, IsTrue, Result, add-one, refl, sym, ap, subst, ◌∙◌, arith}
 use Rattle.trap_block.specs.Xor.{xor, xor_but}
 use Rattle.trap_block.proofs.OverLemmas.{xor_but_here, xor_but_there}
 use Rattle.trap_model.specs.declared.numbers.Geometry.{Geometry}
 use Rattle.trap_bank.specs.Disks.{Contents, View}
-use Rattle.trap_bank.specs.Calls.{Fits, Reads}
-use Rattle.trap_bank.specs.Steps.{Moves, Same}
+use Rattle.trap_bank.specs.Calls.{Reads}
+use Rattle.trap_bank.specs.Steps.{Same}
 use Rattle.trap_bank.proofs.Moves.{read_steps, same_then, no_moves}
 use Rattle.trap_raid.specs.Members.{RowFits, PlaceFits, member_place}
 use Rattle.trap_raid.specs.Reads.{OnlyReads, HasFailed}

@@ -1,8 +1,8 @@
 -- The table's places from the members that are not lost, and the plan of a write.
-use Rattle.std.proofs.Common.{◌≡◌, ◌≢◌, ℕ, ◌<◌, List, [], length, get_or, set, Option, Some, ap, sym, subst, ◌∙◌}
-use Rattle.trap_model.specs.Image.{volume, IsImage}
+use Rattle.std.proofs.Common.{◌≡◌, ◌≢◌, ℕ, ◌<◌, List, [], length, get_or, Option, Some, ap, sym, subst, ◌∙◌}
 use Rattle.trap_block.specs.Xor.{xor, xor_but}
 use Rattle.trap_block.proofs.OverLemmas.{xor_but_same}
+use Rattle.trap_model.specs.Image.{volume, IsImage}
 use Rattle.trap_model.specs.declared.numbers.Geometry.{Geometry}
 use Rattle.trap_map.specs.declared.places.Place.{Place}
 use Rattle.trap_map.specs.Layout.{parity_member, block_place}

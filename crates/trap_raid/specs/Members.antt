@@ -25,7 +25,7 @@ pub record IsPlace (g : Geometry) (place : Place) : Type 0 where
 abbrev pub RowFits : Geometry → View → ℕ → ℕ → Type 0
 RowFits g v row member = Fits v (member + 1) (row_offset g row + g.block)
 
--- so do the disks that stand for a place: its member's own, or where that member is lost, all others
+-- so do the disks that stand for a place: its member's own, or where that one is lost, all others
 pub record PlaceFits (g : Geometry) (lost : Option ℕ) (v : View) (row member : ℕ) : Type 0 where
   pub own : lost ≢ Some member → RowFits g v row member
   pub others : lost ≡ Some member → (m : ℕ) → m < g.members → m ≢ member → RowFits g v row m
@@ -33,19 +33,24 @@ pub record PlaceFits (g : Geometry) (lost : Option ℕ) (v : View) (row member :
 -- so do those for a block's place and for the parity of its row
 pub record BlockFits (g : Geometry) (lost : Option ℕ) (v : View) (block : ℕ) : Type 0 where
   pub place : PlaceFits g lost v (block_place g block).row (block_place g block).member
-  pub parity : PlaceFits g lost v (block_place g block).row (parity_member g (block_place g block).row)
+  pub parity :
+      PlaceFits g lost v (block_place g block).row (parity_member g (block_place g block).row)
 
 -- the disk of each member but the lost one is there and has all rows
 abbrev pub MembersFit : Geometry → Option ℕ → View → Type 0
-MembersFit g lost v = (member : ℕ) → member < g.members → lost ≢ Some member → Fits v (member + 1) (row_offset g g.rows)
+MembersFit g lost v =
+    (member : ℕ) → member < g.members → lost ≢ Some member → Fits v (member + 1) (row_offset g g.rows)
 
 -- places that are the table's, but perhaps for those of the lost member
 abbrev pub StandFor : Geometry → Option ℕ → (ℕ → ℕ → List ℕ) → List (List ℕ) → Type 0
 StandFor g lost place image =
-    (row member : ℕ) → row < g.rows → member < g.members → lost ≢ Some member → place row member ≡ table g image row member
+    (row member : ℕ) → row < g.rows → member < g.members → lost ≢ Some member
+    → place row member ≡ table g image row member
 
--- each member but the lost one has a disk of its exact size, whose places are those of the image's table
-pub record MembersHold (g : Geometry) (disks : Disks) (lost : Option ℕ) (image : List (List ℕ)) : Type 0 where
+-- each member but the lost one has a disk of its exact size, whose places are the image's table's
+pub record MembersHold (g : Geometry) (disks : Disks) (lost : Option ℕ)
+    (image : List (List ℕ)) : Type 0 where
   pub image_ : IsImage g image
-  pub sizes : (member : ℕ) → member < g.members → lost ≢ Some member → size_of (disks (member + 1)) ≡ Some (row_offset g g.rows)
+  pub sizes : (member : ℕ) → member < g.members → lost ≢ Some member
+      → size_of (disks (member + 1)) ≡ Some (row_offset g g.rows)
   pub places : StandFor g lost (member_place g disks) image

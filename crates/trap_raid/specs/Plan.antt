@@ -12,7 +12,9 @@ pub record AreBlocks (g : Geometry) (fresh delta parity scratch : List ℕ) : Ty
   pub parity_size : length parity ≡ g.block
   pub scratch_size : length scratch ≡ g.block
 
--- the write's parity is old xor fresh, and the row's parity is that of the image with the block written
-pub record IsPlan (g : Geometry) (image : List (List ℕ)) (block : ℕ) (fresh delta parity : List ℕ) : Type 0 where
+-- the write's parity is old xor fresh, and the row's is that of the image with the block written
+pub record IsPlan (g : Geometry) (image : List (List ℕ)) (block : ℕ)
+    (fresh delta parity : List ℕ) : Type 0 where
   pub write_parity : delta ≡ xor (slice_index_or image block []) fresh
-  pub row_parity_after : parity ≡ row_parity g (slice_set image block fresh) (block_place g block).row
+  pub row_parity_after :
+      parity ≡ row_parity g (slice_set image block fresh) (block_place g block).row

@@ -32,12 +32,14 @@ pub record CostsAtMost (calls : ℕ) (old new : View) : Type 0 where
   pub moment : IsTrue old.tells → IsTrue old.by_one → new.moment ≤ moment_after calls old.moment
 
 -- a read of a place takes one call, or where its member is lost, one for each other member
-pub record ReadCosts {T E : Type 0} (g : Geometry) (lost : Option ℕ) (member : ℕ) (result : Result T E) (old new : View) : Type 0 where
+pub record ReadCosts {T E : Type 0} (g : Geometry) (lost : Option ℕ) (member : ℕ)
+    (result : Result T E) (old new : View) : Type 0 where
   pub own : lost ≢ Some member → Costs 1 old new
   pub others : lost ≡ Some member → OnOk result (Costs (g.members - 1) old new)
   pub most : CostsAtMost (g.members - 1) old new
 
--- the plan of a write takes two calls where no member is lost, and never more than there are members
-pub record PlanCosts {T E : Type 0} (g : Geometry) (lost : Option ℕ) (result : Result T E) (old new : View) : Type 0 where
+-- a plan takes two calls where no member is lost, and never more than there are members
+pub record PlanCosts {T E : Type 0} (g : Geometry) (lost : Option ℕ)
+    (result : Result T E) (old new : View) : Type 0 where
   pub whole : lost ≡ None → OnOk result (Costs 2 old new)
   pub most : CostsAtMost g.members old new

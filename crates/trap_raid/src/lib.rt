@@ -3,6 +3,8 @@
 
 mod raid;
 mod reads;
+#[cfg(test)]
+mod tests;
 
 pub use raid::Raid;
 pub use reads::MemberFailed;

@@ -1,8 +1,8 @@
 //! The members of an array, of which one may be lost.
 
 ghost use Rattle.std.specs.Prelude.{◌≡◌, ◌<◌, ℕ, List, Option, Some, None, length, IsTrue, OnOk, IfErr};
-ghost use Rattle.trap_model.specs.Image.{volume};
 ghost use Rattle.std.specs.Option.{ForSome};
+ghost use Rattle.trap_model.specs.Image.{volume};
 ghost use Rattle.trap_map.specs.Table.{table};
 ghost use Rattle.trap_raid.specs.Members.{IsPlace, PlaceFits, BlockFits, MembersHold};
 ghost use Rattle.trap_raid.specs.Reads.{OnlyReads, HasFailed, ReadCosts, PlanCosts};
@@ -16,8 +16,8 @@ use trap_block::xor_into;
 use trap_map::{Place, parity_of, place_of};
 use trap_model::Geometry;
 
-/// The numbers of an array, and the member that is lost. A contract sees them as a `Condition`. The bytes
-/// of the members are the bank's.
+/// The numbers of an array, and the member that is lost. A contract sees them as a `Condition`. The
+/// bytes of the members are the bank's.
 #[derive(Debug, Drop)]
 pub struct Raid {
     g: Geometry,
@@ -70,9 +70,9 @@ impl Raid {
         self.rebuilt
     }
 
-    /// Reads what stands at a place: its member's bytes, or where that member is lost, the exclusive-or of
-    /// the other members' bytes of the row. That takes one read, or one of each other member. `into` and
-    /// `scratch` are blocks; after a failure they hold any bytes.
+    /// Reads what stands at a place: its member's bytes, or where that member is lost, the
+    /// exclusive-or of the other members' bytes of the row. `into` and `scratch` are blocks; after
+    /// a failure they hold any bytes.
     pub fn read_place<B: Bank>(
         &self,
         bank: &mut B,
@@ -89,7 +89,8 @@ impl Raid {
             → OnOk result (into.new ≡ table self.now.g image place.row place.member) }
         ensures cause { IfErr result (λ failed.
             HasFailed self.now.g self.now.lost (B.view bank.old) (B.view bank.new) failed.member) }
-        ensures cost { ReadCosts self.now.g self.now.lost place.member result (B.view bank.old) (B.view bank.new) }
+        ensures cost { ReadCosts self.now.g self.now.lost place.member result
+            (B.view bank.old) (B.view bank.new) }
 
         // Stopped at any moment, the disks are as they were.
         ensures any_moment { OnlyReads (B.view bank.old) (B.view bank.new) }
@@ -101,9 +102,9 @@ impl Raid {
         }
     }
 
-    /// What a write of `fresh` to the block changes: `delta` becomes the old bytes xor the fresh ones, and
-    /// `parity` the parity of the block's row after the write. All four are blocks; after a failure
-    /// `delta`, `parity` and `scratch` hold any bytes.
+    /// What a write of `fresh` to the block changes: `delta` becomes the old bytes xor the fresh
+    /// ones, and `parity` the parity of the block's row after the write. All four are blocks; after
+    /// a failure `delta`, `parity` and `scratch` hold any bytes.
     pub fn write_plan<B: Bank>(
         &self,
         bank: &mut B,
@@ -121,7 +122,8 @@ impl Raid {
             → OnOk result (IsPlan self.now.g image block fresh.now delta.new parity.new) }
         ensures cause { IfErr result (λ failed.
             HasFailed self.now.g self.now.lost (B.view bank.old) (B.view bank.new) failed.member) }
-        ensures cost { PlanCosts self.now.g self.now.lost result (B.view bank.old) (B.view bank.new) }
+        ensures cost { PlanCosts self.now.g self.now.lost result
+            (B.view bank.old) (B.view bank.new) }
 
         // Stopped at any moment, the disks are as they were.
         ensures any_moment { OnlyReads (B.view bank.old) (B.view bank.new) }

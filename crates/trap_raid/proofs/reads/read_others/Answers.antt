@@ -1,4 +1,4 @@
-use Rattle.std.proofs.Common.{◌≡◌, ◌+◌, IsTrue, sym, subst, ◌∙◌, arith}
+use Rattle.std.proofs.Common.{◌+◌, sym, subst, ◌∙◌, arith}
 use Rattle.trap_raid.specs.Reads.{OnlyReads, Costs}
 use Rattle.trap_raid.proofs.ReadLemmas.{row_fits_along, only_reads_then, others_more, others_but}
 use Rattle.trap_raid.proofs.CostLemmas.{others_below, others_more_below, others_same_below, costs_then, costs_are}

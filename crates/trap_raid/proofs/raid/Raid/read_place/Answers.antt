@@ -1,4 +1,4 @@
-use Rattle.std.proofs.Common.{◌≡◌, ◌<◌, ℕ, List, Some, OnOk, ap, sym, subst, ◌∙◌, rules}
+use Rattle.std.proofs.Common.{◌≡◌, Some, OnOk, sym, subst, ◌∙◌, rules}
 use Rattle.std.proofs.lemmas.Result.{on_ok_weaker}
 use Rattle.trap_map.specs.Table.{table}
 use Rattle.trap_raid.specs.Condition.{Condition}
@@ -22,5 +22,5 @@ returns-then-eq-clause-table g c = λ told image.
     let within = subst Q (sym c.self.view_is) c.requires.place in
     let gone : c.self.inside.lost ≡ Some c.args.place.member = search rules in
     subst P c.self.view_is (λ holds. on_ok_weaker c.read_others.result
-        (λ e. e ∙ others_stand c.self.inside.g c.self.inside.lost (member_place c.self.inside.g disks) image holds.image_ holds.places c.args.place.row c.args.place.member within.row within.member gone)
-        (c.read_others.ensures.others told))
+    (λ e. e ∙ others_stand c.self.inside.g c.self.inside.lost (member_place c.self.inside.g disks) image holds.image_ holds.places c.args.place.row c.args.place.member within.row within.member gone)
+    (c.read_others.ensures.others told))

@@ -1,8 +1,8 @@
-use Rattle.std.proofs.Common.{Ok, ◌≡◌, ◌<◌, ℕ, List, IsTrue, length, ap, sym, subst, ◌∙◌}
+use Rattle.std.proofs.Common.{Ok, ◌≡◌, ℕ, ap, sym, ◌∙◌}
 use Rattle.trap_map.specs.declared.places.Place.{Place}
 use Rattle.trap_map.specs.Layout.{parity_member, block_place}
 use Rattle.trap_raid.specs.Condition.{Condition}
-use Rattle.trap_raid.proofs.ReadLemmas.{only_reads_then, still_tells, place_fits_along, place_fits_at, failed_after}
+use Rattle.trap_raid.proofs.ReadLemmas.{only_reads_then, still_tells, place_fits_along, place_fits_at}
 use Rattle.trap_raid.proofs.TableLemmas.{hold_along, members_apart, plan_from_reads}
 use Rattle.trap_raid.proofs.CostLemmas.{plan_costs}
 use Rattle.trap_raid.proofs.raid.Raid.write_plan.Goals as goal
@@ -14,7 +14,7 @@ read_place-requires-2-clause-disks g c =
     let is_place : c.place_of-place.result ≡ block_place c.args.self.now.g c.args.block = c.place_of-place.ensures.place ∙ ap (λ h. block_place h c.args.block) is_g in
     let is_row : c.place_of-place.result.row ≡ (block_place c.args.self.now.g c.args.block).row = ap (λ (p : Place). p.row) is_place in
     let is_member : c.parity_of.result ≡ parity_member c.args.self.now.g (block_place c.args.self.now.g c.args.block).row =
-        c.parity_of.ensures.parity ∙ ap (λ h. parity_member h c.place_of-place.result.row) is_g ∙ ap (λ (r : ℕ). parity_member c.args.self.now.g r) is_row in
+    c.parity_of.ensures.parity ∙ ap (λ h. parity_member h c.place_of-place.result.row) is_g ∙ ap (λ (r : ℕ). parity_member c.args.self.now.g r) is_row in
     place_fits_along c.args.self.now.g c.args.self.now.lost (g.B.Bank.view c.args.bank.now) (g.B.Bank.view c.read_place.new.bank) c.place_of-place.result.row c.parity_of.result
     c.read_place.ensures.any_moment
     (place_fits_at c.args.self.now.g c.args.self.now.lost (g.B.Bank.view c.args.bank.now) (block_place c.args.self.now.g c.args.block).row (parity_member c.args.self.now.g (block_place c.args.self.now.g c.args.block).row)
@@ -34,7 +34,7 @@ returns-clause-plan g c = λ told image holds.
     let is_g : c.self.inside.g ≡ c.args.self.now.g = ap (λ (k : Condition). k.g) c.self.view_is in
     let is_place : c.place_of-place.result ≡ block_place c.args.self.now.g c.args.block = c.place_of-place.ensures.place ∙ ap (λ h. block_place h c.args.block) is_g in
     let is_member : c.parity_of.result ≡ parity_member c.args.self.now.g c.place_of-place.result.row =
-        c.parity_of.ensures.parity ∙ ap (λ h. parity_member h c.place_of-place.result.row) is_g in
+    c.parity_of.ensures.parity ∙ ap (λ h. parity_member h c.place_of-place.result.row) is_g in
     let again = hold_along c.args.self.now.g c.args.self.now.lost old.now mid.now image (c.read_place.ensures.any_moment.same told) holds in
     plan_from_reads c.args.self.now.g image c.args.block c.place_of-place.result c.parity_of.result c.args.fresh.now
     c.read_place.new.into c.read_place-2.new.into c.xor_into.new.dst c.xor_into-2.new.dst
