@@ -81,7 +81,8 @@ impl Raid {
         scratch: &mut [u8],
     ) -> Result<(), MemberFailed>
         requires place { IsPlace self.now.g place }
-        requires disks { PlaceFits self.now.g self.now.lost (B.view bank.old) place.row place.member }
+        requires disks { PlaceFits self.now.g self.now.lost (B.view bank.old)
+            place.row place.member }
         requires into { length into.old ≡ self.now.g.block }
         requires scratch { length scratch.old ≡ self.now.g.block }
         ensures table { IsTrue (B.view bank.old).tells → (image : List (List ℕ))
