@@ -5,3 +5,5 @@ pub mod Checks
 pub mod BigEndian
 pub mod MemberHeaders
 pub mod LogHeaders
+pub mod Heads
+pub mod Spellings

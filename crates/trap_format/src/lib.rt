@@ -2,12 +2,15 @@
 #![tactic(auto)]
 
 mod head;
+mod head_value;
+pub mod laws;
 mod limits;
 mod log_disk;
 mod member_disk;
 mod pieces;
 
 pub use head::Head;
+pub use head_value::{read_head, spell_head};
 pub use limits::{BadGeometry, Field, check};
 pub use log_disk::{is_log, log_len, read_log, spell_log};
 pub use member_disk::{member_len, read_member, spell_member};
