@@ -1,0 +1,4 @@
+pub mod ImageLemmas
+pub mod Holding
+pub mod Making
+pub mod Found

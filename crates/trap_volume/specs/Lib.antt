@@ -1,0 +1,4 @@
+pub mod Image
+pub mod Volume
+pub mod Opening
+pub mod Faults
