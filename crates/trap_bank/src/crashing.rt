@@ -14,7 +14,8 @@ use crate::draws::Draws;
 impl MemoryBank {
     /// Makes every call fail after so many more. A later fuse takes the place of an earlier one.
     pub fn fuse(&mut self, calls: u64)
-        ensures { self.new ≡ record self.old { fuse = Some (min (self.old.moment + calls) (2 ^ 64 - 1)) } }
+        ensures { self.new
+            ≡ record self.old { fuse = Some (min (self.old.moment + calls) (2 ^ 64 - 1)) } }
     {
         self.fuse = Some(self.moment.saturating_add(calls));
     }

@@ -83,7 +83,8 @@ impl Disk {
         &self.bytes
     }
 
-    /// Lays bytes over the disk's from the offset `at` on, and answers what stood there. Without memory nothing changes.
+    /// Lays bytes over the disk's from the offset `at` on, and answers what stood there. Without
+    /// memory nothing changes.
     pub(crate) fn write(
         &mut self,
         alloc: Global,
@@ -92,7 +93,8 @@ impl Disk {
     ) -> Result<Bytes, AllocError>
         requires { at + length bytes.now ≤ length self.old.bytes }
         ensures ok { IfOk result (λ replaced. self.new ≡ written_disk self.old at bytes.now) }
-        ensures replaced { IfOk result (λ replaced. replaced ≡ slice_range self.old.bytes at (at + length bytes.now)) }
+        ensures replaced { IfOk result
+            (λ replaced. replaced ≡ slice_range self.old.bytes at (at + length bytes.now)) }
         ensures err { OnErr result (self.new ≡ self.old) }
     {
         let replaced = Vec::from_slice(alloc, part(&self.bytes, at, bytes.len()))?;
@@ -178,7 +180,8 @@ pub(crate) fn copy_ranges(to: &mut [u8], from: &[u8], ranges: &[Range])
 fn copy_range(to: &mut [u8], from: &[u8], range: Range)
     requires same { length to.old ≡ length from.now }
     requires inside { range.at + range.len ≤ length from.now }
-    ensures { to.new ≡ overlaid to.old range.at (slice_range from.now range.at (range.at + range.len)) }
+    ensures { to.new
+        ≡ overlaid to.old range.at (slice_range from.now range.at (range.at + range.len)) }
 {
     let end = range.at + range.len;
     to[range.at..end].copy_from_slice(&from[range.at..end]);

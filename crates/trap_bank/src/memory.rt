@@ -87,7 +87,8 @@ impl MemoryBank {
     /// The bytes of a disk as a read gives them, or None where it is absent.
     pub fn disk(&self, d: u8) -> Option<&[u8]>
         requires { d ≤ 20 }
-        ensures { MatchOption result ((view_of self.now).now.disks d ≡ None) (λ bytes. (view_of self.now).now.disks d ≡ Some bytes.now) }
+        ensures { MatchOption result ((view_of self.now).now.disks d ≡ None)
+            (λ bytes. (view_of self.now).now.disks d ≡ Some bytes.now) }
     {
         match &self.disks[d as usize] {
             Some(disk) => Some(disk.bytes()),

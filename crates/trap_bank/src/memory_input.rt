@@ -40,7 +40,9 @@ impl MemorySource {
 
     /// Makes the call with that number fail, counted from 1. The last eight such numbers are kept.
     pub fn fail_at(&mut self, call: u64)
-        ensures { self.new ≡ record self.old { chosen = record { numbers = call ∷ take 7 self.old.chosen.numbers } } }
+        ensures { self.new ≡ record self.old {
+          chosen = record { numbers = call ∷ take 7 self.old.chosen.numbers };
+        } }
     {
         self.chosen.add(call);
     }
@@ -79,8 +81,8 @@ impl Source for MemorySource {
     }
 }
 
-/// Places the bytes behind the first `given` at the front of `buf`: as many as there are, as `buf` has room for and
-/// as one call gives.
+/// Places the bytes behind the first `given` at the front of `buf`: as many as there are, as `buf`
+/// has room for and as one call gives.
 fn give(bytes: &[u8], given: u64, piece: usize, buf: &mut [u8]) -> usize
     ensures len { result ≡ min (max piece 1) (min (length buf.old) (length bytes.now - given)) }
     ensures front { take result buf.new ≡ take result (drop given bytes.now) }
