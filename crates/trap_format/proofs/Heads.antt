@@ -83,13 +83,13 @@ same_fields version v lost o rebuilt r first f base_time b first_off fo last l e
 pub head_same : (h k : Head) → HeadFits h → HeadFits k → head_value h ≡ head_value k → h ≡ k
 head_same h k a b e =
     same_fields h.version k.version h.lost k.lost _ _ _ _ _ _ _ _ _ _ _ _ _ _ _ _
-        (ap (λ (xs : List ℕ). get_or xs 0 0) e)
-        (lost_same h.lost k.lost (ap (λ (xs : List ℕ). get_or xs 1 0) e))
-        (same_of_4 h.rebuilt k.rebuilt a.rebuilt b.rebuilt (ap (λ (xs : List ℕ). slice_range xs 2 6) e))
-        (same_of_8 h.first k.first a.first b.first (ap (λ (xs : List ℕ). slice_range xs 6 14) e))
-        (same_of_8 h.base_time k.base_time a.base_time b.base_time (ap (λ (xs : List ℕ). slice_range xs 14 22) e))
-        (same_of_8 h.first_off k.first_off a.first_off b.first_off (ap (λ (xs : List ℕ). slice_range xs 22 30) e))
-        (same_of_8 h.last k.last a.last b.last (ap (λ (xs : List ℕ). slice_range xs 30 38) e))
-        (same_of_8 h.end_off k.end_off a.end_off b.end_off (ap (λ (xs : List ℕ). slice_range xs 38 46) e))
-        (same_of_8 h.drained k.drained a.drained b.drained (ap (λ (xs : List ℕ). slice_range xs 46 54) e))
-        (same_of_8 h.last_time k.last_time a.last_time b.last_time (ap (λ (xs : List ℕ). slice_range xs 54 62) e))
+    (ap (λ (xs : List ℕ). get_or xs 0 0) e)
+    (lost_same h.lost k.lost (ap (λ (xs : List ℕ). get_or xs 1 0) e))
+    (same_of_4 h.rebuilt k.rebuilt a.rebuilt b.rebuilt (ap (λ (xs : List ℕ). slice_range xs 2 6) e))
+    (same_of_8 h.first k.first a.first b.first (ap (λ (xs : List ℕ). slice_range xs 6 14) e))
+    (same_of_8 h.base_time k.base_time a.base_time b.base_time (ap (λ (xs : List ℕ). slice_range xs 14 22) e))
+    (same_of_8 h.first_off k.first_off a.first_off b.first_off (ap (λ (xs : List ℕ). slice_range xs 22 30) e))
+    (same_of_8 h.last k.last a.last b.last (ap (λ (xs : List ℕ). slice_range xs 30 38) e))
+    (same_of_8 h.end_off k.end_off a.end_off b.end_off (ap (λ (xs : List ℕ). slice_range xs 38 46) e))
+    (same_of_8 h.drained k.drained a.drained b.drained (ap (λ (xs : List ℕ). slice_range xs 46 54) e))
+    (same_of_8 h.last_time k.last_time a.last_time b.last_time (ap (λ (xs : List ℕ). slice_range xs 54 62) e))

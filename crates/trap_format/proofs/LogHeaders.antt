@@ -63,14 +63,14 @@ header_keeps bytes g asked at is =
     let members : asked.members ≡ g.members = at.members ∙ ap (λ (xs : List ℕ). get_or xs 13 0) is.spelled in
     let chunk : asked.chunk ≡ g.chunk = at.chunk ∙ ap (λ (xs : List ℕ). get_or xs 14 0) is.spelled in
     let block : asked.block ≡ g.block =
-        same_of_2 asked.block g.block at.block_fits (omega (arith, g.within.block_most)) (at.block ∙ ap (λ (xs : List ℕ). slice_range xs 15 17) is.spelled) in
+    same_of_2 asked.block g.block at.block_fits (omega (arith, g.within.block_most)) (at.block ∙ ap (λ (xs : List ℕ). slice_range xs 15 17) is.spelled) in
     let rows : asked.rows ≡ g.rows =
-        same_of_4 asked.rows g.rows at.rows_fit (omega (arith, g.within.rows_most)) (at.rows ∙ ap (λ (xs : List ℕ). slice_range xs 17 21) is.spelled) in
+    same_of_4 asked.rows g.rows at.rows_fit (omega (arith, g.within.rows_most)) (at.rows ∙ ap (λ (xs : List ℕ). slice_range xs 17 21) is.spelled) in
     let slots : asked.slots ≡ g.slots = at.slots ∙ ap (λ (xs : List ℕ). get_or xs 21 0) is.spelled in
     let gap : asked.gap ≡ g.gap = at.gap ∙ ap (λ (xs : List ℕ). get_or xs 22 0) is.spelled in
     let entries : asked.entries ≡ g.entries =
-        same_of_4 asked.entries g.entries at.entries_fit (omega (arith, g.within.entries_most)) (at.entries ∙ ap (λ (xs : List ℕ). slice_range xs 23 27) is.spelled) in
+    same_of_4 asked.entries g.entries at.entries_fit (omega (arith, g.within.entries_most)) (at.entries ∙ ap (λ (xs : List ℕ). slice_range xs 23 27) is.spelled) in
     let ring : asked.ring ≡ g.ring =
-        same_of_8 asked.ring g.ring at.ring_fits (omega (arith, g.within.ring_most)) (at.ring ∙ ap (λ (xs : List ℕ). slice_range xs 27 35) is.spelled) in
+    same_of_8 asked.ring g.ring at.ring_fits (omega (arith, g.within.ring_most)) (at.ring ∙ ap (λ (xs : List ℕ). slice_range xs 27 35) is.spelled) in
     let same : asked ≡ numbers_of g asked.id = same_asked asked.id _ _ _ _ _ _ _ _ _ _ _ _ _ _ _ _ members chunk block rows slots gap entries ring in
     ap first_broken same ∙ none_broken (numbers_of g asked.id) g.within is.one_slot

@@ -37,28 +37,30 @@ within_limits asked e =
     let entries = passed (keeps asked Entries) Entries _ gap.1 in
     let ring = passed (keeps asked Ring) Ring _ entries.1 in
     let chunks = and_parts (is_between asked.chunk (2 ^ 20) asked.rows) (asked.rows % asked.chunk == 0) rows.0 in
-    let one = eqb-true asked.slots 1 slots.0 in
-    (record {
-      members_least = (between_parts 3 16 asked.members members.0).0;
-      members_most = (between_parts 3 16 asked.members members.0).1;
-      chunk_least = (between_parts 1 128 asked.chunk chunk.0).0;
-      chunk_most = (between_parts 1 128 asked.chunk chunk.0).1;
-      block_size = block.0;
-      block_least = (block_bounds asked.block block.0).0;
-      block_most = (block_bounds asked.block block.0).1;
-      rows_least = (between_parts asked.chunk (2 ^ 20) asked.rows chunks.0).0;
-      rows_most = (between_parts asked.chunk (2 ^ 20) asked.rows chunks.0).1;
-      whole_chunks = eqb-true (asked.rows % asked.chunk) 0 chunks.1;
-      volume_most = leb-true (asked.rows * (asked.members - 1)) (2 ^ 20) volume.0;
-      slots_least = omega arith;
-      slots_most = omega arith;
-      gap_least = (between_parts 2 255 asked.gap gap.0).0;
-      gap_most = (between_parts 2 255 asked.gap gap.0).1;
-      entries_least = (between_parts 1 (2 ^ 20) asked.entries entries.0).0;
-      entries_most = (between_parts 1 (2 ^ 20) asked.entries entries.0).1;
-      ring_least = (between_parts (2 * greatest_record asked.block) (2 ^ 32) asked.ring ring.0).0;
-      ring_most = (between_parts (2 * greatest_record asked.block) (2 ^ 32) asked.ring ring.0).1;
-    }, one)
+    let one = eqb-true asked.slots 1 slots.0 in (
+      record {
+        members_least = (between_parts 3 16 asked.members members.0).0;
+        members_most = (between_parts 3 16 asked.members members.0).1;
+        chunk_least = (between_parts 1 128 asked.chunk chunk.0).0;
+        chunk_most = (between_parts 1 128 asked.chunk chunk.0).1;
+        block_size = block.0;
+        block_least = (block_bounds asked.block block.0).0;
+        block_most = (block_bounds asked.block block.0).1;
+        rows_least = (between_parts asked.chunk (2 ^ 20) asked.rows chunks.0).0;
+        rows_most = (between_parts asked.chunk (2 ^ 20) asked.rows chunks.0).1;
+        whole_chunks = eqb-true (asked.rows % asked.chunk) 0 chunks.1;
+        volume_most = leb-true (asked.rows * (asked.members - 1)) (2 ^ 20) volume.0;
+        slots_least = omega arith;
+        slots_most = omega arith;
+        gap_least = (between_parts 2 255 asked.gap gap.0).0;
+        gap_most = (between_parts 2 255 asked.gap gap.0).1;
+        entries_least = (between_parts 1 (2 ^ 20) asked.entries entries.0).0;
+        entries_most = (between_parts 1 (2 ^ 20) asked.entries entries.0).1;
+        ring_least = (between_parts (2 * greatest_record asked.block) (2 ^ 32) asked.ring ring.0).0;
+        ring_most = (between_parts (2 * greatest_record asked.block) (2 ^ 32) asked.ring ring.0).1;
+      },
+      one,
+    )
 
 not_found : (b : Bool) (field : Field) (others : Option Field) → b ≡ true → others ≡ None → cond (not b) (Some field) others ≡ None
 not_found true field others e rest = rest

@@ -24,7 +24,7 @@ geometry id members chunk block rows slots gap entries ring within = record { id
 same_numbers : (id i members m chunk c block b rows r slots s gap ga entries e ring ri : ℕ) → id ≡ i → members ≡ m → chunk ≡ c → block ≡ b → rows ≡ r → slots ≡ s → gap ≡ ga → entries ≡ e → ring ≡ ri → (w : AreWithinLimits members chunk block rows slots gap entries ring) (v : AreWithinLimits m c b r s ga e ri) → geometry id members chunk block rows slots gap entries ring w ≡ geometry i m c b r s ga e ri v
 same_numbers id i members m chunk c block b rows r slots s gap ga entries e ring ri p1 p2 p3 p4 p5 p6 p7 p8 p9 w =
     let from0 : (v : AreWithinLimits members chunk block rows slots gap entries ring) → geometry id members chunk block rows slots gap entries ring w ≡ geometry id members chunk block rows slots gap entries ring v =
-        λ v. ap (geometry id members chunk block rows slots gap entries ring) (limits_prop members chunk block rows slots gap entries ring w v) in
+    λ v. ap (geometry id members chunk block rows slots gap entries ring) (limits_prop members chunk block rows slots gap entries ring w v) in
     let from1 = subst (λ (x : ℕ). (v : AreWithinLimits members chunk block rows slots gap entries ring) → geometry id members chunk block rows slots gap entries ring w ≡ geometry x members chunk block rows slots gap entries ring v) p1 from0 in
     let from2 = subst (λ (x : ℕ). (v : AreWithinLimits x chunk block rows slots gap entries ring) → geometry id members chunk block rows slots gap entries ring w ≡ geometry i x chunk block rows slots gap entries ring v) p2 from1 in
     let from3 = subst (λ (x : ℕ). (v : AreWithinLimits m x block rows slots gap entries ring) → geometry id members chunk block rows slots gap entries ring w ≡ geometry i m x block rows slots gap entries ring v) p3 from2 in

@@ -14,3 +14,6 @@ pub use head_value::{read_head, spell_head};
 pub use limits::{BadGeometry, Field, check};
 pub use log_disk::{is_log, log_len, read_log, spell_log};
 pub use member_disk::{member_len, read_member, spell_member};
+
+#[cfg(test)]
+mod tests;

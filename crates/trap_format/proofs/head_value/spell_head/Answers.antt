@@ -8,5 +8,5 @@ returns c =
     let h = c.args.h.now in
     let lost = c.put_byte-2.ensures ∙ ap (λ (byte : ℕ). put_over 1 (byte ∷ []) c.put_byte.new.out) c.byte_of.ensures in
     head_written h c.put_u64-2.new.bytes _ _ _ _ _
-        (first_written h c.args.out.now _ _ _ _ _ (omega arith) c.put_byte.ensures lost c.put_u32.ensures c.put_u64.ensures c.put_u64-2.ensures)
-        c.put_u64-3.ensures c.put_u64-4.ensures c.put_u64-5.ensures c.put_u64-6.ensures c.put_u64-7.ensures
+    (first_written h c.args.out.now _ _ _ _ _ (omega arith) c.put_byte.ensures lost c.put_u32.ensures c.put_u64.ensures c.put_u64-2.ensures)
+    c.put_u64-3.ensures c.put_u64-4.ensures c.put_u64-5.ensures c.put_u64-6.ensures c.put_u64-7.ensures
