@@ -10,8 +10,8 @@ flag false = 0
 
 -- kind 1, the flag, and the five numbers: 26 bytes
 abbrev pub header : LogRec → List ℕ
-header r = 1 ∷ flag r.snap ∷ to_be_bytes w64 r.seq ++ to_be_bytes w64 r.time ++ to_be_bytes w32 r.block
-    ++ to_be_bytes w16 r.plen ++ to_be_bytes w16 r.slen
+header r = 1 ∷ flag r.snap ∷ to_be_bytes w64 r.seq ++ to_be_bytes w64 r.time
+    ++ to_be_bytes w32 r.block ++ to_be_bytes w16 r.plen ++ to_be_bytes w16 r.slen
 
 -- the length of the second code, over blocks of that size
 abbrev pub SnapshotLength : ℕ → Bool → ℕ → Type 0

@@ -24,13 +24,15 @@ pub record AreZeros (bytes : List ℕ) (at count : ℕ) : Type 0 where
   pub inside : at + count ≤ length bytes
   pub zeros : (k : ℕ) → k < count → slice_index bytes (at + k) ≡ 0
 
--- a literal begins and ends with a nonzero byte, so it isn't empty, and holds no four zero bytes in succession
+-- a literal begins and ends with a nonzero byte, so it isn't empty, and holds no four zero bytes in
+-- succession
 pub record IsLiteral (bytes : List ℕ) : Type 0 where
   pub begins : 0 < slice_index bytes 0
   pub ends : 0 < slice_index bytes (length bytes - 1)
   pub apart : (at : ℕ) → ¬ AreZeros bytes at 4
 
--- a segment with a literal, where the block has `owed` bytes left: at least so many zero bytes come before it
+-- a segment with a literal, where the block has `owed` bytes left: at least so many zero bytes come
+-- before it
 pub record HasLiteral (least owed : ℕ) (s : Segment) : Type 0 where
   pub zeros : least ≤ s.zeros
   pub literal : IsLiteral s.literal
@@ -46,11 +48,12 @@ pub record IsRest (owed : ℕ) (s : Segment) : Type 0 where
 abbrev pub Follows : ℕ → ℕ → Segment → Type 0
 Follows least owed s = HasLiteral least owed s ⊎ IsRest owed s
 
--- Segments one behind the other, behind which the block has `left` bytes left. Before the literal of the first
--- one stand at least `least` zero bytes, and at least four before each later one.
+-- Segments one behind the other, behind which the block has `left` bytes left. Before the literal
+-- of the first one stand at least `least` zero bytes, and at least four before each later one.
 abbrev pub Walks : ℕ → ℕ → List Segment → ℕ → Type 0
 Walks least owed [] left = left ≡ owed
-Walks least owed (s ∷ segments) left = Follows least owed s × Walks 4 (owed - size_of s) segments left
+Walks least owed (s ∷ segments) left =
+    Follows least owed s × Walks 4 (owed - size_of s) segments left
 
 -- the bytes spell the block
 pub record ZeroRun (block bytes : List ℕ) : Type 0 where
@@ -70,10 +73,11 @@ least_behind least (s ∷ segments) = 4
 
 -- no segment that keeps the rules begins the bytes
 abbrev pub NoneFollows : ℕ → ℕ → List ℕ → Type 0
-NoneFollows least owed bytes = (s : Segment) (more : List ℕ) → bytes ≡ spelling s ++ more → ¬ Follows least owed s
+NoneFollows least owed bytes =
+    (s : Segment) (more : List ℕ) → bytes ≡ spelling s ++ more → ¬ Follows least owed s
 
--- the bytes spell no block of that size: some segments keep the rules, and where they end no further one does,
--- though the block has bytes left or the bytes go on
+-- the bytes spell no block of that size: some segments keep the rules, and where they end no
+-- further one does, though the block has bytes left or the bytes go on
 pub record IsRefused (size : ℕ) (bytes : List ℕ) (at : ℕ) : Type 0 where
   pub segments : List Segment
   pub rest : List ℕ

@@ -6,9 +6,9 @@ ghost use Rattle.trap_model.specs.LogRecord.{LogRecord};
 
 use crate::LogRec;
 
-/// Each block that isn't empty has exactly one spelling, of at least 4 bytes and at most 7 more than its
-/// own. Of blocks of one size no spelling begins another, and none stands for two blocks; and no log
-/// record begins another. So what was written is read again, whatever follows it.
+/// Each block that isn't empty has exactly one spelling, of at least 4 bytes and at most 7 more
+/// than its own. Of blocks of one size no spelling begins another, and none stands for two blocks;
+/// and no log record begins another. So what was written is read again, whatever follows it.
 pub fn spellings()
     ensures some { (block : List ℕ) → (bytes : List ℕ) × ZeroRun block bytes }
     ensures one { (block a b : List ℕ) → ZeroRun block a → ZeroRun block b → a ≡ b }

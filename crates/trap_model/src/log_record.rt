@@ -11,8 +11,8 @@ pub struct LogRec {
     pub time: u64,
     /// The block that it writes.
     pub block: u32,
-    /// The length in bytes of the first code, of the old contents xor the new ones: 4 to 7 more than
-    /// a block has.
+    /// The length in bytes of the first code, of the old contents xor the new ones: 4 to 7 more
+    /// than a block has.
     pub plen: u16,
     /// The length in bytes of the second code, of the new contents: 4 to 7 more than a block has
     /// where `snap` is set, and 0 otherwise.

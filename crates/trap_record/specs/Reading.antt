@@ -35,7 +35,8 @@ pub record IsWhole (size : ℕ) (r : LogRec) (used : ℕ) (bytes : List ℕ) : T
 
 -- fewer bytes are there than a header, or than the header names
 abbrev pub IsShort : ℕ → List ℕ → Type 0
-IsShort size bytes = (length bytes < 26) ⊎ ((r : LogRec) × BeginsWith size r bytes × (length bytes < record_len r))
+IsShort size bytes =
+    (length bytes < 26) ⊎ ((r : LogRec) × BeginsWith size r bytes × (length bytes < record_len r))
 
 -- enough bytes for a header, and none that keeps the ranges begins them
 pub record IsBadHeader (size : ℕ) (bytes : List ℕ) (at : ℕ) : Type 0 where
@@ -65,4 +66,5 @@ pub record IsBadSnapshot (size : ℕ) (bytes : List ℕ) (at : ℕ) : Type 0 whe
 abbrev pub Reads : ℕ → List ℕ → ReadRec → Type 0
 Reads size bytes (Whole rec used) = IsWhole size rec used bytes
 Reads size bytes Short = IsShort size bytes
-Reads size bytes (Bad at) = IsBadHeader size bytes at ⊎ (IsBadParity size bytes at ⊎ IsBadSnapshot size bytes at)
+Reads size bytes (Bad at) =
+    IsBadHeader size bytes at ⊎ (IsBadParity size bytes at ⊎ IsBadSnapshot size bytes at)

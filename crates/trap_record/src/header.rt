@@ -46,7 +46,8 @@ fn keeps_ranges(rec: LogRec, size: usize) -> bool
 fn split_header(bytes: &[u8]) -> Option<LogRec>
     requires { 26 ≤ length bytes.now }
     ensures found { IfSome result (λ rec. bytes.now ≡ header rec ++ drop 26 bytes.now) }
-    ensures none { IfNone result ((rec : LogRec) (more : List _) → bytes.now ≡ header rec ++ more → ⊥) }
+    ensures none { IfNone result ((rec : LogRec) (more : List _)
+        → bytes.now ≡ header rec ++ more → ⊥) }
 {
     if bytes[0] != 1 {
         return None;

@@ -97,8 +97,8 @@ fn each_break_is_found_at_its_place(rt: HostRuntime) {
         (23, 24, 0),
         (25, 3, 0),
         (25, 24, 0),
-        // The first code has a byte of the block too few, and the second one a zero as its literal, and a run
-        // too short.
+        // The first code stands for a byte too few; the second one has a zero as its literal, and
+        // then stands for a byte too few.
         (27, 0x0f, 26),
         (34, 0, 30),
         (36, 0x0e, 35),

@@ -7,9 +7,9 @@ ghost use Rattle.trap_model.specs.LogRecord.{header, IsSnapshot, LogRecord};
 use crate::header::{HEADER, put_header};
 use trap_model::LogRec;
 
-/// Writes a record at the front of `out`, and answers its length: 26 bytes and both codes. `parity` is the
-/// code of the old contents xor the new ones, and `snapshot` that of the new ones, or empty where the flag
-/// isn't set.
+/// Writes a record at the front of `out`, and answers its length: 26 bytes and both codes. `parity`
+/// is the code of the old contents xor the new ones, and `snapshot` that of the new ones, or empty
+/// where the flag isn't set.
 pub fn spell(rec: &LogRec, parity: &[u8], snapshot: &[u8], out: &mut [u8]) -> usize
     requires parity { rec.now.plen ≡ length parity.now }
     requires snapshot { rec.now.slen ≡ length snapshot.now }
@@ -17,7 +17,7 @@ pub fn spell(rec: &LogRec, parity: &[u8], snapshot: &[u8], out: &mut [u8]) -> us
     ensures end { result ≡ 26 + rec.now.plen + rec.now.slen }
     ensures spelled { take result out.new ≡ header rec.now ++ (parity.now ++ snapshot.now) }
 
-    // With a number in range, and codes of blocks of one size, this is a record over blocks of that size.
+    // With a number in range and codes of blocks of one size this is a record over such blocks.
     ensures whole { (size : ℕ) → 1 ≤ size → 1 ≤ rec.now.seq → rec.now.seq ≤ 2 ^ 40
         → IsCode size parity.now → IsSnapshot size rec.now.snap snapshot.now
         → LogRecord size rec.now parity.now snapshot.now (take result out.new) }

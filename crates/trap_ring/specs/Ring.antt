@@ -20,8 +20,8 @@ ring_byte r offset disks = byte disks r.disk (ring_pos r offset)
 abbrev pub whole_ring : RingPlace → Area
 whole_ring r = Within r.disk r.at r.len
 
--- where `len` bytes from an absolute offset on stand: from `start` on, and all but the first `count` of them at the
--- ring's beginning, since these reach its end
+-- where `len` bytes from an absolute offset on stand: from `start` on, and all but the first
+-- `count` of them at the ring's beginning, since these reach its end
 pub record IsCut (r : RingPlace) (offset len start count : ℕ) : Type 0 where
   pub some : 1 ≤ r.len
   pub place : start ≡ ring_pos r offset
@@ -39,7 +39,8 @@ pub record InRing (r : RingPlace) (from n e i : ℕ) : Type 0 where
 
 -- these bytes stand in the ring from an absolute offset on
 abbrev pub RingHas : RingPlace → ℕ → List ℕ → Disks → Type 0
-RingHas r from bytes disks = (k : ℕ) → k < length bytes → ring_byte r (from + k) disks ≡ slice_index bytes k
+RingHas r from bytes disks =
+    (k : ℕ) → k < length bytes → ring_byte r (from + k) disks ≡ slice_index bytes k
 
 -- the bytes with the offsets from one up to another are as they were
 abbrev pub SameWindow : RingPlace → ℕ → ℕ → Disks → Disks → Type 0

@@ -10,8 +10,8 @@ ghost use Rattle.trap_ring.specs.Ring.{InRing, RingHas, KeepsWindow, Appends, Is
 use std::marker::Model;
 use trap_bank::{Bank, DiskFault};
 
-/// A ring of `len` bytes on a disk, from the byte offset `at` on. Its bytes have absolute offsets that only
-/// grow: the one with offset `x` stands at byte `x mod len` of the ring.
+/// A ring of `len` bytes on a disk, from the byte offset `at` on. Its bytes have absolute offsets
+/// that only grow: the one with offset `x` stands at byte `x mod len` of the ring.
 #[derive(Drop)]
 pub struct Ring {
     disk: u8,
@@ -31,7 +31,8 @@ impl Model for Ring {
 }
 
 impl Ring {
-    /// The ring of `len` bytes, at least 1, of a disk from the byte offset `at` on. Its end is below 2^64.
+    /// The ring of `len` bytes, at least 1, of a disk from the byte offset `at` on. It ends below
+    /// 2^64.
     pub fn new(disk: u8, at: u64, len: u64) -> Ring
         requires disk { disk ≤ 20 }
         requires some { 1 ≤ len }
@@ -41,8 +42,8 @@ impl Ring {
         Ring { disk, at, len }
     }
 
-    /// Writes the bytes at the absolute offset `to`, behind the window from `from` to `to`, in at most two
-    /// writes. It doesn't sync. After a fault any bytes may stand where the new ones belong.
+    /// Writes the bytes at the absolute offset `to`, behind the window from `from` to `to`, in at
+    /// most two writes. It doesn't sync. After a fault any bytes may stand in the new ones' places.
     pub fn append<B: Bank>(
         &self,
         bank: &mut B,
@@ -57,13 +58,16 @@ impl Ring {
         ensures cause { OnErr result (Rose ((B.view bank.old).faults self.now.disk)
             ((B.view bank.new).faults self.now.disk)) }
         ensures contents { IsTrue (B.view bank.old).tells
-            → Torn (InRing self.now to (length bytes.now)) (B.view bank.old).now (B.view bank.new).now }
+            → Torn (InRing self.now to (length bytes.now))
+                (B.view bank.old).now (B.view bank.new).now }
         ensures written { IsTrue (B.view bank.old).tells → OnOk result
-            (Appends self.now from to bytes.now (B.view bank.old).now.disks (B.view bank.new).now.disks) }
+            (Appends self.now from to bytes.now
+                (B.view bank.old).now.disks (B.view bank.new).now.disks) }
 
         // Stopped at any moment, no byte but those of the new bytes' places has changed.
         ensures any_moment { Moves (B.view bank.old) (B.view bank.new)
-            (Differs (InRing self.now to (length bytes.now))) (Differs (InRing self.now to (length bytes.now))) }
+            (Differs (InRing self.now to (length bytes.now)))
+            (Differs (InRing self.now to (length bytes.now))) }
 
         // So the window stands as it was, and so does all outside the ring.
         ensures window { Moves (B.view bank.old) (B.view bank.new)
@@ -81,15 +85,16 @@ impl Ring {
         Ok(())
     }
 
-    /// Fills `buf` with the bytes from the absolute offset `at` on, in at most two reads. After a fault `buf`
-    /// holds any bytes.
+    /// Fills `buf` with the bytes from the absolute offset `at` on, in at most two reads. After a
+    /// fault `buf` holds any bytes.
     pub fn read<B: Bank>(&self, bank: &mut B, at: u64, buf: &mut [u8]) -> Result<(), DiskFault>
         requires room { length buf.old ≤ self.now.len }
         requires there { Fits (B.view bank.old) self.now.disk (self.now.at + self.now.len) }
         ensures sizes { (e : ℕ) → (B.view bank.new).sizes e ≡ (B.view bank.old).sizes e }
         ensures cause { OnErr result (Rose ((B.view bank.old).faults self.now.disk)
             ((B.view bank.new).faults self.now.disk)) }
-        ensures contents { IsTrue (B.view bank.old).tells → (B.view bank.new).now ≡ (B.view bank.old).now }
+        ensures contents { IsTrue (B.view bank.old).tells
+            → (B.view bank.new).now ≡ (B.view bank.old).now }
         ensures bytes { IsTrue (B.view bank.old).tells
             → OnOk result (RingHas self.now at buf.new (B.view bank.old).now.disks) }
         ensures any_moment { Moves (B.view bank.old) (B.view bank.new) Same Same }
@@ -117,8 +122,8 @@ impl Ring {
         self.at
     }
 
-    /// Where on the disk `len` bytes from an absolute offset on begin, and how many of them stand before the
-    /// ring's end.
+    /// Where on the disk `len` bytes from an absolute offset on begin, and how many of them stand
+    /// before the ring's end.
     fn cut(&self, offset: u64, len: usize) -> (u64, usize)
         ensures { IsCut self.now offset len result.0 result.1 }
     {

@@ -57,9 +57,9 @@ fn next_segment(bytes: &[u8], least: usize, owed: usize) -> Option<(usize, &[u8]
     Some((zeros, literal))
 }
 
-/// Bytes that spell no block of the size asked. `at` is the offset of the first byte of the first segment
-/// that isn't whole, breaks a rule or goes past the end of the block; or of the first byte behind the last
-/// segment.
+/// Bytes that spell no block of the size asked. `at` is the offset of the first byte of the first
+/// segment that isn't whole, breaks a rule or goes past the end of the block; or of the first byte
+/// behind the last segment.
 #[derive(Clone, Copy, Debug, PartialEq, Eq)]
 pub struct BadCode {
     pub at: usize,
@@ -72,7 +72,8 @@ fn segment_at(bytes: &[u8], at: usize, least: usize, owed: usize) -> Result<(usi
     requires small { owed < 2 ^ 16 }
     ensures found { IfOk result (λ next. IsNext least owed (drop at bytes.now)
         (record { zeros = next.0; literal = next.1.now })) }
-    ensures none { IfErr result (λ bad. (bad.at ≡ at) × NoneFollows least owed (drop at bytes.now)) }
+    ensures none { IfErr result (λ bad.
+        (bad.at ≡ at) × NoneFollows least owed (drop at bytes.now)) }
 {
     match next_segment(&bytes[at..], least, owed) {
         Some(next) => Ok(next),

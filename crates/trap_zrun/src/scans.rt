@@ -53,7 +53,7 @@ fn without_zeros(bytes: &[u8], at: usize, stop: usize) -> usize
     end
 }
 
-/// The end of the literal that begins at a place, which has no zero byte or is the end of the block.
+/// The end of the literal that begins at a place, which has no zero byte or is the block's end.
 pub fn literal_end(block: &[u8], at: usize) -> usize
     requires inside { at ≤ length block.now }
     requires some { at < length block.now → 0 < slice_index block.now at }

@@ -32,7 +32,7 @@ fn each_worked_block_has_its_code(rt: HostRuntime) {
     assert_eq!(rt; &out[..len], of_four.as_slice());
 }
 
-// Where 16 bytes are refused, by `decode` and by `check`, or 99 where they aren't, or 98 where the two differ.
+// Where a code of 16 bytes is refused; 99 where it isn't, and 98 where `decode` and `check` differ.
 fn refused_at(bytes: &[u8]) -> usize {
     let mut out = [0xee; 16];
     let by_check = match check(bytes, 16) {
@@ -56,8 +56,8 @@ fn each_wrong_code_is_refused_at_its_place(rt: HostRuntime) {
     assert_eq!(rt; refused_at(&[0, 0x10, 0, 0]), 99);
 }
 
-// Whether the block's code has a length within the bounds, and is read as the block, with its last byte cut as
-// none and with a byte behind it as one that ends before.
+// Whether the block's code is read as the block, without its last byte as no code, and with a byte
+// behind it as one that ends there.
 fn goes_round(block: &[u8]) -> bool
     requires { length block.now ≤ 4096 }
 {

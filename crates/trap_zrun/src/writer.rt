@@ -6,8 +6,9 @@ ghost use Rattle.trap_model.specs.ZeroRun.{ZeroRun};
 use crate::pieces::put_segment;
 use crate::scans::{literal_end, zeros_from};
 
-/// Writes the one spelling of the block at the front of `out`, which has room for seven bytes more than
-/// the block, and answers the spelling's length. One pass: each literal is found and copied at once.
+/// Writes the one spelling of the block at the front of `out`, which has room for seven bytes more
+/// than the block, and answers the spelling's length. It goes over the block once, and copies each
+/// literal as it is found.
 pub fn code(block: &[u8], out: &mut [u8]) -> usize
     requires size { length block.now < 2 ^ 16 }
     requires room { length block.now + 7 ≤ length out.old }
