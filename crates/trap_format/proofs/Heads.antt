@@ -1,5 +1,5 @@
 -- The head's value, piece by piece.
-use Rattle.std.proofs.Common.{◌≡◌, ℕ, ◌+◌, ◌-◌, ◌*◌, ◌<◌, ◌≤◌, ◌^◌, List, [], ◌∷◌, ◌++◌, length, take, drop, get_or, Option, Some, None, refl, ap, sym, ◌∙◌, subst, arith}
+use Rattle.std.proofs.Common.{◌≡◌, ℕ, ◌+◌, ◌*◌, ◌≤◌, ◌^◌, List, [], ◌∷◌, ◌++◌, length, drop, get_or, Option, Some, None, refl, ap, arith}
 use Rattle.std.specs.Prelude.{slice_range}
 use Rattle.std.specs.Int.{w32, w64, to_be_bytes}
 use Rattle.std.proofs.Math.Nat.{mul-le-mul}
@@ -8,7 +8,7 @@ use Rattle.trap_block.specs.Fields.{put_over}
 use Rattle.trap_model.specs.Limits.{greatest_record}
 use Rattle.trap_model.specs.declared.numbers.Geometry.{Geometry}
 use Rattle.trap_format.specs.declared.head.Head.{Head}
-use Rattle.trap_format.specs.HeadValue.{lost_byte, head_value, IsHead, IsHeadValue, HeadStandsIn, HeadFits}
+use Rattle.trap_format.specs.HeadValue.{lost_byte, head_value, IsHead, HeadStandsIn, HeadFits}
 use Rattle.trap_format.proofs.Written.{Written, written_none, written_more, written_all}
 use Rattle.trap_format.proofs.Cuts.{piece, byte_is}
 use Rattle.trap_format.proofs.BigEndian.{same_of_4, same_of_8}

@@ -1,11 +1,10 @@
 -- The header of the log's disk, piece by piece.
-use Rattle.std.proofs.Common.{◌≡◌, ℕ, ◌+◌, ◌-◌, ◌<◌, ◌≤◌, List, [], ◌∷◌, ◌++◌, length, take, drop, get_or, replicate, refl, ap, sym, ◌∙◌, subst, arith, None, ◌^◌}
-use Rattle.std.specs.Prelude.{codes, slice_range}
+use Rattle.std.proofs.Common.{◌≡◌, ℕ, ◌-◌, List, [], ◌∷◌, ◌++◌, length, take, drop, get_or, replicate, ap, ◌∙◌, arith, None}
+use Rattle.std.specs.Prelude.{slice_range}
 use Rattle.std.specs.Int.{w16, w32, w64, to_be_bytes}
 use Rattle.trap_block.specs.Fields.{put_over}
 use Rattle.trap_model.specs.declared.asked.Asked.{Asked}
 use Rattle.trap_model.specs.declared.numbers.Geometry.{Geometry}
-use Rattle.trap_model.specs.Limits.{AreWithinLimits}
 use Rattle.trap_format.specs.Checked.{HasNumbers, first_broken}
 use Rattle.trap_format.specs.LogDisk.{log_start, log_header, IsLogHeader, StandsIn}
 use Rattle.trap_format.proofs.Numbers.{none_broken}

@@ -1,5 +1,5 @@
 -- Which numbers an array can have.
-use Rattle.std.specs.Prelude.{◌≡◌, ℕ, ◌+◌, ◌-◌, ◌*◌, ◌%◌, ◌^◌, List, [], ◌∷◌, find, Option, Bool, true, not, ◌&&◌, ◌==◌, nat_le}
+use Rattle.std.specs.Prelude.{◌≡◌, ℕ, ◌-◌, ◌*◌, ◌%◌, ◌^◌, List, [], ◌∷◌, find, Option, Bool, true, not, ◌&&◌, ◌==◌, nat_le}
 use Rattle.trap_model.specs.Limits.{is_block_size, greatest_record}
 use Rattle.trap_model.specs.declared.asked.Asked.{Asked}
 use Rattle.trap_model.specs.declared.numbers.Geometry.{Geometry}

@@ -1,5 +1,5 @@
 -- A member's disk: its size, and its header.
-use Rattle.std.specs.Prelude.{ℕ, ◌+◌, ◌*◌, List, [], ◌∷◌, ◌++◌, replicate, codes}
+use Rattle.std.specs.Prelude.{ℕ, ◌+◌, ◌*◌, List, ◌∷◌, ◌++◌, replicate, codes}
 use Rattle.std.specs.Int.{w64, to_be_bytes}
 use Rattle.trap_model.specs.declared.numbers.Geometry.{Geometry}
 

@@ -104,8 +104,8 @@ fn keeps_numbers(g: &Geometry, h: &Head) -> bool
     h.first <= h.drained
         && h.drained <= h.last
         && h.last <= LAST_NUMBER
-        && h.last - h.drained <= g.slots as u64
-        && h.last - h.first <= g.entries as u64
+        && h.last <= h.drained + g.slots as u64
+        && h.last <= h.first + g.entries as u64
 }
 
 fn keeps_offsets(g: &Geometry, h: &Head) -> bool

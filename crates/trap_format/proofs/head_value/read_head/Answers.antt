@@ -1,6 +1,5 @@
 use Rattle.std.proofs.Common.{◌≡◌, sym, ◌∙◌, subst}
 use Rattle.std.proofs.lemmas.Bool.{false≢true}
-use Rattle.trap_format.specs.declared.head.Head.{Head}
 use Rattle.trap_format.specs.HeadValue.{IsHead}
 use Rattle.trap_format.proofs.Heads.{head_read, head_fits, head_same}
 use Rattle.trap_format.proofs.head_value.read_head.Goals as goal
