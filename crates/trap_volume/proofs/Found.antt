@@ -116,3 +116,7 @@ mount_exact mounted cell.NoValue result disks was is exact size gate other =
     two : mounted ≡ Err cell.NoValue → mounted ≡ Err cell.DiskFault → ⊥
     two first second = cc
 mount_exact mounted cell.DiskFault result disks was is exact size gate other = absurd (other is)
+
+-- after it is opened every crash leaves the cell as the program knows it
+pub stands_open : (a b : View) (during : Disks → Disks → Type 0) (cell : Slots) (bytes : List ℕ) → Moves a b during (IsOpen cell bytes) → Always b (Stands cell)
+stands_open a b during cell bytes moves c left = let from = moves.now c left in from.by.disks.stands

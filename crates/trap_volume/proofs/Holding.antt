@@ -1,11 +1,11 @@
 -- What a put leaves of a volume.
 use Rattle.std.proofs.Common.{◌≡◌, ◌≢◌, ◌⊎◌, ℕ, ◌+◌, ◌≤◌, List, Bool, Option, Some, None, IsTrue, inl, inr, ⊎_elim, refl, sym, ap, subst, ◌∙◌, arith}
 use Rattle.trap_bank.specs.Disks.{Contents, View, Disks, Quiet, Differs, byte, size_of}
-use Rattle.trap_bank.specs.Steps.{Moves}
+use Rattle.trap_bank.specs.Steps.{Moves, Always}
 use Rattle.trap_bank.proofs.Regions.{disk_apart, byte_of_disk, region_of_disk}
 use Rattle.trap_bank.proofs.Moves.{moves_weaken}
 use Rattle.trap_model.specs.Plain.{IsPlainImage, image_bytes}
-use Rattle.trap_cell.specs.Slots.{Place, Slots, slot_at, value_at, current_slot, cell_value, cell_area, other_slot}
+use Rattle.trap_cell.specs.Slots.{Place, Slots, Stands, slot_at, value_at, current_slot, cell_value, cell_area, other_slot}
 use Rattle.trap_cell.specs.Steps.{PutsIn, IsPut}
 use Rattle.trap_cell.proofs.Beside.{within_cell}
 use Rattle.trap_volume.specs.Volume.{volume_place, CellHolds, OthersSame, PutsImage, HasPutImage}
@@ -83,3 +83,7 @@ module _ (s : Slots) (bytes : List ℕ) (fresh : List (List ℕ)) (place : s.pla
 
   pub write_contents : (x y : Contents) → Quiet (PutsIn s bytes) x y → Quiet (PutsImage fresh) x y
   write_contents x y quiet = record { disks = puts_image x.disks y.disks quiet.disks; said = quiet.said }
+
+-- after a put every crash leaves the cell as the program knows it
+pub stands_written : (a b : View) (cell : Slots) (fresh : List (List ℕ)) → Moves a b (PutsImage fresh) (HasPutImage cell fresh) → Always b (Stands cell)
+stands_written a b cell fresh moves c left = let from = moves.now c left in from.by.disks.stands

@@ -3,6 +3,8 @@
 
 mod fault;
 mod opening;
+#[cfg(test)]
+mod tests;
 mod volume;
 
 pub use fault::OpenFault;

@@ -117,6 +117,7 @@ impl Volume {
             (Opens (B.view bank.old).now.disks) (IsOpen volume.cell volume.bytes)) }
         ensures image { IfOk result (λ volume. (image : List (List ℕ)) → IsTrue (B.view bank.old).tells
             → BeginsWith (B.view bank.old).now.disks image → image_of volume.bytes ≡ image) }
+        ensures stands { IfOk result (λ volume. Always (B.view bank.new) (Stands volume.cell)) }
         ensures size { OnOk result ((B.view bank.new).sizes 0 ≡ Some 261) }
         ensures contents { IsTrue (B.view bank.old).tells
             → Quiet OthersSame (B.view bank.old).now (B.view bank.new).now }

@@ -52,6 +52,7 @@ impl Volume {
         ensures ok { OnOk result (Moves (B.view bank.old) (B.view bank.new)
             (PutsImage (set (image_of self.old.bytes) block bytes.now))
             (HasPutImage self.new.cell (set (image_of self.old.bytes) block bytes.now))) }
+        ensures stands { OnOk result (Always (B.view bank.new) (Stands self.new.cell)) }
         ensures contents { IsTrue (B.view bank.old).tells
             → Quiet (PutsImage (set (image_of self.old.bytes) block bytes.now))
             (B.view bank.old).now (B.view bank.new).now }

@@ -5,7 +5,7 @@ use Rattle.trap_cell.specs.Slots.{cell_value}
 use Rattle.trap_cell.specs.declared.fault.CellFault.TheVariants as cell
 use Rattle.trap_volume.specs.Volume.{volume_place}
 use Rattle.trap_bank.proofs.Moves.{same_then}
-use Rattle.trap_volume.proofs.Found.{open_same, then_made, then_open, then_mounted, is_there, there_stable, there_image, mount_exact}
+use Rattle.trap_volume.proofs.Found.{open_same, then_made, then_open, then_mounted, is_there, there_stable, there_image, mount_exact, stands_open}
 use Rattle.trap_volume.proofs.volume.Volume.open.Goals as goal
 
 pub returns-in_err-is_absent-clause-any_moment : goal.returns-in_err-is_absent-clause-any_moment
@@ -56,3 +56,9 @@ returns-clause-image g c image told begins =
 
 pub returns-clause-any_moment : goal.returns-clause-any_moment
 returns-clause-any_moment g c = open_same (g.B.Bank.view c.args.bank.now) (g.B.Bank.view c.mount.new.bank) (same_then _ _ _ c.counts_absent.ensures.any_moment c.mount.ensures.any_moment)
+
+pub returns-then-is_absent-clause-stands : goal.returns-then-is_absent-clause-stands
+returns-then-is_absent-clause-stands g c = stands_open _ _ _ _ _ c.in_ok-create.ensures.ok
+
+pub returns-clause-stands : goal.returns-clause-stands
+returns-clause-stands g c = stands_open _ _ _ _ _ c.in_ok-mount.ensures.ok
