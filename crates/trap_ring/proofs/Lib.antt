@@ -1,3 +1,4 @@
 pub mod Offsets
 pub mod Appending
 pub mod Getting
+pub mod Counting

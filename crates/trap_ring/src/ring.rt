@@ -59,10 +59,14 @@ impl Ring {
             ((B.view bank.new).faults self.now.disk)) }
         ensures contents { IsTrue (B.view bank.old).tells
             → Torn (InRing self.now to (length bytes.now))
-                (B.view bank.old).now (B.view bank.new).now }
+            (B.view bank.old).now (B.view bank.new).now }
         ensures written { IsTrue (B.view bank.old).tells → OnOk result
             (Appends self.now from to bytes.now
-                (B.view bank.old).now.disks (B.view bank.new).now.disks) }
+            (B.view bank.old).now.disks (B.view bank.new).now.disks) }
+
+        // At most two writes, where each call raises the moment by one.
+        ensures calls { IsTrue (B.view bank.old).tells → IsTrue (B.view bank.old).by_one
+            → (B.view bank.new).moment ≤ (B.view bank.old).moment + 2 }
 
         // Stopped at any moment, no byte but those of the new bytes' places has changed.
         ensures any_moment { Moves (B.view bank.old) (B.view bank.new)
@@ -97,6 +101,10 @@ impl Ring {
             → (B.view bank.new).now ≡ (B.view bank.old).now }
         ensures bytes { IsTrue (B.view bank.old).tells
             → OnOk result (RingHas self.now at buf.new (B.view bank.old).now.disks) }
+
+        // At most two reads, where each call raises the moment by one.
+        ensures calls { IsTrue (B.view bank.old).tells → IsTrue (B.view bank.old).by_one
+            → (B.view bank.new).moment ≤ (B.view bank.old).moment + 2 }
         ensures any_moment { Moves (B.view bank.old) (B.view bank.new) Same Same }
     {
         let (start, count) = self.cut(at, buf.len());

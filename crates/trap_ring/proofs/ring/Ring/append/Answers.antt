@@ -1,5 +1,6 @@
 use Rattle.std.proofs.Common.{length, refl, arith}
 use Rattle.trap_ring.proofs.Appending.{IsFirst, IsRest, none_left, some_left, one_moves, two_moves, window_moves, one_torn, two_torn, one_written, two_written}
+use Rattle.trap_ring.proofs.Counting.{one_call, two_calls}
 use Rattle.trap_ring.proofs.ring.Ring.append.Goals as goal
 
 pub returns-in_err-write-clause-any_moment : goal.returns-in_err-write-clause-any_moment
@@ -113,3 +114,15 @@ returns-clause-written g c =
       room = (let room = c.requires.room in omega arith);
     } in
     two_written _ _ (g.B.Bank.view c.args.bank.now) (g.B.Bank.view c.write.new.self) (g.B.Bank.view c.write-2.new.self) c.args.self.now c.args.from c.args.to (length c.args.bytes.now) c.cut-start.result.0 c.cut-start.result.1 c.disk.result c.disk-2.result c.begin.result c.args.bytes.now c.split_at.result.0.now c.split_at.result.1.now c.requires.room c.split_at.ensures.by_index.0 first rest c.in_ok-write.ensures.call c.in_ok-write-2.ensures.call
+
+pub returns-in_err-write-clause-calls : goal.returns-in_err-write-clause-calls
+returns-in_err-write-clause-calls g c = one_call c.write.result (g.B.Bank.view c.args.bank.now) (g.B.Bank.view c.write.new.self) c.write.ensures.call.goes
+
+pub returns-then-is_empty-clause-calls : goal.returns-then-is_empty-clause-calls
+returns-then-is_empty-clause-calls g c = one_call c.write.result (g.B.Bank.view c.args.bank.now) (g.B.Bank.view c.write.new.self) c.write.ensures.call.goes
+
+pub returns-in_err-write-2-clause-calls : goal.returns-in_err-write-2-clause-calls
+returns-in_err-write-2-clause-calls g c = two_calls c.write.result c.write-2.result (g.B.Bank.view c.args.bank.now) (g.B.Bank.view c.write.new.self) (g.B.Bank.view c.write-2.new.self) c.write.ensures.call.goes c.write-2.ensures.call.goes
+
+pub returns-clause-calls : goal.returns-clause-calls
+returns-clause-calls g c = two_calls c.write.result c.write-2.result (g.B.Bank.view c.args.bank.now) (g.B.Bank.view c.write.new.self) (g.B.Bank.view c.write-2.new.self) c.write.ensures.call.goes c.write-2.ensures.call.goes

@@ -1,6 +1,7 @@
 use Rattle.std.proofs.Common.{length, ◌≡◌, arith}
 use Rattle.trap_ring.proofs.Appending.{IsFirst, IsRest, none_left, some_left}
 use Rattle.trap_ring.proofs.Getting.{one_read, two_read, two_reads_move}
+use Rattle.trap_ring.proofs.Counting.{one_call, two_calls}
 use Rattle.trap_ring.proofs.ring.Ring.read.Goals as goal
 
 pub returns-then-is_empty-clause-bytes : goal.returns-then-is_empty-clause-bytes
@@ -37,3 +38,15 @@ returns-clause-bytes g c =
     } in
     two_read _ _ (g.B.Bank.view c.args.bank.now) (g.B.Bank.view c.read.new.self) (g.B.Bank.view c.read-2.new.self) c.args.self.now c.args.at (length c.args.buf.now) c.cut-start.result.0 c.cut-start.result.1 c.disk.result c.disk-2.result c.begin.result
     c.split_at_mut-first.result.0.now c.read.new.buf c.split_at_mut-first.result.1.now c.read-2.new.buf size more_size first rest c.in_ok-read.ensures.call c.in_ok-read-2.ensures.call
+
+pub returns-in_err-read-clause-calls : goal.returns-in_err-read-clause-calls
+returns-in_err-read-clause-calls g c = one_call c.read.result (g.B.Bank.view c.args.bank.now) (g.B.Bank.view c.read.new.self) c.read.ensures.call.goes
+
+pub returns-then-is_empty-clause-calls : goal.returns-then-is_empty-clause-calls
+returns-then-is_empty-clause-calls g c = one_call c.read.result (g.B.Bank.view c.args.bank.now) (g.B.Bank.view c.read.new.self) c.read.ensures.call.goes
+
+pub returns-in_err-read-2-clause-calls : goal.returns-in_err-read-2-clause-calls
+returns-in_err-read-2-clause-calls g c = two_calls c.read.result c.read-2.result (g.B.Bank.view c.args.bank.now) (g.B.Bank.view c.read.new.self) (g.B.Bank.view c.read-2.new.self) c.read.ensures.call.goes c.read-2.ensures.call.goes
+
+pub returns-clause-calls : goal.returns-clause-calls
+returns-clause-calls g c = two_calls c.read.result c.read-2.result (g.B.Bank.view c.args.bank.now) (g.B.Bank.view c.read.new.self) (g.B.Bank.view c.read-2.new.self) c.read.ensures.call.goes c.read-2.ensures.call.goes
