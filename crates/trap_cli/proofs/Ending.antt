@@ -84,7 +84,7 @@ stops_from Log s input old mid now v w from to by there said (inl torn) = inl (r
   rest = torn.rest;
   next = torn.next;
   said = torn.said ∙ ap (λ l. l ++ first_texts step1 s (lines plain_block input) torn.j) said;
-  torn = torn.torn
+  torn = torn.torn;
 })
 stops_from Log s input old mid now v w from to by there said (inr unmade) = absurd (there unmade.absent)
 stops_from Input s input old mid now v w from to by there said stops =
@@ -132,7 +132,7 @@ pub stops_unmade : {T E : Type 0} (result : Result T E) (s : PlainState) (v v' :
     → Makes 0 128 result v v' → StopsUnmade v.now v'.now
 stops_unmade result s v v' told lawful size begins call = record {
   absent = (begins_absent s v told lawful size begins).0;
-  said = (call.step told).said
+  said = (call.step told).said;
 }
 
 -- The disk was made, and holds the zero image.
@@ -156,7 +156,7 @@ pub ends_as : (ended : Ended) (s : PlainState) (input : List ℕ) (old mid new :
 ends_as ended s input old mid new from to stops same later last = record {
   before = mid.now.said;
   stops = subst (λ disks. StopsAs plain_store ended s input old.now (record { disks = disks; said = mid.now.said }) from to) (sym same) stops;
-  last = last_since old mid new later last
+  last = last_since old mid new later last;
 }
   where
     last_since : (old mid new : View) → old.port_faults ≤ mid.port_faults → {line before : List ℕ} → SaysLast line before mid new → SaysLast line before old new
@@ -165,7 +165,7 @@ ends_as ended s input old mid new from to stops same later last = record {
       rest = last.rest;
       whole = last.whole;
       said = last.said;
-      port = since last.port
+      port = since last.port;
     }
       where
         since : {P : Type 0} → P ⊎ Rose mid.port_faults new.port_faults → P ⊎ Rose old.port_faults new.port_faults
@@ -184,8 +184,8 @@ refuses line old mid new untouched serves touches disks last = record {
     rest = says.rest;
     whole = says.whole;
     said = says.said ∙ ap (λ contents. contents.said ++ says.part) (untouched.contents told);
-    port = since says.port
-  }
+    port = since says.port;
+  };
 }
   where
     all_sizes : (e : ℕ) → new.sizes e ≡ mid.sizes e

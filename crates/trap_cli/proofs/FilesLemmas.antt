@@ -29,7 +29,7 @@ module _ {F : Type 0} (disks disks' : List (Option (OpenDisk F))) (faults faults
     later = omega arith;
     rises = λ told. untold told;
     way = refl;
-    by_one = λ told one. untold told
+    by_one = λ told one. untold told;
   }
 
   untold_elapses : (in_call : Contents → Type 0)
@@ -47,7 +47,7 @@ module _ {F T E : Type 0} (disks : List (Option (OpenDisk F))) (d : ℕ) (faults
     time = untold_elapses disks disks faults faults' port port _;
     same = λ told. untold told;
     fewer = λ told. untold told;
-    bytes = λ told. untold told
+    bytes = λ told. untold told;
   }
 
   pub untold_writes : (at : ℕ) (bytes : List ℕ)
@@ -59,7 +59,7 @@ module _ {F T E : Type 0} (disks : List (Option (OpenDisk F))) (d : ℕ) (faults
     time = untold_elapses disks disks faults faults' port port _;
     torn = λ told. untold told;
     written = λ told. untold told;
-    unsynced = λ told. untold told
+    unsynced = λ told. untold told;
   }
 
   pub untold_syncs : Syncs d result (untold_view disks faults port) (untold_view disks faults' port)
@@ -70,7 +70,7 @@ module _ {F T E : Type 0} (disks : List (Option (OpenDisk F))) (d : ℕ) (faults
     time = untold_elapses disks disks faults faults' port port _;
     same = λ told. untold told;
     fewer = λ told. untold told;
-    synced = λ told. untold told
+    synced = λ told. untold told;
   }
 
 -- a disk that could not be made is closed
@@ -88,5 +88,5 @@ untold_unmade disks d faults faults' port n within blamed = record {
   zeros = λ told. untold told;
   fewer = λ told. untold told;
   stable = λ told. untold told;
-  settled = λ told. untold told
+  settled = λ told. untold told;
 }

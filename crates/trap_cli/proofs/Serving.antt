@@ -26,7 +26,7 @@ module _ {S : Type 0} {store : Store S} {s : S} {asked : Request} {old : Content
   replied {E = E} {value = value} is call = record {
     more = more;
     said = subst (λ r. OnOk r (w.now.said ≡ v.now.said ++ piece)) is (call.said told) ∙ ap (λ l. l ++ piece) quiet ∙ ap (λ l. old.said ++ l) text;
-    holds = subst (λ disks. store.holds disks (store.machine.next s asked)) (sym (call.disks told)) holds
+    holds = subst (λ disks. store.holds disks (store.machine.next s asked)) (sym (call.disks told)) holds;
   }
 
   pub cut_short : {T E : Type 0} {result : Result T E} → Says piece result v w → CutShort store s asked old w.now
@@ -38,9 +38,9 @@ module _ {S : Type 0} {store : Store S} {s : S} {asked : Request} {old : Content
           part = part.part;
           rest = part.rest;
           whole = part.whole ∙ text;
-          said = part.said ∙ ap (λ l. l ++ part.part) quiet
+          said = part.said ∙ ap (λ l. l ++ part.part) quiet;
         };
-        holds = subst (λ disks. store.holds disks (store.machine.next s asked)) (sym (call.disks told)) holds
+        holds = subst (λ disks. store.holds disks (store.machine.next s asked)) (sym (call.disks told)) holds;
       }
 
 in_volume : (block : ℕ) → block < plain_volume → nat_lt block plain_volume ≡ true
@@ -54,7 +54,7 @@ module _ (s : PlainState) (time block : ℕ) (bytes : List ℕ) (v0 v1 : View) {
   write_struck = record {
     more = refl;
     said = (write.torn told).said;
-    torn = write_torn block bytes long told holds write
+    torn = write_torn block bytes long told holds write;
   }
 
   module _ (v2 : View) {T' E' : Type 0} {synced : Result T' E'} (sync : Syncs 0 synced v1 v2) where
@@ -65,7 +65,7 @@ module _ (s : PlainState) (time block : ℕ) (bytes : List ℕ) (v0 v1 : View) {
     sync_struck = record {
       more = refl;
       said = ap (λ contents. contents.said) now_same ∙ (write.torn told).said;
-      torn = others_same (ap (λ contents. contents.disks) now_same) (write_torn block bytes long told holds write)
+      torn = others_same (ap (λ contents. contents.disks) now_same) (write_torn block bytes long told holds write);
     }
 
     pub write_told : IsTrue v2.tells
@@ -77,9 +77,9 @@ module _ (s : PlainState) (time block : ℕ) (bytes : List ℕ) (v0 v1 : View) {
     pub write_holds : {value : T} → written ≡ Ok value → PlainHolds v2.now.disks (next1 s (Write time block bytes)).image
     write_holds {value} is =
         subst (λ b. PlainHolds v2.now.disks (cond b (record { image = set s.image block bytes; number = s.number + 1 }) s).image)
-            (sym (in_volume block within))
-            (holds_same (ap (λ contents. contents.disks) now_same)
-                (write_placed {value = value} block bytes within long told holds (subst (λ r. Writes 0 (16 * block) bytes r v0 v1) is write)))
+        (sym (in_volume block within))
+        (holds_same (ap (λ contents. contents.disks) now_same)
+        (write_placed {value = value} block bytes within long told holds (subst (λ r. Writes 0 (16 * block) bytes r v0 v1) is write)))
 
 pub write_text : (s : PlainState) (time block : ℕ) (bytes : List ℕ) (number : ℕ) → block < plain_volume → s.number ≡ number
     → reply_text (Kept (number + 1)) ≡ reply_text (reply1 s (Write time block bytes))
@@ -94,7 +94,7 @@ module _ (s : PlainState) (block : ℕ) (before after : List ℕ) (v0 v1 : View)
   read_struck = record {
     more = refl;
     said = ap (λ contents. contents.said) (read.same told);
-    torn = others_same (ap (λ contents. contents.disks) (read.same told)) (others_of block holds)
+    torn = others_same (ap (λ contents. contents.disks) (read.same told)) (others_of block holds);
   }
 
   pub read_told : IsTrue v1.tells

@@ -73,7 +73,7 @@ module _ (v0 v v' : View) (serves : ServesOn 0 v0 v) (told : IsTrue v0.tells) (s
     (same : (state_after step1 st (lines 16 input) (line_feeds passed)).number ≡ number)
     (line : List ℕ) (none : HasNoFeed line) (result : Result Next Fault)
     (answer : (s : PlainState) → IsTrue v.tells → s.number ≡ number → PlainHolds v.now.disks s.image
-      → Served plain_store result s (request_of 16 line) v.now v'.now) where
+    → Served plain_store result s (request_of 16 line) v.now v'.now) where
   step : Served plain_store result (state_after step1 st (lines 16 input) (line_feeds passed)) (request_of 16 line) v.now v'.now
   step = answer (state_after step1 st (lines 16 input) (line_feeds passed)) (subst IsTrue (sym serves.touches.tells) told) same walked.answered.holds
 
@@ -102,21 +102,21 @@ module _ (v0 v v' : View) (serves : ServesOn 0 v0 v) (told : IsTrue v0.tells) (s
   quit_line rest here is =
       let left = step_is (Ok Quit) is in
       stops_done plain_store st input passed v0.now v.now walked v'.now
-          (walked.ahead ∙ ap (lines 16) here ∙ lines-quit 16 line rest none left.ends) left.said left.holds
+      (walked.ahead ∙ ap (lines 16) here ∙ lines-quit 16 line rest none left.ends) left.said left.holds
 
   pub disk_line : (rest : List ℕ) → drop (length passed) input ≡ line ++ 10 ∷ rest → result ≡ Err Disk
       → StopsTorn plain_store st input v0.now v'.now
   disk_line rest here is =
       let struck = step_is (Err Disk) is in
       stops_torn plain_store st input passed v0.now v.now walked (request_of 16 line) (lines 16 rest) v'.now
-          (next_line plain_store st input passed v0.now v.now walked line rest here none struck.more) struck
+      (next_line plain_store st input passed v0.now v.now walked line rest here none struck.more) struck
 
   pub port_line : (rest : List ℕ) → drop (length passed) input ≡ line ++ 10 ∷ rest → result ≡ Err Port
       → StopsAtPort plain_store st input v0.now v'.now
   port_line rest here is =
       let cut = step_is (Err Port) is in
       stops_at_port plain_store st input passed v0.now v.now walked (request_of 16 line) (lines 16 rest) v'.now step1_answers_by_lines
-          (next_line plain_store st input passed v0.now v.now walked line rest here none cut.more) cut
+      (next_line plain_store st input passed v0.now v.now walked line rest here none cut.more) cut
 
   -- a last line without one
   module _ (here : drop (length passed) input ≡ line) (some : 0 < length line) where
@@ -127,19 +127,19 @@ module _ (v0 v v' : View) (serves : ServesOn 0 v0 v) (told : IsTrue v0.tells) (s
     quit_last is =
         let left = step_is (Ok Quit) is in
         stops_done plain_store st input passed v0.now v.now walked v'.now
-            (walked.ahead ∙ ap (lines 16) here ∙ lines-last_quit 16 line none some left.ends) left.said left.holds
+        (walked.ahead ∙ ap (lines 16) here ∙ lines-last_quit 16 line none some left.ends) left.said left.holds
 
     pub disk_last : result ≡ Err Disk → StopsTorn plain_store st input v0.now v'.now
     disk_last is =
         let struck = step_is (Err Disk) is in
         stops_torn plain_store st input passed v0.now v.now walked (request_of 16 line) [] v'.now
-            (next_last plain_store st input passed v0.now v.now walked line here none some struck.more) struck
+        (next_last plain_store st input passed v0.now v.now walked line here none some struck.more) struck
 
     pub port_last : result ≡ Err Port → StopsAtPort plain_store st input v0.now v'.now
     port_last is =
         let cut = step_is (Err Port) is in
         stops_at_port plain_store st input passed v0.now v.now walked (request_of 16 line) [] v'.now step1_answers_by_lines
-            (next_last plain_store st input passed v0.now v.now walked line here none some cut.more) cut
+        (next_last plain_store st input passed v0.now v.now walked line here none some cut.more) cut
 
 -- nothing is left to answer
 pub stops_end : (st : PlainState) (input passed : List ℕ) (old now : Contents) → Walked plain_store st input passed old now
@@ -166,8 +166,16 @@ took_quit r0 r r' s0 s s' passed line none0 untaken inside whole before next non
     record {
       bytes = bytes;
       taken = Consumes-trans s0.left (to_come r' s') s'.left (passed ++ (line ++ 10 ∷ [])) (pending r') start (consumes_pending s'.left (pending r'));
-      given = omega (arith, given, used, untaken, inside, length-append (passed ++ (line ++ 10 ∷ [])) (pending r'),
-          length-take (r'.end - r'.at) (drop r'.at r'.chunk.items), length-drop r'.at r'.chunk.items);
+      given = omega (
+        arith,
+        given,
+        used,
+        untaken,
+        inside,
+        length-append (passed ++ (line ++ 10 ∷ [])) (pending r'),
+        length-take (r'.end - r'.at) (drop r'.at r'.chunk.items),
+        length-drop r'.at r'.chunk.items,
+      );
       has_quit = record {
         before = passed;
         line = line;
@@ -175,8 +183,8 @@ took_quit r0 r r' s0 s s' passed line none0 untaken inside whole before next non
         parts = append_assoc passed (line ++ 10 ∷ []) (pending r') ∙ ap (λ l. passed ++ l) (append_assoc line (10 ∷ []) (pending r'));
         whole = whole;
         no_feed = none;
-        quit = quit
-      }
+        quit = quit;
+      };
     }
   where
     consumes_pending : (left : Option (List ℕ)) (bytes : List ℕ) → Consumes (prepend_known bytes left) left bytes

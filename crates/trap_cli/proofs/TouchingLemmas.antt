@@ -11,7 +11,7 @@ touches_nothing d v = record {
   sizes = λ e other. refl;
   disks = λ told e other. refl;
   faults = λ e. omega arith;
-  port_faults = omega arith
+  port_faults = omega arith;
 }
 
 pub touches_then : {d : ℕ} {v0 v1 v2 : View} → TouchesOnly d v0 v1 → TouchesOnly d v1 v2 → TouchesOnly d v0 v2
@@ -20,7 +20,7 @@ touches_then p q = record {
   sizes = λ e other. q.sizes e other ∙ p.sizes e other;
   disks = λ told e other. q.disks (subst IsTrue (sym p.tells) told) e other ∙ p.disks told e other;
   faults = λ e. let first = p.faults e in let second = q.faults e in omega (arith, first, second);
-  port_faults = omega (arith, p.port_faults, q.port_faults)
+  port_faults = omega (arith, p.port_faults, q.port_faults);
 }
 
 pub serves_nothing : (d : ℕ) (v : View) → ServesOn d v v
@@ -37,9 +37,9 @@ serves_read {d = d} call = record {
     sizes = λ e other. call.sizes e;
     disks = λ told e other. ap (λ contents. contents.disks e) (call.same told);
     faults = call.goes.faults;
-    port_faults = call.goes.port_faults
+    port_faults = call.goes.port_faults;
   };
-  same_size = call.sizes d
+  same_size = call.sizes d;
 }
 
 pub serves_write : {T E : Type 0} {d at : ℕ} {bytes : _} {result : Result T E} {v0 v1 : View}
@@ -50,9 +50,9 @@ serves_write {d = d} {at = at} {bytes = bytes} {v0 = v0} {v1 = v1} call = record
     sizes = λ e other. call.sizes e;
     disks = λ told e other. disk_beside d at _ v0.now.disks v1.now.disks e (call.torn told).disks other;
     faults = call.goes.faults;
-    port_faults = call.goes.port_faults
+    port_faults = call.goes.port_faults;
   };
-  same_size = call.sizes d
+  same_size = call.sizes d;
 }
 
 pub serves_sync : {T E : Type 0} {d : ℕ} {result : Result T E} {v0 v1 : View} → Syncs d result v0 v1 → ServesOn d v0 v1
@@ -62,9 +62,9 @@ serves_sync {d = d} call = record {
     sizes = λ e other. call.sizes e;
     disks = λ told e other. ap (λ contents. contents.disks e) (call.same told);
     faults = call.goes.faults;
-    port_faults = call.goes.port_faults
+    port_faults = call.goes.port_faults;
   };
-  same_size = call.sizes d
+  same_size = call.sizes d;
 }
 
 pub serves_say : {T E : Type 0} {piece : _} {result : Result T E} {v0 v1 : View} (d : ℕ) → Says piece result v0 v1 → ServesOn d v0 v1
@@ -74,9 +74,9 @@ serves_say d call = record {
     sizes = λ e other. call.sizes e;
     disks = λ told e other. ap (λ disks. disks e) (call.disks told);
     faults = call.goes.faults;
-    port_faults = call.goes.port_faults
+    port_faults = call.goes.port_faults;
   };
-  same_size = call.sizes d
+  same_size = call.sizes d;
 }
 
 pub touches_make : {T E : Type 0} {d n : ℕ} {result : Result T E} {v0 v1 : View} → Makes d n result v0 v1 → TouchesOnly d v0 v1
@@ -85,5 +85,5 @@ touches_make call = record {
   sizes = call.others;
   disks = λ told. (call.step told).others;
   faults = call.goes.faults;
-  port_faults = call.goes.port_faults
+  port_faults = call.goes.port_faults;
 }

@@ -42,7 +42,7 @@ blocks_whole (block ∷ image) bytes long each =
     let first : take 16 bytes ≡ block = each 0 (omega arith) in
     let shorter : length (drop 16 bytes) ≡ 16 * length image = omega (arith, length-drop 16 bytes, long) in
     let behind = blocks_whole image (drop 16 bytes) shorter (λ k within.
-        ap (take 16) (drop-drop (16 * k) 16 bytes ∙ ap (λ n. drop n bytes) (omega arith)) ∙ each (suc k) (omega (arith, within))) in
+    ap (take 16) (drop-drop (16 * k) 16 bytes ∙ ap (λ n. drop n bytes) (omega arith)) ∙ each (suc k) (omega (arith, within))) in
     sym (take-append-drop 16 bytes) ∙ ap (λ l. l ++ drop 16 bytes) first ∙ ap (λ l. block ++ l) behind
 
 pub lt_true : (k n : ℕ) → k < n → IsTrue (nat_lt k n)
@@ -79,7 +79,7 @@ pub holds_from : (disks : Disks) (image : List (List ℕ)) → IsPlainImage imag
 holds_from disks image shape size each =
     let there = some_bytes (disks 0) size in
     let whole = blocks_whole image (bytes_of (disks 0)) (omega (arith, there.1, shape.blocks))
-        (λ k within. each k (omega (arith, shape.blocks, within))) in
+    (λ k within. each k (omega (arith, shape.blocks, within))) in
     record { shape = shape; disk = there.0 ∙ ap Some whole }
 
 -- the same disks hold the same
@@ -101,8 +101,10 @@ others_after old new image block differs holds = record {
   others = λ k within other.
       let apart : (16 * k + 16 ≤ 16 * block) ⊎ (16 * block + 16 ≤ 16 * k) =
       elim (apart_places k block other) as (λ _. (16 * k + 16 ≤ 16 * block) ⊎ (16 * block + 16 ≤ 16 * k)) [
-        inl below ↦ inl (omega (arith, below)) | inr above ↦ inr (omega (arith, above)) ] in
-      region_beside 0 (16 * block) 16 old new (16 * k) 16 differs apart ∙ holds_block holds k within
+        | inl below ↦ inl (omega (arith, below))
+        | inr above ↦ inr (omega (arith, above))
+      ] in
+      region_beside 0 (16 * block) 16 old new (16 * k) 16 differs apart ∙ holds_block holds k within;
 }
   where
     apart_places : (k block : ℕ) → k ≢ block → (k < block) ⊎ (block < k)
@@ -113,7 +115,7 @@ set_shape : {image : List (List ℕ)} (block : ℕ) (bytes : List ℕ) → IsPla
     → IsPlainImage (set image block bytes)
 set_shape {image} block bytes shape within long = record {
   blocks = length-set image block bytes ∙ shape.blocks;
-  sizes = λ k inside. grind (arith, get_or-set_same {A = List ℕ}, get_or-set_other {A = List ℕ}, shape.blocks, shape.sizes k inside)
+  sizes = λ k inside. grind (arith, get_or-set_same {A = List ℕ}, get_or-set_other {A = List ℕ}, shape.blocks, shape.sizes k inside);
 }
 
 -- the block stands in its place, and the others as before
@@ -139,8 +141,14 @@ placed old new image block bytes within long differs there holds =
 
 -- zeros are the zero image
 pub zeros_hold : (disks : Disks) → disks 0 ≡ Some (image_bytes plain_zeros) → PlainHolds disks plain_zeros
-zeros_hold disks zeros = record { shape = record { blocks = refl; sizes = λ k within.
-    ap (λ (block : List ℕ). length block) (get_or-replicate plain_volume k (replicate plain_block 0) [] (true_lt k plain_volume within)) }; disk = zeros }
+zeros_hold disks zeros = record {
+  shape = record {
+    blocks = refl;
+    sizes = λ k within.
+        ap (λ (block : List ℕ). length block) (get_or-replicate plain_volume k (replicate plain_block 0) [] (true_lt k plain_volume within));
+  };
+  disk = zeros;
+}
 
 -- What a write of a block leaves, failed or not.
 pub write_torn : {T E : Type 0} {result : Result T E} {v0 v1 : View} {image : List (List ℕ)} (block : ℕ) (bytes : List ℕ)
@@ -148,7 +156,7 @@ pub write_torn : {T E : Type 0} {result : Result T E} {v0 v1 : View} {image : Li
     → OthersHold v1.now.disks image block
 write_torn {v0 = v0} {v1 = v1} {image = image} block bytes long told holds call =
     others_after v0.now.disks v1.now.disks image block
-        (differs_at 0 (16 * block) (length bytes) 0 (16 * block) 16 v0.now.disks v1.now.disks refl refl long (call.torn told).disks) holds
+    (differs_at 0 (16 * block) (length bytes) 0 (16 * block) 16 v0.now.disks v1.now.disks refl refl long (call.torn told).disks) holds
 
 -- What a write of a block leaves.
 pub write_placed : {T E : Type 0} {value : T} {v0 v1 : View} {image : List (List ℕ)} (block : ℕ) (bytes : List ℕ)
@@ -156,5 +164,5 @@ pub write_placed : {T E : Type 0} {value : T} {v0 v1 : View} {image : List (List
     → Writes {E = E} 0 (16 * block) bytes (Ok value) v0 v1 → PlainHolds v1.now.disks (set image block bytes)
 write_placed {v0 = v0} {v1 = v1} {image = image} block bytes within long told holds call =
     placed v0.now.disks v1.now.disks image block bytes within long
-        (differs_at 0 (16 * block) (length bytes) 0 (16 * block) 16 v0.now.disks v1.now.disks refl refl long (call.torn told).disks)
-        (subst (λ n. region v1.now.disks 0 (16 * block) n ≡ bytes) long (call.written told)) holds
+    (differs_at 0 (16 * block) (length bytes) 0 (16 * block) 16 v0.now.disks v1.now.disks refl refl long (call.torn told).disks)
+    (subst (λ n. region v1.now.disks 0 (16 * block) n ≡ bytes) long (call.written told)) holds

@@ -23,7 +23,7 @@ pub record Walked {S : Type 0} (store : Store S) (s : S) (input passed : List �
 pub walk_start : {S : Type 0} (store : Store S) (s : S) (input : List ℕ) (old : Contents) → store.holds old.disks s → Walked store s input [] old old
 walk_start store s input old holds = record {
   ahead = refl;
-  answered = record { within = omega arith; said = sym (append-nil old.said); holds = holds }
+  answered = record { within = omega arith; said = sym (append-nil old.said); holds = holds };
 }
 
 module _ {S : Type 0} (store : Store S) (s : S) (input passed : List ℕ) (old mid : Contents) (walked : Walked store s input passed old mid) where
@@ -55,13 +55,13 @@ module _ {S : Type 0} (store : Store S) (s : S) (input passed : List ℕ) (old m
         said = step.said ∙ ap (λ l. l ++ reply_text (store.machine.reply now_at (request_of store.block line))) walked.answered.said
             ∙ append_assoc old.said (first_texts store.machine s requests (line_feeds passed)) (reply_text (store.machine.reply now_at (request_of store.block line)))
             ∙ ap (λ l. old.said ++ l) (sym (first_texts-next store.machine s requests (line_feeds passed) (request_of store.block line) (lines store.block rest) next));
-        holds = subst (store.holds new.disks) (sym (state_after-next store.machine s requests (line_feeds passed) (request_of store.block line) (lines store.block rest) next)) step.holds
+        holds = subst (store.holds new.disks) (sym (state_after-next store.machine s requests (line_feeds passed) (request_of store.block line) (lines store.block rest) next)) step.holds;
       } in
       record {
         ahead = ap (λ n. drop n requests) (sym feeds ∙ add-one (line_feeds passed))
             ∙ drop-next (line_feeds passed) requests (request_of store.block line) (lines store.block rest) next
             ∙ ap (lines store.block) (sym (drop-line input passed line rest here));
-        answered = subst (λ j. StopsAfter store s input j old new) feeds after
+        answered = subst (λ j. StopsAfter store s input j old new) feeds after;
       }
     where
       drop-next : (j : ℕ) (all : List Request) (x : Request) (rest : List Request) → drop j all ≡ x ∷ rest → drop (suc j) all ≡ rest
@@ -77,7 +77,7 @@ module _ {S : Type 0} (store : Store S) (s : S) (input passed : List ℕ) (old m
       let requests = lines store.block input in
       record {
         said = said ∙ walked.answered.said ∙ ap (λ l. old.said ++ l) (first_texts-all store.machine s requests (line_feeds passed) none);
-        holds = subst (store.holds new.disks) (state_after-all store.machine s requests (line_feeds passed) none) holds
+        holds = subst (store.holds new.disks) (state_after-all store.machine s requests (line_feeds passed) none) holds;
       }
 
   -- the last request is answered
@@ -96,7 +96,7 @@ module _ {S : Type 0} (store : Store S) (s : S) (input passed : List ℕ) (old m
             ∙ first_texts-all store.machine s requests (line_feeds passed + 1) gone);
         holds = subst (store.holds new.disks)
             (sym (state_after-next store.machine s requests (line_feeds passed) x [] next) ∙ state_after-all store.machine s requests (line_feeds passed + 1) gone)
-            step.holds
+            step.holds;
       }
     where
       drop-last : (j : ℕ) (all : List Request) (x : Request) → drop j all ≡ x ∷ [] → drop (suc j) all ≡ []
@@ -114,7 +114,7 @@ module _ {S : Type 0} (store : Store S) (s : S) (input passed : List ℕ) (old m
     rest = rest;
     next = next;
     said = step.said ∙ walked.answered.said;
-    torn = step.torn
+    torn = step.torn;
   }
 
   -- the port failed in the next reply
@@ -139,15 +139,15 @@ module _ {S : Type 0} (store : Store S) (s : S) (input passed : List ℕ) (old m
             ∙ ap (λ l. front ++ l) (append_assoc step.part.part step.part.rest more)
             ∙ sym (append_assoc front step.part.part (step.part.rest ++ more));
         holds = either_way j front step.part.part holds
-            (given_or_next m by_lines s requests j x rest step.part.part step.part.rest (lines_go_on store.block input) next (sym step.part.whole))
+            (given_or_next m by_lines s requests j x rest step.part.part step.part.rest (lines_go_on store.block input) next (sym step.part.whole));
       }
     where
       either_way : (j : ℕ) (front part : List ℕ)
           → store.holds new.disks (state_after store.machine s (lines store.block input) (j + 1))
           → (given (reply_texts store.machine s (lines store.block input)) (front ++ part) ≡ j)
-            ⊎ (given (reply_texts store.machine s (lines store.block input)) (front ++ part) ≡ j + 1)
+          ⊎ (given (reply_texts store.machine s (lines store.block input)) (front ++ part) ≡ j + 1)
           → store.holds new.disks (state_after store.machine s (lines store.block input) (given (reply_texts store.machine s (lines store.block input)) (front ++ part)))
-            ⊎ store.holds new.disks (state_after store.machine s (lines store.block input) (given (reply_texts store.machine s (lines store.block input)) (front ++ part) + 1))
+          ⊎ store.holds new.disks (state_after store.machine s (lines store.block input) (given (reply_texts store.machine s (lines store.block input)) (front ++ part) + 1))
       either_way j front part holds (inl is) = inr (subst (λ k. store.holds new.disks (state_after store.machine s (lines store.block input) (k + 1))) (sym is) holds)
       either_way j front part holds (inr is) = inl (subst (λ k. store.holds new.disks (state_after store.machine s (lines store.block input) k)) (sym is) holds)
 

@@ -24,7 +24,7 @@ untold_view disks faults port_faults = record {
   port_faults = port_faults;
   moment = 0;
   by_one = false;
-  left = λ t c. ⊥
+  left = λ t c. ⊥;
 }
 
 abbrev is_false : Bool → Type 0
@@ -40,5 +40,5 @@ pub untold_lawful : {F : Type 0} (disks : List (Option (OpenDisk F))) (faults : 
 untold_lawful disks faults port_faults = record {
   sized = λ told. untold told;
   only_now = λ c left. absurd left;
-  counts_now = λ t told. untold told
+  counts_now = λ t told. untold told;
 }

@@ -42,5 +42,5 @@ plain_store = record {
   machine = step1;
   block = plain_block;
   holds = λ disks s. PlainHolds disks s.image;
-  torn = λ disks s asked. OthersHold disks s.image (named_block asked)
+  torn = λ disks s asked. OthersHold disks s.image (named_block asked);
 }

@@ -7,10 +7,11 @@ mod outcome;
 mod run;
 mod serve;
 mod session;
+#[cfg(test)]
+mod tests;
 
 pub use edge::{FileBank, StdinSource};
 pub use run::run;
-
 use std::alloc::Global;
 use std::env;
 use std::io::ErrorKind;

@@ -11,8 +11,7 @@ ghost use Rattle.trap_cli.specs.PlainVolume.{PlainHolds, plain_store, IsRefusedW
 
 use crate::blocks::{BLOCK_BYTES, read_block, say_answer, sync_blocks, write_block};
 use crate::outcome::{Fault, Next};
-use std::alloc::AllocError as OutOfMemory;
-use std::alloc::Global;
+use std::alloc::{AllocError as OutOfMemory, Global};
 use trap_bank::Bank;
 use trap_lines::LineReader;
 use trap_model::Refusal;
@@ -28,7 +27,12 @@ const REPLY_BYTES: usize = 88 + 2 * BLOCK_BYTES;
 pub const LINE_BYTES: usize = 44 + 2 * BLOCK_BYTES;
 
 // Reads the block, and replies with its bytes.
-fn show_block<B: Bank>(bank: &mut B, block: u64, bytes: &mut [u8], out: &mut [u8]) -> Result<Next, Fault>
+fn show_block<B: Bank>(
+    bank: &mut B,
+    block: u64,
+    bytes: &mut [u8],
+    out: &mut [u8],
+) -> Result<Next, Fault>
     requires block { block < 8 }
     requires whole { length bytes.old ≡ 16 }
     requires room { length out.old ≡ 120 }
@@ -96,7 +100,11 @@ impl Session {
             return Err(Fault::Disk);
         };
         self.number += 1;
-        let Ok(()) = say_answer(bank, &Answer::Kept { seq: self.number }, self.out.as_mut_slice()) else {
+        let Ok(()) = say_answer(
+            bank,
+            &Answer::Kept { seq: self.number },
+            self.out.as_mut_slice(),
+        ) else {
             return Err(Fault::Port);
         };
         Ok(Next::More)
@@ -114,7 +122,12 @@ impl Session {
         ensures number { self.new.number ≡ self.old.number }
         ensures more { IfOk result (λ next. next ≡ Next.More) }
     {
-        show_block(bank, block, self.fresh.as_mut_slice(), self.out.as_mut_slice())
+        show_block(
+            bank,
+            block,
+            self.fresh.as_mut_slice(),
+            self.out.as_mut_slice(),
+        )
     }
 
     // Replies that the request is refused.
@@ -184,7 +197,12 @@ impl Session {
     }
 
     /// Answers the line found last, of `len` bytes.
-    pub fn answer<B: Bank>(&mut self, bank: &mut B, reader: &LineReader, len: usize) -> Result<Next, Fault>
+    pub fn answer<B: Bank>(
+        &mut self,
+        bank: &mut B,
+        reader: &LineReader,
+        len: usize,
+    ) -> Result<Next, Fault>
         requires size { (B.view bank.old).sizes 0 ≡ Some 128 }
         requires number { self.old.number < 2 ^ 63 }
         requires room { room reader.now ≡ 76 }

@@ -5,8 +5,7 @@ ghost use Rattle.trap_cli.specs.Counts.{Blames};
 ghost use Rattle.trap_cli.specs.Files.{untold_view, untold_lawful};
 
 use super::files::{make_zero, open_there, print_whole, read_whole, write_whole};
-use std::alloc::AllocError as OutOfMemory;
-use std::alloc::Global;
+use std::alloc::{AllocError as OutOfMemory, Global};
 use std::fs::OpenFile;
 use std::io;
 use std::io::ErrorKind;

@@ -16,6 +16,7 @@ returns-then-words-eq1 c =
     let is = slice_eq-Decides Decides-eqb c.as_str.result.now (codes "session") c.eq.result c.eq.ensures in
     let one : map string_bytes c.args.words.now ≡ string_bytes word ∷ [] =
     ap (map string_bytes) (one_word c.args.words.now word c.if-words-eq1.true c.index-words-0.is) in
-    let text = c.as_str.ensures.value in
-    (λ same. one ∙ ap (λ (t : List _). t ∷ []) (sym text ∙ is.0 same),
-    λ same. let both : string_bytes word ∷ [] ≡ codes "session" ∷ [] = sym one ∙ same in is.1 (text ∙ cc both))
+    let text = c.as_str.ensures.value in (
+      λ same. one ∙ ap (λ (t : List _). t ∷ []) (sym text ∙ is.0 same),
+      λ same. let both : string_bytes word ∷ [] ≡ codes "session" ∷ [] = sym one ∙ same in is.1 (text ∙ cc both),
+    )

@@ -21,18 +21,18 @@ returns-clause-runs g c =
       told = λ s input begins.
           let told = subst IsTrue (sym c.work-ended.ensures.touches.tells) begins.tells in
           ends_as c.work-ended.result s input old mid new from to (c.work-ended.ensures.stops s input begins) (c.say_last.ensures.disks told)
-              c.work-ended.ensures.touches.port_faults (c.say_last.ensures.last told)
+          c.work-ended.ensures.touches.port_faults (c.say_last.ensures.last told);
     }
 
 pub returns-clause-usage : goal.returns-clause-usage
 returns-clause-usage g c =
     usage_exact c.work-ended.result c.status.result c.args.words.now (g.B.Bank.view c.args.bank.now) (g.B.Bank.view c.work-ended.new.bank)
-        (g.S.Source.stream c.args.source.now) (g.S.Source.stream c.work-ended.new.source) c.status.ensures c.work-ended.ensures.cause
+    (g.S.Source.stream c.args.source.now) (g.S.Source.stream c.work-ended.new.source) c.status.ensures c.work-ended.ensures.cause
 
 pub returns-clause-not_an_array : goal.returns-clause-not_an_array
 returns-clause-not_an_array g c =
     not_an_array_exact c.work-ended.result c.status.result c.args.words.now (g.B.Bank.view c.args.bank.now) (g.B.Bank.view c.work-ended.new.bank)
-        (g.S.Source.stream c.args.source.now) (g.S.Source.stream c.work-ended.new.source) c.status.ensures c.work-ended.ensures.cause
+    (g.S.Source.stream c.args.source.now) (g.S.Source.stream c.work-ended.new.source) c.status.ensures c.work-ended.ensures.cause
 
 pub returns-clause-touches : goal.returns-clause-touches
 returns-clause-touches g c = touches_then c.work-ended.ensures.touches c.say_last.ensures.serves.touches

@@ -20,8 +20,8 @@ invariant-lines g l =
     (passed : List ℕ) × Passes passed l.fn.reader l.reader from to × AreWholeLines passed × IsOpen l.reader to
     × ServesOn 0 v0 v × (l.session.number ≤ l.reader.used)
     × ((s : PlainState) (input : List ℕ) → from.left ≡ Some input → IsTrue v0.tells → s.number ≡ 0 → PlainHolds v0.now.disks s.image
-      → Walked plain_store s input passed v0.now v.now
-      × ((state_after step1 s (lines 16 input) (line_feeds passed)).number ≡ l.session.number))
+    → Walked plain_store s input passed v0.now v.now
+    × ((state_after step1 s (lines 16 input) (line_feeds passed)).number ≡ l.session.number))
 
 abbrev pub decreases-lines : goal.decreases-lines
 decreases-lines g l = 2 ^ 40 - l.reader.used

@@ -10,9 +10,9 @@ returns-in_default-clause-served g c s told same holds =
     let long : length c.args.self.now.fresh.items ≡ 16 = omega (arith, c.args.self.now.block, c.args.self.now.fresh.ok.0) in
     let view = g.B.Bank.view in
     let wrote = subst (λ bytes. Writes {T = Unit {0}} {E = Failed} 0 (16 * c.args.block) bytes c.write_block.result (view c.args.bank.now) (view c.write_block.new.bank))
-        c.as_slice.ensures.value c.write_block.ensures in
+    c.as_slice.ensures.value c.write_block.ensures in
     write_struck s c.args.time c.args.block c.args.self.now.fresh.items (view c.args.bank.now) (view c.write_block.new.bank)
-        c.requires.block long told holds wrote
+    c.requires.block long told holds wrote
 
 pub returns-in_default-clause-serves : goal.returns-in_default-clause-serves
 returns-in_default-clause-serves g c = serves_write c.write_block.ensures
@@ -22,9 +22,9 @@ returns-in_default-sync_blocks-clause-served g c s told same holds =
     let long : length c.args.self.now.fresh.items ≡ 16 = omega (arith, c.args.self.now.block, c.args.self.now.fresh.ok.0) in
     let view = g.B.Bank.view in
     let wrote = subst (λ bytes. Writes {T = Unit {0}} {E = Failed} 0 (16 * c.args.block) bytes c.write_block.result (view c.args.bank.now) (view c.write_block.new.bank))
-        c.as_slice.ensures.value c.write_block.ensures in
+    c.as_slice.ensures.value c.write_block.ensures in
     sync_struck s c.args.time c.args.block c.args.self.now.fresh.items (view c.args.bank.now) (view c.write_block.new.bank)
-        c.requires.block long told holds wrote (view c.sync_blocks.new.bank) c.sync_blocks.ensures
+    c.requires.block long told holds wrote (view c.sync_blocks.new.bank) c.sync_blocks.ensures
 
 pub returns-in_default-sync_blocks-clause-serves : goal.returns-in_default-sync_blocks-clause-serves
 returns-in_default-sync_blocks-clause-serves g c = serves_then (serves_write c.write_block.ensures) (serves_sync c.sync_blocks.ensures)
@@ -34,13 +34,13 @@ returns-in_default-say_answer-clause-served g c s told same holds =
     let long : length c.args.self.now.fresh.items ≡ 16 = omega (arith, c.args.self.now.block, c.args.self.now.fresh.ok.0) in
     let view = g.B.Bank.view in
     let wrote = subst (λ bytes. Writes {T = Unit {0}} {E = Failed} 0 (16 * c.args.block) bytes c.write_block.result (view c.args.bank.now) (view c.write_block.new.bank))
-        c.as_slice.ensures.value c.write_block.ensures in
+    c.as_slice.ensures.value c.write_block.ensures in
     let told2 = write_told s c.args.time c.args.block c.args.self.now.fresh.items (view c.args.bank.now) (view c.write_block.new.bank)
-        c.requires.block long told holds wrote (view c.sync_blocks.new.bank) c.sync_blocks.ensures in
+    c.requires.block long told holds wrote (view c.sync_blocks.new.bank) c.sync_blocks.ensures in
     let quiet = write_quiet s c.args.time c.args.block c.args.self.now.fresh.items (view c.args.bank.now) (view c.write_block.new.bank)
-        c.requires.block long told holds wrote (view c.sync_blocks.new.bank) c.sync_blocks.ensures in
+    c.requires.block long told holds wrote (view c.sync_blocks.new.bank) c.sync_blocks.ensures in
     let there = write_holds s c.args.time c.args.block c.args.self.now.fresh.items (view c.args.bank.now) (view c.write_block.new.bank)
-        c.requires.block long told holds wrote (view c.sync_blocks.new.bank) c.sync_blocks.ensures c.in-Ok.is in
+    c.requires.block long told holds wrote (view c.sync_blocks.new.bank) c.sync_blocks.ensures c.in-Ok.is in
     let text = write_text s c.args.time c.args.block c.args.self.now.fresh.items c.args.self.now.number c.requires.block same in
     cut_short refl told2 quiet there text c.say_answer.ensures
 
@@ -53,13 +53,13 @@ returns-clause-served g c s told same holds =
     let long : length c.args.self.now.fresh.items ≡ 16 = omega (arith, c.args.self.now.block, c.args.self.now.fresh.ok.0) in
     let view = g.B.Bank.view in
     let wrote = subst (λ bytes. Writes {T = Unit {0}} {E = Failed} 0 (16 * c.args.block) bytes c.write_block.result (view c.args.bank.now) (view c.write_block.new.bank))
-        c.as_slice.ensures.value c.write_block.ensures in
+    c.as_slice.ensures.value c.write_block.ensures in
     let told2 = write_told s c.args.time c.args.block c.args.self.now.fresh.items (view c.args.bank.now) (view c.write_block.new.bank)
-        c.requires.block long told holds wrote (view c.sync_blocks.new.bank) c.sync_blocks.ensures in
+    c.requires.block long told holds wrote (view c.sync_blocks.new.bank) c.sync_blocks.ensures in
     let quiet = write_quiet s c.args.time c.args.block c.args.self.now.fresh.items (view c.args.bank.now) (view c.write_block.new.bank)
-        c.requires.block long told holds wrote (view c.sync_blocks.new.bank) c.sync_blocks.ensures in
+    c.requires.block long told holds wrote (view c.sync_blocks.new.bank) c.sync_blocks.ensures in
     let there = write_holds s c.args.time c.args.block c.args.self.now.fresh.items (view c.args.bank.now) (view c.write_block.new.bank)
-        c.requires.block long told holds wrote (view c.sync_blocks.new.bank) c.sync_blocks.ensures c.in-Ok.is in
+    c.requires.block long told holds wrote (view c.sync_blocks.new.bank) c.sync_blocks.ensures c.in-Ok.is in
     let text = write_text s c.args.time c.args.block c.args.self.now.fresh.items c.args.self.now.number c.requires.block same in
     replied refl told2 quiet there text c.in-Ok-say_answer.is c.say_answer.ensures
 

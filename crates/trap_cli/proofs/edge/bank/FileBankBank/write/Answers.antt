@@ -4,5 +4,5 @@ use Rattle.trap_cli.proofs.FilesLemmas.{untold_writes}
 pub returns : goal.returns
 returns g c = record {
   call = untold_writes c.args.self.now.disks.items c.args.d c.args.self.now.faults c.settle.new.faults
-      c.args.self.now.port_faults c.settle.result c.settle.ensures.err c.settle.ensures.ok c.args.at c.args.bytes.now
+      c.args.self.now.port_faults c.settle.result c.settle.ensures.err c.settle.ensures.ok c.args.at c.args.bytes.now;
 }
