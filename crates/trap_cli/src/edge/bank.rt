@@ -91,7 +91,8 @@ where
     }
 
     fn make(&mut self, d: u8, len: u64) -> Result<(), Failed> {
-        match make_zero(&self.rt, NAMES[d as usize], len) {
+        let is_new = self.disks[d as usize].is_none();
+        match make_zero(&self.rt, NAMES[d as usize], len, is_new) {
             Ok(file) => {
                 self.disks[d as usize] = Some(OpenDisk { file, size: len });
                 Ok(())

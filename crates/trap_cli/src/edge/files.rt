@@ -16,8 +16,9 @@ pub fn open_there<R: Files>(rt: &R, name: &str) -> io::Result<(R::File, u64)> {
     Ok((file, len))
 }
 
-// Makes a file of that many zero bytes, and makes it and its name stable.
-pub fn make_zero<R: Files>(rt: &R, name: &str, len: u64) -> io::Result<R::File>
+// Makes a file of that many zero bytes, and makes it and its name stable. Where the file is to be new, one that is there
+// is an error: it could not be opened, and isn't lost for that.
+pub fn make_zero<R: Files>(rt: &R, name: &str, len: u64, is_new: bool) -> io::Result<R::File>
 where
     R::File: FileExt,
 {
@@ -25,7 +26,8 @@ where
         .read(true)
         .write(true)
         .create(true)
-        .truncate(true)
+        .create_new(is_new)
+        .truncate(!is_new)
         .open(rt, name)?;
     fill_zero(&file, len)?;
     // The zeros and the length are stable before the name is.
