@@ -95,16 +95,13 @@ impl Session {
         let Ok(()) = write_block(bank, block, self.fresh.as_slice()) else {
             return Err(Fault::Disk);
         };
+        self.number += 1;
+        let kept = Answer::Kept { seq: self.number };
         // The block is stable before its reply is said.
         let Ok(()) = sync_blocks(bank) else {
             return Err(Fault::Disk);
         };
-        self.number += 1;
-        let Ok(()) = say_answer(
-            bank,
-            &Answer::Kept { seq: self.number },
-            self.out.as_mut_slice(),
-        ) else {
+        let Ok(()) = say_answer(bank, &kept, self.out.as_mut_slice()) else {
             return Err(Fault::Port);
         };
         Ok(Next::More)

@@ -1,19 +1,17 @@
 //! Runs over a bank, a source and turns in memory, and the trusted edge over real files.
 
-ghost use Rattle.std.specs.Prelude.{◌≤◌};
-
 use crate::{FileBank, StdinSource, run};
 use std::alloc::{AllocError, Global};
 use std::test::Fail;
 use trap_bank::{Bank, MemoryBank, MemorySource, Source, Steady};
 
-const ZEROS: &str = "00000000000000000000000000000000";
+const SESSION: &str =
+    "W 5 3 11111111111111111111111111111111\nW 4 3 22222222222222222222222222222222\nR 3\nR 8\nI\nQ\nR 0\n";
 
-const ONES: &str = "11111111111111111111111111111111";
+const REPLIES: &str = "ok 1\nok 2\nis 22222222222222222222222222222222\nno block\nno line\n";
 
-const TWOS: &str = "22222222222222222222222222222222";
-
-// The status of a run over that input, in pieces of that length; the source fails in that call.
+// The status of a run of one word over that input, in pieces of that length; the source fails in that
+// call of `take`, where there is one.
 fn status_of(
     alloc: Global,
     bank: &mut MemoryBank,
@@ -33,129 +31,145 @@ fn status_of(
 
 #[test]
 fn a_session_writes_and_reads(rt: HostRuntime) -> Result<(), Fail> {
-    let alloc = rt.alloc();
-    let input = format!(in alloc; "W 5 3 {ONES}\nW 4 3 {TWOS}\nR 3\nR 8\nI\nQ\nR 0\n")?;
-    let want = format!(in alloc; "ok 1\nok 2\nis {TWOS}\nno block\nno line\n")?;
+    let mut want = [0u8; 128];
+    want[48..64].copy_from_slice(&[0x22; 16]);
     for piece in [1, 7, 4096] {
-        let mut bank = MemoryBank::new(alloc)?;
-        let status = status_of(alloc, &mut bank, "session", input.as_str(), piece, 0)?;
-        assert_eq!(rt; status, 0, "pieces of {piece}");
-        assert_eq!(rt; bank.said(), want.as_bytes(), "pieces of {piece}");
-        let mut disk = [0u8; 128];
-        disk[48..64].copy_from_slice(&[0x22; 16]);
-        assert_eq!(rt; bank.disk(0).unwrap_or(&[]), &disk[..], "pieces of {piece}");
-        assert_eq!(rt; bank.starved(), 0);
+        let mut bank = MemoryBank::new(rt.alloc())?;
+        let status = status_of(rt.alloc(), &mut bank, "session", SESSION, piece, 0)?;
+        assert!(rt; status == 0 && bank.said() == REPLIES.as_bytes(), "{piece}");
+        assert!(rt;
+            bank.starved() == 0 && bank.disk(0).unwrap_or(&[]) == &want[..],
+            "{piece}"
+        );
+    }
+    Ok(())
+}
+
+// The input, the pieces it comes in, the calls of the source and of the bank that fail, the status, and
+// what is said.
+#[test]
+fn a_session_says_what_it_owes(rt: HostRuntime) -> Result<(), Fail> {
+    for (input, piece, take, call, want, said) in [
+        ("\n", 5, 0, 0, 0, "no line\n"),
+        ("R 0\r\n", 5, 0, 0, 0, "no line\n"),
+        ("R 00\n", 5, 0, 0, 0, "no line\n"),
+        ("R 18446744073709551616\n", 5, 0, 0, 0, "no line\n"),
+        ("R 18446744073709551615\n", 5, 0, 0, 0, "no block\n"),
+        (
+            "A 0 0\nT 0 0\nK 0\n",
+            5,
+            0,
+            0,
+            0,
+            "no line\nno line\nno line\n",
+        ),
+        (
+            "W 18446744073709551615 18446744073709551615 00000000000000000000000000000000\n",
+            5,
+            0,
+            0,
+            0,
+            "no block\n",
+        ),
+        (
+            "W 18446744073709551615 18446744073709551615 000000000000000000000000000000000\nR 0\n",
+            5,
+            0,
+            0,
+            0,
+            "no line\nis 00000000000000000000000000000000\n",
+        ),
+        ("R 0", 5, 0, 0, 0, "is 00000000000000000000000000000000\n"),
+        ("Q", 5, 0, 0, 0, ""),
+        (
+            "R 0\nR 1\n",
+            4,
+            2,
+            0,
+            8,
+            "is 00000000000000000000000000000000\nfault input\n",
+        ),
+        (
+            "W 1 0 11111111111111111111111111111111\nR 0\n",
+            100,
+            0,
+            1,
+            6,
+            "fault log\n",
+        ),
+        (
+            "W 1 0 11111111111111111111111111111111\nR 0\n",
+            100,
+            0,
+            2,
+            6,
+            "fault log\n",
+        ),
+        (
+            "W 1 0 11111111111111111111111111111111\nR 0\n",
+            100,
+            0,
+            3,
+            6,
+            "fault log\n",
+        ),
+        (
+            "W 1 0 11111111111111111111111111111111\nR 0\n",
+            100,
+            0,
+            4,
+            9,
+            "",
+        ),
+        (
+            "W 1 0 11111111111111111111111111111111\nR 0\n",
+            100,
+            0,
+            5,
+            6,
+            "ok 1\nfault log\n",
+        ),
+        (
+            "W 1 0 11111111111111111111111111111111\nR 0\n",
+            100,
+            0,
+            6,
+            9,
+            "ok 1\n",
+        ),
+    ] {
+        let mut bank = MemoryBank::new(rt.alloc())?;
+        bank.fail_at(call);
+        let status = status_of(rt.alloc(), &mut bank, "session", input, piece, take)?;
+        assert!(rt;
+            status == want && bank.said() == said.as_bytes(),
+            "{input} {call}"
+        );
     }
     Ok(())
 }
 
 #[test]
 fn other_words_are_refused(rt: HostRuntime) -> Result<(), Fail> {
-    let alloc = rt.alloc();
-    for word in ["create", "sesion", "session ", ""] {
-        let mut bank = MemoryBank::new(alloc)?;
-        assert_eq!(rt; status_of(alloc, &mut bank, word, "", 1, 0)?, 2, "{word}");
-        assert_eq!(rt; bank.said(), &b"fault usage\n"[..], "{word}");
-        assert!(rt; bank.disk(0).is_none(), "{word}");
+    for word in ["create", "sesion", ""] {
+        let mut bank = MemoryBank::new(rt.alloc())?;
+        let status = status_of(rt.alloc(), &mut bank, word, SESSION, 1, 0)?;
+        assert!(rt;
+            status == 2 && bank.said() == "fault usage\n".as_bytes(),
+            "{word}"
+        );
+        assert!(rt; bank.size(0).is_none(), "{word}");
     }
     Ok(())
 }
 
 #[test]
 fn a_disk_of_another_size_stays(rt: HostRuntime) -> Result<(), Fail> {
-    let alloc = rt.alloc();
-    let mut bank = MemoryBank::new(alloc)?;
-    assert!(rt; bank.make(0, 127).is_ok());
-    assert_eq!(rt; status_of(alloc, &mut bank, "session", "R 0\n", 1, 0)?, 3);
-    assert_eq!(rt; bank.said(), &b"fault not an array\n"[..]);
-    assert_eq!(rt; bank.disk(0).unwrap_or(&[]), &[0u8; 127][..]);
-    Ok(())
-}
-
-#[test]
-fn lines_have_one_form(rt: HostRuntime) -> Result<(), Fail> {
-    let alloc = rt.alloc();
-    let longest = format!(in alloc; "W 18446744073709551615 18446744073709551615 {ZEROS}")?;
-    assert_eq!(rt; longest.len(), 76);
-    let too_long = format!(in alloc; "{longest}0")?;
-    let zero = format!(in alloc; "is {ZEROS}\n")?;
-    for (line, want) in [
-        ("\n", "no line\n"),
-        ("R 0\r\n", "no line\n"),
-        ("R 00\n", "no line\n"),
-        ("R 18446744073709551616\n", "no line\n"),
-        ("R 18446744073709551615\n", "no block\n"),
-        ("R  0\n", "no line\n"),
-        ("R 7\n", zero.as_str()),
-        ("R 8\n", "no block\n"),
-        ("A 0 0\nT 0 0\nK 0\n", "no line\nno line\nno line\n"),
-        ("Q 1\n", "no line\n"),
-        (longest.as_str(), "no block\n"),
-        (too_long.as_str(), "no line\n"),
-        ("R 0", zero.as_str()),
-        ("Q", ""),
-        ("", ""),
-    ] {
-        let mut bank = MemoryBank::new(alloc)?;
-        assert_eq!(rt;
-            status_of(alloc, &mut bank, "session", line, 5, 0)?,
-            0,
-            "{line}"
-        );
-        assert_eq!(rt; bank.said(), want.as_bytes(), "{line}");
-    }
-    Ok(())
-}
-
-#[test]
-fn a_line_behind_one_that_is_too_long_is_read(rt: HostRuntime) -> Result<(), Fail> {
-    let alloc = rt.alloc();
-    let input = format!(in alloc; "W 0 0 {ZEROS}{ZEROS}{ZEROS}R 0\nR 0\n")?;
-    let want = format!(in alloc; "no line\nis {ZEROS}\n")?;
-    let mut bank = MemoryBank::new(alloc)?;
-    assert_eq!(rt;
-        status_of(alloc, &mut bank, "session", input.as_str(), 64, 0)?,
-        0
-    );
-    assert_eq!(rt; bank.said(), want.as_bytes());
-    Ok(())
-}
-
-#[test]
-fn a_source_that_fails_ends_the_session(rt: HostRuntime) -> Result<(), Fail> {
-    let alloc = rt.alloc();
-    let mut bank = MemoryBank::new(alloc)?;
-    let want = format!(in alloc; "is {ZEROS}\nfault input\n")?;
-    assert_eq!(rt;
-        status_of(alloc, &mut bank, "session", "R 0\nR 1\n", 4, 2)?,
-        8
-    );
-    assert_eq!(rt; bank.said(), want.as_bytes());
-    Ok(())
-}
-
-#[test]
-fn a_bank_that_fails_ends_the_session(rt: HostRuntime) -> Result<(), Fail> {
-    let alloc = rt.alloc();
-    let input = format!(in alloc; "W 1 0 {ONES}\nR 0\n")?;
-    let log_in_read = format!(in alloc; "ok 1\nfault log\n")?;
-    for (call, status, want) in [
-        (1, 6, "fault log\n"),
-        (2, 6, "fault log\n"),
-        (3, 6, "fault log\n"),
-        (4, 9, ""),
-        (5, 6, log_in_read.as_str()),
-        (6, 9, "ok 1\n"),
-    ] {
-        let mut bank = MemoryBank::new(alloc)?;
-        bank.fail_at(call);
-        assert_eq!(rt;
-            status_of(alloc, &mut bank, "session", input.as_str(), 100, 0)?,
-            status,
-            "{call}"
-        );
-        assert_eq!(rt; bank.said(), want.as_bytes(), "{call}");
-    }
+    let mut bank = MemoryBank::new(rt.alloc())?;
+    let made = bank.make(0, 127);
+    let status = status_of(rt.alloc(), &mut bank, "session", SESSION, 1, 0)?;
+    assert!(rt; made.is_ok() && status == 3 && bank.said() == "fault not an array\n".as_bytes());
+    assert!(rt; bank.disk(0).unwrap_or(&[]) == &[0u8; 127][..]);
     Ok(())
 }
 
@@ -165,15 +179,12 @@ fn files_are_disks(rt: HostRuntime) -> Result<(), Fail> {
     assert!(rt; bank.size(0).is_none());
     assert!(rt; bank.make(0, 70000).is_ok());
     assert!(rt; bank.size(0) == Some(70000));
-    assert!(rt; bank.write(0, 69998, &[1, 2]).is_ok());
-    assert!(rt; bank.sync(0).is_ok());
+    assert!(rt; bank.write(0, 69998, &[1, 2]).is_ok() && bank.sync(0).is_ok());
     let mut again = FileBank::new(rt.clone()?, rt.alloc())?;
     assert!(rt; again.size(0) == Some(70000));
     let mut end = [9u8; 4];
-    assert!(rt; again.read(0, 69996, &mut end).is_ok());
-    assert_eq!(rt; &end[..], &[0u8, 0, 1, 2][..]);
-    assert!(rt; again.size(1).is_none());
-    assert!(rt; again.say(b"").is_ok());
+    assert!(rt; again.read(0, 69996, &mut end).is_ok() && end == [0, 0, 1, 2]);
+    assert!(rt; again.size(1).is_none() && again.say(b"").is_ok());
     Ok(())
 }
 
