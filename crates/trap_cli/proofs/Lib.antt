@@ -1,7 +1,8 @@
 pub mod FilesLemmas
 pub mod TouchingLemmas
-pub mod VolumeLemmas
-pub mod Serving
+pub mod Replying
 pub mod Walking
 pub mod Stopping
+pub mod FaultLines
+pub mod Crashing
 pub mod Ending

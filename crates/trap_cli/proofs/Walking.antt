@@ -2,7 +2,7 @@
 use Rattle.std.proofs.Common.{◌≡◌, ◌⊎◌, inl, inr, ℕ, zero, suc, ◌+◌, ◌-◌, ◌<◌, ◌≤◌, List, [], ◌∷◌, ◌++◌, length, take, drop, Option, Some, None, Bool, true, false, refl, sym, ap, subst, ◌∙◌, append_assoc, append-nil, length-append, length-drop, add-one, arith}
 use Rattle.std.specs.Io.KnownBytes.{Consumes, IsAtEnd}
 use Rattle.std.proofs.Math.Seq.{drop-append_seam, take-append_seam}
-use Rattle.trap_bank.specs.Disks.{Contents}
+use Rattle.trap_bank.specs.Disks.{Contents, Disks}
 use Rattle.trap_model.specs.Given.{given}
 use Rattle.trap_model.specs.Machine.{Machine}
 use Rattle.trap_model.specs.declared.request.Request.{Request}
@@ -12,7 +12,8 @@ use Rattle.trap_script.specs.Walk.{last_state, state_after, replies, reply_texts
 use Rattle.trap_script.proofs.WalkLemmas.{state_after-next, first_texts-next, state_after-all, first_texts-all, texts_behind}
 use Rattle.trap_script.proofs.InputLemmas.{lines-next, lines-quit, lines-last, lines-last_quit, lines_go_on, line_feeds-line, drop-line, passed_from, next_passed}
 use Rattle.trap_script.proofs.GivenLemmas.{AnswersByLines, given_or_next}
-use Rattle.trap_cli.specs.Store.{Store, Replied, CutShort, Struck, LeftAlone}
+use Rattle.trap_script.proofs.Answering.{answered_part}
+use Rattle.trap_cli.specs.Store.{Store, Replied, CutShort, Struck, LeftAlone, Waits, Answering}
 use Rattle.trap_cli.specs.Session.{StopsDone, StopsAfter, StopsAtPort, StopsTorn}
 
 -- The bytes so far are whole lines, and each was answered.
@@ -150,6 +151,24 @@ module _ {S : Type 0} (store : Store S) (s : S) (input passed : List ℕ) (old m
           ⊎ store.holds new.disks (state_after store.machine s (lines store.block input) (given (reply_texts store.machine s (lines store.block input)) (front ++ part) + 1))
       either_way j front part holds (inl is) = inr (subst (λ k. store.holds new.disks (state_after store.machine s (lines store.block input) (k + 1))) (sym is) holds)
       either_way j front part holds (inr is) = inl (subst (λ k. store.holds new.disks (state_after store.machine s (lines store.block input) k)) (sym is) holds)
+
+  -- while the next line is answered, a part of the replies is said
+  pub stops_part : (torn_next : (disks : Disks) (t : S) (y : Request) → store.torn disks t y → store.holds disks t ⊎ store.holds disks (store.machine.next t y)) (x : Request) (new : Contents) → AnswersByLines store.machine → ((more : goes_on x ≡ true) → (rest : List Request) × (drop (line_feeds passed) (lines store.block input) ≡ x ∷ rest))
+      → Answering store now_at x mid new → StopsAtPort store s input old new
+  stops_part torn_next x new by_lines next answering = elim answering as (λ _. StopsAtPort store s input old new) [
+    | inl waits ↦ answered_part store.machine (store.holds new.disks) s (lines store.block input) (line_feeds passed) old.said new.said by_lines
+        (lines_go_on store.block input) walked.answered.within (waits.said ∙ walked.answered.said) (inl waits.holds)
+    | inr (inl struck) ↦ let at = next struck.more in
+        answered_part store.machine (store.holds new.disks) s (lines store.block input) (line_feeds passed) old.said new.said by_lines
+        (lines_go_on store.block input) walked.answered.within (struck.said ∙ walked.answered.said) (torn_either at.0 at.1 (torn_next new.disks now_at x struck.torn))
+    | inr (inr cut) ↦ let at = next cut.more in stops_at_port x at.0 new by_lines at.1 cut
+  ]
+    where
+      torn_either : (rest : List Request) → drop (line_feeds passed) (lines store.block input) ≡ x ∷ rest
+          → store.holds new.disks now_at ⊎ store.holds new.disks (store.machine.next now_at x)
+          → store.holds new.disks now_at ⊎ store.holds new.disks (state_after store.machine s (lines store.block input) (line_feeds passed + 1))
+      torn_either rest at (inl holds) = inl holds
+      torn_either rest at (inr holds) = inr (subst (store.holds new.disks) (sym (state_after-next store.machine s (lines store.block input) (line_feeds passed) x rest at)) holds)
 
 -- what is left is the last line
 pub last_here : (input passed line : List ℕ) (left left' : Option (List ℕ)) → Consumes (Some input) left passed → Consumes left left' line

@@ -2,6 +2,8 @@ pub mod Counts
 pub mod Files
 pub mod Touching
 pub mod Store
-pub mod PlainVolume
+pub mod CellVolume
 pub mod Session
+pub mod Serving
 pub mod Run
+pub mod Crash

@@ -1,13 +1,14 @@
 -- What a run says and leaves, by how it ends.
-use Rattle.std.specs.Prelude.{◌≡◌, ◌≢◌, ◌⊎◌, ℕ, ◌++◌, List, [], ◌∷◌, map, codes, string_bytes, String, Option, Some, None, IsSomeAnd, IsTrue}
+use Rattle.std.specs.Prelude.{◌≡◌, ◌≢◌, ◌⊎◌, ℕ, ◌++◌, List, [], ◌∷◌, map, codes, string_bytes, String, Some, IsTrue}
 use Rattle.std.specs.declared.alloc.Global.{Global}
 use Rattle.trap_bank.specs.Faults.{Rose}
 use Rattle.trap_bank.specs.Disks.{Contents, View}
 use Rattle.trap_bank.specs.Stream.{Stream}
-use Rattle.trap_model.specs.Plain.{PlainState, plain_zeros}
+use Rattle.trap_model.specs.Plain.{PlainState}
 use Rattle.trap_cli.specs.declared.outcome.Ended.{Ended}
 use Rattle.trap_cli.specs.declared.outcome.Ended.TheVariants.{Done, Usage, NotAnArray, Log, Input, Port, Memory, TooLong}
-use Rattle.trap_cli.specs.PlainVolume.{PlainHolds, plain_store}
+use Rattle.trap_volume.specs.Volume.{BeginsWith, IsOtherSize, HasNoValue}
+use Rattle.trap_cli.specs.CellVolume.{volume_store}
 use Rattle.trap_cli.specs.Session.{StopsAs, StopsBy}
 
 abbrev pub status_of : Ended → ℕ
@@ -35,31 +36,31 @@ last_line TooLong = codes "fault too long\n"
 abbrev pub IsSession : List (String Global) → Type 0
 IsSession words = map string_bytes words ≡ codes "session" ∷ []
 
--- disk 0 is there with another size than a volume
-abbrev pub IsOtherSize : View → Type 0
-IsOtherSize v = IsSomeAnd (v.sizes 0) (λ size. size ≢ 128)
+-- disk 0 is there with another size, or, where the bank tells, its gate is on and the cell has no value
+abbrev pub IsNoArray : View → Type 0
+IsNoArray v = IsOtherSize (v.sizes 0) ⊎ (IsTrue v.tells × HasNoValue v.now.disks)
 
--- disk 0 holds the image, or is absent and the image is zero; no write was accepted yet
-pub record BeginsWith (s : PlainState) (v : View) : Type 0 where
+-- disk 0 holds the image, or counts as absent and the image is zero; no write was accepted yet
+pub record Begins (s : PlainState) (v : View) : Type 0 where
   pub number : s.number ≡ 0
-  pub volume : PlainHolds v.now.disks s.image ⊎ ((v.now.disks 0 ≡ None) × (s.image ≡ plain_zeros))
+  pub volume : BeginsWith v.now.disks s.image
 
 -- the bank and the source tell, and the run begins with the state
 pub record BeginsTold (s : PlainState) (input : List ℕ) (v : View) (from : Stream) : Type 0 where
   pub left : from.left ≡ Some input
   pub tells : IsTrue v.tells
-  pub begins : BeginsWith s v
+  pub begins : Begins s v
 
 -- why a run ends so
 abbrev pub CauseOf : Ended → List (String Global) → View → View → Stream → Stream → Type 0
-CauseOf Done words old new from to = IsSession words × (IsOtherSize old → ⊥) × StopsBy 16 Done old new from to
+CauseOf Done words old new from to = IsSession words × (IsNoArray old → ⊥) × StopsBy 16 Done old new from to
 CauseOf Usage words old new from to = IsSession words → ⊥
-CauseOf NotAnArray words old new from to = IsSession words × IsOtherSize old
-CauseOf Log words old new from to = IsSession words × (IsOtherSize old → ⊥) × StopsBy 16 Log old new from to
-CauseOf Input words old new from to = IsSession words × (IsOtherSize old → ⊥) × StopsBy 16 Input old new from to
-CauseOf Port words old new from to = IsSession words × (IsOtherSize old → ⊥) × StopsBy 16 Port old new from to
-CauseOf Memory words old new from to = IsSession words × (IsOtherSize old → ⊥) × StopsBy 16 Memory old new from to
-CauseOf TooLong words old new from to = IsSession words × (IsOtherSize old → ⊥) × StopsBy 16 TooLong old new from to
+CauseOf NotAnArray words old new from to = IsSession words × (IsTrue old.tells → IsNoArray old)
+CauseOf Log words old new from to = IsSession words × (IsOtherSize (old.sizes 0) → ⊥) × StopsBy 16 Log old new from to
+CauseOf Input words old new from to = IsSession words × (IsNoArray old → ⊥) × StopsBy 16 Input old new from to
+CauseOf Port words old new from to = IsSession words × (IsNoArray old → ⊥) × StopsBy 16 Port old new from to
+CauseOf Memory words old new from to = IsSession words × (IsNoArray old → ⊥) × StopsBy 16 Memory old new from to
+CauseOf TooLong words old new from to = IsSession words × (IsNoArray old → ⊥) × StopsBy 16 TooLong old new from to
 
 -- no disk changed, and nothing was said
 pub record Untouched (old new : View) : Type 0 where
@@ -104,7 +105,7 @@ IsRefusedAs TooLong old new = Unit {0}
 -- the session stops so, and then the last line is said
 pub record EndsAs (ended : Ended) (s : PlainState) (input : List ℕ) (old new : View) (from to : Stream) : Type 0 where
   pub before : List ℕ
-  pub stops : StopsAs plain_store ended s input old.now (record { disks = new.now.disks; said = before }) from to
+  pub stops : StopsAs volume_store ended s input old.now (record { disks = new.now.disks; said = before }) from to
   pub last : SaysLast (last_line ended) before old new
 
 -- A run with these words ended in one of the ways, and its status is that one's.
@@ -113,5 +114,5 @@ pub record Runs (status : ℕ) (words : List (String Global)) (old new : View) (
   pub number : status ≡ status_of ended
   pub cause : CauseOf ended words old new from to
   pub refused : IsRefusedAs ended old new
-  -- where the bank and the source tell, and disk 0 holds an image on entry or is absent
+  -- where the bank and the source tell, and disk 0 holds an image on entry or counts as absent
   pub told : (s : PlainState) (input : List ℕ) → BeginsTold s input old from → EndsAs ended s input old new from to

@@ -1,5 +1,5 @@
 -- How a session stops, before its last line is said.
-use Rattle.std.specs.Prelude.{◌≡◌, ◌⊎◌, ℕ, ◌+◌, ◌-◌, ◌^◌, List, [], ◌∷◌, ◌++◌, length, take, drop, Some, None, Bool, true, false}
+use Rattle.std.specs.Prelude.{◌≡◌, ◌⊎◌, ℕ, ◌+◌, ◌-◌, ◌^◌, List, [], ◌∷◌, ◌++◌, length, take, drop, Some, Bool, true, false}
 use Rattle.std.specs.Io.KnownBytes.{Consumes}
 use Rattle.trap_bank.specs.Faults.{Rose}
 use Rattle.trap_bank.specs.Disks.{Contents, View}
@@ -7,6 +7,7 @@ use Rattle.trap_bank.specs.Stream.{Stream}
 use Rattle.trap_model.specs.declared.request.Request.{Request}
 use Rattle.trap_script.specs.Lines.{lines, line_feeds, request_of, goes_on, HasNoFeed}
 use Rattle.trap_script.specs.Walk.{state_after, first_texts, Answered, AnsweredAll, AnsweredPart}
+use Rattle.trap_volume.specs.Volume.{CountsAbsent}
 use Rattle.trap_cli.specs.Store.{Store}
 use Rattle.trap_cli.specs.declared.outcome.Ended.{Ended}
 use Rattle.trap_cli.specs.declared.outcome.Ended.TheVariants.{Done, Usage, NotAnArray, Log, Input, Port, Memory, TooLong}
@@ -44,9 +45,9 @@ pub record StopsTorn {S : Type 0} (store : Store S) (s : S) (input : List ℕ) (
   pub said : now.said ≡ old.said ++ first_texts store.machine s (lines store.block input) j
   pub torn : store.torn now.disks (state_after store.machine s (lines store.block input) j) asked
 
--- disk 0 was absent and could not be made, and nothing was said
+-- disk 0 counted as absent and could not be made, and nothing was said
 pub record StopsUnmade (old now : Contents) : Type 0 where
-  pub absent : old.disks 0 ≡ None
+  pub absent : CountsAbsent old.disks
   pub said : now.said ≡ old.said
 
 -- What was said and what the disks hold when a session stops so. The refusals come before it begins.
@@ -54,7 +55,8 @@ abbrev pub StopsAs : {S : Type 0} → Store S → Ended → S → List ℕ → C
 StopsAs store Done s input old now from to = StopsDone store s input old now
 StopsAs store Usage s input old now from to = now ≡ old
 StopsAs store NotAnArray s input old now from to = ⊥
-StopsAs store Log s input old now from to = StopsTorn store s input old now ⊎ StopsUnmade old now
+StopsAs store Log s input old now from to =
+    StopsTorn store s input old now ⊎ (StopsAfter store s input 0 old now ⊎ StopsUnmade old now)
 StopsAs store Input s input old now from to = StopsReading store s input old now from to
 StopsAs store Port s input old now from to = StopsAtPort store s input old now
 StopsAs store Memory s input old now from to = StopsAfter store s input 0 old now

@@ -1,5 +1,5 @@
 -- A store of states on disks, and what one line does to it and to the port.
-use Rattle.std.specs.Prelude.{◌≡◌, ℕ, ◌++◌, Bool, true, false, Result, Ok, Err}
+use Rattle.std.specs.Prelude.{◌≡◌, ◌⊎◌, ℕ, ◌++◌, Bool, true, false, Result, Ok, Err}
 use Rattle.trap_bank.specs.Faults.{Rose}
 use Rattle.trap_bank.specs.Disks.{Contents, Disks, View}
 use Rattle.trap_bank.specs.Calls.{SaysPart}
@@ -52,6 +52,16 @@ Served store (Ok More) s asked old new = Replied store s asked old new
 Served store (Ok Quit) s asked old new = LeftAlone store s asked old new
 Served store (Err Disk) s asked old new = Struck store s asked old new
 Served store (Err Port) s asked old new = CutShort store s asked old new
+
+-- nothing was done yet
+pub record Waits {S : Type 0} (store : Store S) (s : S) (old new : Contents) : Type 0 where
+  pub said : new.said ≡ old.said
+  pub holds : store.holds new.disks s
+
+-- what a crash leaves while one line is answered: nothing was done, or the disks were worked on, or they hold the
+-- next state and a part of the reply was said
+abbrev pub Answering : {S : Type 0} → Store S → S → Request → Contents → Contents → Type 0
+Answering store s asked old new = Waits store s old new ⊎ (Struck store s asked old new ⊎ CutShort store s asked old new)
 
 -- the count of what failed rose
 abbrev pub HasRisen : Fault → View → View → Type 0

@@ -1,9 +1,9 @@
 //! The program: its words, the files of the current folder, standard input and output.
 #![tactic(auto)]
 
-mod blocks;
 mod edge;
 mod outcome;
+mod reply;
 mod run;
 mod serve;
 mod session;

@@ -1,11 +1,12 @@
 //! The loop of a session over its lines.
 
 ghost use Rattle.std.specs.Prelude.{◌≡◌, ◌^◌, ◌≤◌, ℕ, List, [], Some, IsTrue};
-ghost use Rattle.trap_model.specs.Plain.{PlainState};
 ghost use Rattle.trap_lines.specs.Reader.{pending, taken, room};
 ghost use Rattle.trap_cli.specs.Touching.{ServesOn};
-ghost use Rattle.trap_cli.specs.PlainVolume.{PlainHolds, plain_store};
-ghost use Rattle.trap_cli.specs.Session.{StopsAs, StopsBy};
+ghost use Rattle.trap_bank.specs.Steps.{Steps, Always};
+ghost use Rattle.trap_cli.specs.CellVolume.{held, volume_store, IsKnown};
+ghost use Rattle.trap_cli.specs.Serving.{Serves, HasStopped};
+ghost use Rattle.trap_cli.specs.Session.{StopsBy};
 
 use crate::outcome::{Ended, Fault, Next};
 use crate::session::Session;
@@ -19,16 +20,18 @@ pub fn serve<B: Bank, S: Source>(
     bank: &mut B,
     source: &mut S,
 ) -> Ended
-    requires size { (B.view bank.old).sizes 0 ≡ Some 128 }
+    requires size { (B.view bank.old).sizes 0 ≡ Some 261 }
     requires number { session.old.number ≡ 0 }
+    requires known { Always (B.view bank.old)
+        (IsKnown session.old.volume.cell session.old.volume.bytes) }
     requires room { room reader.old ≡ 76 }
     requires none { pending reader.old ≡ [] }
     requires untaken { taken reader.old ≡ 0 }
     requires below { (S.stream source.old).given ≤ 2 ^ 62 }
-    ensures stops { (s : PlainState) (input : List ℕ) → (S.stream source.old).left ≡ Some input
-        → IsTrue (B.view bank.old).tells → s.number ≡ 0 → PlainHolds (B.view bank.old).now.disks s.image
-        → StopsAs plain_store result s input (B.view bank.old).now (B.view bank.new).now
-        (S.stream source.old) (S.stream source.new) }
+    ensures steps { Steps (B.view bank.old) (B.view bank.new)
+        (Serves volume_store (held session.old.volume.bytes 0) (S.stream source.old))
+        (HasStopped volume_store result (held session.old.volume.bytes 0)
+        (S.stream source.old) (S.stream source.new)) }
     ensures cause { StopsBy 16 result (B.view bank.old) (B.view bank.new) (S.stream source.old) (S.stream source.new) }
     ensures serves { ServesOn 0 (B.view bank.old) (B.view bank.new) }
 {

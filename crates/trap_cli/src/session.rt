@@ -1,21 +1,23 @@
-//! A session over the plain volume: one line and its reply.
+//! A session over the volume: one line and its reply.
 
 ghost use Rattle.std.specs.Prelude.{◌≡◌, ◌+◌, ◌^◌, ◌<◌, ◌≤◌, length, vec_len, Some, IsTrue, false, IfOk, IfErr, OnOk, OnErr, List, ℕ};
-ghost use Rattle.trap_model.specs.Plain.{PlainState, next1};
+ghost use Rattle.trap_model.specs.Plain.{next1};
 ghost use Rattle.trap_model.specs.declared.request.Request.TheVariants as request;
 ghost use Rattle.trap_script.specs.Lines.{request_of, request_with, goes_on};
 ghost use Rattle.trap_lines.specs.Reader.{room, IsLine};
 ghost use Rattle.trap_cli.specs.Touching.{ServesOn};
-ghost use Rattle.trap_cli.specs.Store.{Served, HasRisen};
-ghost use Rattle.trap_cli.specs.PlainVolume.{PlainHolds, plain_store, IsRefusedWith};
+ghost use Rattle.trap_bank.specs.Steps.{Steps, Always};
+ghost use Rattle.trap_cli.specs.Store.{Served, Answering, HasRisen};
+ghost use Rattle.trap_cli.specs.CellVolume.{held, volume_store, IsKnown, IsRefusedWith};
 
-use crate::blocks::{BLOCK_BYTES, read_block, say_answer, sync_blocks, write_block};
 use crate::outcome::{Fault, Next};
+use crate::reply::{BLOCK_BYTES, say_answer};
 use std::alloc::{AllocError as OutOfMemory, Global};
 use trap_bank::Bank;
 use trap_lines::LineReader;
 use trap_model::Refusal;
 use trap_script::{Answer, Line, read_line};
+use trap_volume::Volume;
 
 // How many blocks the volume has.
 const VOLUME_BLOCKS: u64 = 8;
@@ -26,51 +28,28 @@ const REPLY_BYTES: usize = 88 + 2 * BLOCK_BYTES;
 /// The longest line of a session, in bytes.
 pub const LINE_BYTES: usize = 44 + 2 * BLOCK_BYTES;
 
-// Reads the block, and replies with its bytes.
-fn show_block<B: Bank>(
-    bank: &mut B,
-    block: u64,
-    bytes: &mut [u8],
-    out: &mut [u8],
-) -> Result<Next, Fault>
-    requires block { block < 8 }
-    requires whole { length bytes.old ≡ 16 }
-    requires room { length out.old ≡ 120 }
-    requires size { (B.view bank.old).sizes 0 ≡ Some 128 }
-    ensures served { (s : PlainState) → IsTrue (B.view bank.old).tells
-        → PlainHolds (B.view bank.old).now.disks s.image
-        → Served plain_store result s (request.Read block) (B.view bank.old).now (B.view bank.new).now }
-    ensures fault { IfErr result (λ fault. HasRisen fault (B.view bank.old) (B.view bank.new)) }
-    ensures serves { ServesOn 0 (B.view bank.old) (B.view bank.new) }
-    ensures more { IfOk result (λ next. next ≡ Next.More) }
-{
-    let Ok(()) = read_block(bank, block, bytes) else {
-        return Err(Fault::Disk);
-    };
-    let Ok(()) = say_answer(bank, &Answer::Is { bytes }, out) else {
-        return Err(Fault::Port);
-    };
-    Ok(Next::More)
-}
-
-/// The buffers of a session, and how many writes it accepted.
-#[derive(Debug, Drop)]
+/// The volume, the buffers of a session, and how many writes it accepted.
+#[derive(Drop)]
 pub struct Session {
+    pub volume: Volume,
     fresh: Vec<u8>,
     out: Vec<u8>,
-    number: u64,
+    pub number: u64,
     ghost block: { vec_len fresh ≡ 16 },
     ghost reply: { vec_len out ≡ 120 },
 }
 
 impl Session {
-    /// Takes the memory of a session.
-    pub fn new(alloc: Global) -> Result<Session, OutOfMemory>
-        ensures { IfOk result (λ session. session.number ≡ 0) }
+    /// Takes the memory of a session over the volume.
+    pub fn new(alloc: Global, volume: Volume) -> Result<Session, OutOfMemory>
+        ensures number { IfOk result (λ session. session.number ≡ 0) }
+        ensures cell { IfOk result (λ session. session.volume.cell ≡ volume.cell) }
+        ensures bytes { IfOk result (λ session. session.volume.bytes ≡ volume.bytes) }
     {
         let fresh = vec![in alloc; 0u8; BLOCK_BYTES]?;
         let out = vec![in alloc; 0u8; REPLY_BYTES]?;
         Ok(Session {
+            volume,
             fresh,
             out,
             number: 0,
@@ -80,61 +59,73 @@ impl Session {
     // Writes the block, whose new contents stand in `fresh`, and replies.
     fn write<B: Bank>(&mut self, bank: &mut B, time: u64, block: u64) -> Result<Next, Fault>
         requires block { block < 8 }
-        requires size { (B.view bank.old).sizes 0 ≡ Some 128 }
+        requires size { (B.view bank.old).sizes 0 ≡ Some 261 }
         requires number { self.old.number < 2 ^ 63 }
-        ensures served { (s : PlainState) → IsTrue (B.view bank.old).tells → s.number ≡ self.old.number
-            → PlainHolds (B.view bank.old).now.disks s.image
-            → Served plain_store result s (request.Write time block self.old.fresh.items)
-            (B.view bank.old).now (B.view bank.new).now }
+        requires known { Always (B.view bank.old) (IsKnown self.old.volume.cell self.old.volume.bytes) }
+        ensures steps { Steps (B.view bank.old) (B.view bank.new)
+            (Answering volume_store (held self.old.volume.bytes self.old.number)
+            (request.Write time block self.old.fresh.items))
+            (Served volume_store result (held self.old.volume.bytes self.old.number)
+            (request.Write time block self.old.fresh.items)) }
+        ensures known { OnOk result
+            (Always (B.view bank.new) (IsKnown self.new.volume.cell self.new.volume.bytes)) }
+        ensures state { OnOk result (held self.new.volume.bytes self.new.number
+            ≡ next1 (held self.old.volume.bytes self.old.number) (request.Write time block self.old.fresh.items)) }
         ensures fault { IfErr result (λ fault. HasRisen fault (B.view bank.old) (B.view bank.new)) }
         ensures serves { ServesOn 0 (B.view bank.old) (B.view bank.new) }
-        ensures number { OnOk result (self.new.number ≡ self.old.number + 1) }
         ensures at_most { self.new.number ≤ self.old.number + 1 }
         ensures more { IfOk result (λ next. next ≡ Next.More) }
     {
-        let Ok(()) = write_block(bank, block, self.fresh.as_slice()) else {
+        // The image is stable before the reply is said.
+        let Ok(()) = self.volume.write(bank, block, self.fresh.as_slice()) else {
             return Err(Fault::Disk);
         };
         self.number += 1;
-        let kept = Answer::Kept { seq: self.number };
-        // The block is stable before its reply is said.
-        let Ok(()) = sync_blocks(bank) else {
-            return Err(Fault::Disk);
-        };
-        let Ok(()) = say_answer(bank, &kept, self.out.as_mut_slice()) else {
+        let Ok(()) = say_answer(
+            bank,
+            &Answer::Kept { seq: self.number },
+            self.out.as_mut_slice(),
+        ) else {
             return Err(Fault::Port);
         };
         Ok(Next::More)
     }
 
-    // Reads the block, and replies.
+    // Replies with the block.
     fn read<B: Bank>(&mut self, bank: &mut B, block: u64) -> Result<Next, Fault>
         requires block { block < 8 }
-        requires size { (B.view bank.old).sizes 0 ≡ Some 128 }
-        ensures served { (s : PlainState) → IsTrue (B.view bank.old).tells
-            → PlainHolds (B.view bank.old).now.disks s.image
-            → Served plain_store result s (request.Read block) (B.view bank.old).now (B.view bank.new).now }
+        requires known { Always (B.view bank.old) (IsKnown self.old.volume.cell self.old.volume.bytes) }
+        ensures steps { Steps (B.view bank.old) (B.view bank.new)
+            (Answering volume_store (held self.old.volume.bytes self.old.number) (request.Read block))
+            (Served volume_store result (held self.old.volume.bytes self.old.number) (request.Read block)) }
+        ensures known { Always (B.view bank.new) (IsKnown self.new.volume.cell self.new.volume.bytes) }
+        ensures volume { self.new.volume ≡ self.old.volume }
+        ensures number { self.new.number ≡ self.old.number }
         ensures fault { IfErr result (λ fault. HasRisen fault (B.view bank.old) (B.view bank.new)) }
         ensures serves { ServesOn 0 (B.view bank.old) (B.view bank.new) }
-        ensures number { self.new.number ≡ self.old.number }
         ensures more { IfOk result (λ next. next ≡ Next.More) }
     {
-        show_block(
-            bank,
-            block,
-            self.fresh.as_mut_slice(),
-            self.out.as_mut_slice(),
-        )
+        let answer = Answer::Is {
+            bytes: self.volume.block(block),
+        };
+        let Ok(()) = say_answer(bank, &answer, self.out.as_mut_slice()) else {
+            return Err(Fault::Port);
+        };
+        Ok(Next::More)
     }
 
     // Replies that the request is refused.
     fn refuse<B: Bank>(&mut self, bank: &mut B, refusal: Refusal) -> Result<Next, Fault>
-        ensures served { (s : PlainState) (asked : _) → IsTrue (B.view bank.old).tells
-            → PlainHolds (B.view bank.old).now.disks s.image → IsRefusedWith refusal s asked
-            → Served plain_store result s asked (B.view bank.old).now (B.view bank.new).now }
+        requires known { Always (B.view bank.old) (IsKnown self.old.volume.cell self.old.volume.bytes) }
+        ensures steps { (asked : _) → IsRefusedWith refusal (held self.old.volume.bytes self.old.number) asked
+            → Steps (B.view bank.old) (B.view bank.new)
+            (Answering volume_store (held self.old.volume.bytes self.old.number) asked)
+            (Served volume_store result (held self.old.volume.bytes self.old.number) asked) }
+        ensures known { Always (B.view bank.new) (IsKnown self.new.volume.cell self.new.volume.bytes) }
+        ensures volume { self.new.volume ≡ self.old.volume }
+        ensures number { self.new.number ≡ self.old.number }
         ensures fault { IfErr result (λ fault. HasRisen fault (B.view bank.old) (B.view bank.new)) }
         ensures serves { ServesOn 0 (B.view bank.old) (B.view bank.new) }
-        ensures number { self.new.number ≡ self.old.number }
         ensures more { IfOk result (λ next. next ≡ Next.More) }
     {
         let Ok(()) = say_answer(bank, &Answer::No(refusal), self.out.as_mut_slice()) else {
@@ -145,16 +136,19 @@ impl Session {
 
     // One line and its reply. What a write holds stands in `fresh`.
     fn one<B: Bank>(&mut self, bank: &mut B, line: Line) -> Result<Next, Fault>
-        requires size { (B.view bank.old).sizes 0 ≡ Some 128 }
+        requires size { (B.view bank.old).sizes 0 ≡ Some 261 }
         requires number { self.old.number < 2 ^ 63 }
-        ensures served { (s : PlainState) → IsTrue (B.view bank.old).tells → s.number ≡ self.old.number
-            → PlainHolds (B.view bank.old).now.disks s.image
-            → Served plain_store result s (request_with line self.old.fresh.items)
-            (B.view bank.old).now (B.view bank.new).now }
+        requires known { Always (B.view bank.old) (IsKnown self.old.volume.cell self.old.volume.bytes) }
+        ensures steps { Steps (B.view bank.old) (B.view bank.new)
+            (Answering volume_store (held self.old.volume.bytes self.old.number) (request_with line self.old.fresh.items))
+            (Served volume_store result (held self.old.volume.bytes self.old.number)
+            (request_with line self.old.fresh.items)) }
+        ensures known { OnOk result
+            (Always (B.view bank.new) (IsKnown self.new.volume.cell self.new.volume.bytes)) }
+        ensures state { OnOk result (held self.new.volume.bytes self.new.number
+            ≡ next1 (held self.old.volume.bytes self.old.number) (request_with line self.old.fresh.items)) }
         ensures fault { IfErr result (λ fault. HasRisen fault (B.view bank.old) (B.view bank.new)) }
         ensures serves { ServesOn 0 (B.view bank.old) (B.view bank.new) }
-        ensures number { (s : PlainState) → s.number ≡ self.old.number
-            → OnOk result (self.new.number ≡ (next1 s (request_with line self.old.fresh.items)).number) }
         ensures at_most { self.new.number ≤ self.old.number + 1 }
         ensures quit { result ≡ Ok Next.Quit → goes_on (request_with line self.old.fresh.items) ≡ false }
     {
@@ -186,6 +180,7 @@ impl Session {
         ensures request { (line : List ℕ) → IsLine line len reader.now
             → request_of 16 line ≡ request_with result self.new.fresh.items }
         ensures number { self.new.number ≡ self.old.number }
+        ensures volume { self.new.volume ≡ self.old.volume }
     {
         if len > LINE_BYTES {
             return Line::Bad;
@@ -200,17 +195,20 @@ impl Session {
         reader: &LineReader,
         len: usize,
     ) -> Result<Next, Fault>
-        requires size { (B.view bank.old).sizes 0 ≡ Some 128 }
+        requires size { (B.view bank.old).sizes 0 ≡ Some 261 }
         requires number { self.old.number < 2 ^ 63 }
         requires room { room reader.now ≡ 76 }
-        ensures served { (line : List ℕ) (s : PlainState) → IsLine line len reader.now
-            → IsTrue (B.view bank.old).tells → s.number ≡ self.old.number
-            → PlainHolds (B.view bank.old).now.disks s.image
-            → Served plain_store result s (request_of 16 line) (B.view bank.old).now (B.view bank.new).now }
+        requires known { Always (B.view bank.old) (IsKnown self.old.volume.cell self.old.volume.bytes) }
+        ensures steps { (line : List ℕ) → IsLine line len reader.now → Steps (B.view bank.old) (B.view bank.new)
+            (Answering volume_store (held self.old.volume.bytes self.old.number) (request_of 16 line))
+            (Served volume_store result (held self.old.volume.bytes self.old.number) (request_of 16 line)) }
+        ensures known { OnOk result
+            (Always (B.view bank.new) (IsKnown self.new.volume.cell self.new.volume.bytes)) }
+        ensures state { (line : List ℕ) → IsLine line len reader.now
+            → OnOk result (held self.new.volume.bytes self.new.number
+            ≡ next1 (held self.old.volume.bytes self.old.number) (request_of 16 line)) }
         ensures fault { IfErr result (λ fault. HasRisen fault (B.view bank.old) (B.view bank.new)) }
         ensures serves { ServesOn 0 (B.view bank.old) (B.view bank.new) }
-        ensures number { (line : List ℕ) (s : PlainState) → IsLine line len reader.now → s.number ≡ self.old.number
-            → OnOk result (self.new.number ≡ (next1 s (request_of 16 line)).number) }
         ensures at_most { self.new.number ≤ self.old.number + 1 }
         ensures quit { (line : List ℕ) → IsLine line len reader.now → result ≡ Ok Next.Quit
             → goes_on (request_of 16 line) ≡ false }

@@ -121,6 +121,8 @@ impl Volume {
         ensures size { OnOk result ((B.view bank.new).sizes 0 ≡ Some 261) }
         ensures contents { IsTrue (B.view bank.old).tells
             → Quiet OthersSame (B.view bank.old).now (B.view bank.new).now }
+        ensures kept { IsTrue (B.view bank.old).tells → (CountsAbsent (B.view bank.old).now.disks → ⊥)
+            → (B.view bank.new).now ≡ (B.view bank.old).now }
         ensures others { (e : ℕ) → e ≢ 0 → (B.view bank.new).sizes e ≡ (B.view bank.old).sizes e }
 
         // It is no array exactly where disk 0 has another size, or its gate is on and the cell has no value, unless

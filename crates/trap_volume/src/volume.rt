@@ -31,7 +31,8 @@ impl Volume {
     /// The contents of a block.
     pub fn block(&self, block: u64) -> &[u8]
         requires { block < 8 }
-        ensures { result.now ≡ slice_index_or (image_of self.now.bytes) block [] }
+        ensures is { result.now ≡ slice_index_or (image_of self.now.bytes) block [] }
+        ensures whole { length result.now ≡ 16 }
     {
         let at = block as usize * BLOCK_BYTES;
         &self.bytes[at..at + BLOCK_BYTES]

@@ -1,7 +1,8 @@
 use Rattle.std.proofs.Common.{◌≡◌, IsTrue, sym, subst}
 use Rattle.trap_cli.proofs.run.run.Goals as goal
 use Rattle.trap_cli.proofs.TouchingLemmas.{touches_then}
-use Rattle.trap_cli.proofs.Ending.{caused, refused_as, ends_as, usage_exact, not_an_array_exact}
+use Rattle.trap_cli.proofs.Ending.{caused, refused_as, ends_as, usage_exact, other_size_first, not_an_array_exact}
+use Rattle.trap_cli.proofs.Crashing.{run_leaves}
 
 pub returns-clause-runs : goal.returns-clause-runs
 returns-clause-runs g c =
@@ -29,10 +30,20 @@ returns-clause-usage g c =
     usage_exact c.work-ended.result c.status.result c.args.words.now (g.B.Bank.view c.args.bank.now) (g.B.Bank.view c.work-ended.new.bank)
     (g.S.Source.stream c.args.source.now) (g.S.Source.stream c.work-ended.new.source) c.status.ensures c.work-ended.ensures.cause
 
+pub returns-clause-other_size : goal.returns-clause-other_size
+returns-clause-other_size g c =
+    other_size_first c.work-ended.result c.status.result c.args.words.now (g.B.Bank.view c.args.bank.now) (g.B.Bank.view c.work-ended.new.bank)
+    (g.S.Source.stream c.args.source.now) (g.S.Source.stream c.work-ended.new.source) c.status.ensures c.work-ended.ensures.cause
+
 pub returns-clause-not_an_array : goal.returns-clause-not_an_array
 returns-clause-not_an_array g c =
     not_an_array_exact c.work-ended.result c.status.result c.args.words.now (g.B.Bank.view c.args.bank.now) (g.B.Bank.view c.work-ended.new.bank)
     (g.S.Source.stream c.args.source.now) (g.S.Source.stream c.work-ended.new.source) c.status.ensures c.work-ended.ensures.cause
+
+pub returns-clause-any_moment : goal.returns-clause-any_moment
+returns-clause-any_moment g c =
+    run_leaves (g.B.Bank.view c.args.bank.now) (g.B.Bank.view c.work-ended.new.bank) (g.B.Bank.view c.say_last.new.bank)
+    (g.S.Source.stream c.args.source.now) _ (g.met.B.Bank.lawful c.args.bank.now) c.work-ended.ensures.steps c.say_last.ensures.steps
 
 pub returns-clause-touches : goal.returns-clause-touches
 returns-clause-touches g c = touches_then c.work-ended.ensures.touches c.say_last.ensures.serves.touches

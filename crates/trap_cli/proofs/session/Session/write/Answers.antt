@@ -1,68 +1,70 @@
-use Rattle.std.proofs.Common.{◌≡◌, ℕ, ◌*◌, length, refl, subst, arith}
-use Rattle.trap_bank.specs.Calls.{Writes}
-use Rattle.trap_bank.specs.declared.disks.Failed.{Failed}
+use Rattle.std.proofs.Common.{◌≡◌, ℕ, ◌+◌, List, set, refl, sym, ap, ◌∙◌}
+use Rattle.trap_model.specs.Plain.{PlainState, next1}
+use Rattle.trap_model.specs.declared.request.Request.TheVariants.{Write}
+use Rattle.trap_volume.specs.Image.{image_of}
+use Rattle.trap_cli.specs.CellVolume.{held, volume_store, IsKnown}
+use Rattle.trap_cli.proofs.TouchingLemmas.{serves_say, serves_then}
+use Rattle.trap_cli.proofs.Replying.{write_struck, write_ready, write_next, write_text, known_holds, known_stands, known_put, known_said, cut_after, replied_after, serves_moves}
 use Rattle.trap_cli.proofs.session.Session.write.Goals as goal
-use Rattle.trap_cli.proofs.TouchingLemmas.{serves_write, serves_sync, serves_say, serves_then}
-use Rattle.trap_cli.proofs.Serving.{write_struck, sync_struck, write_told, write_quiet, write_holds, write_text, cut_short, replied}
 
-pub returns-in_default-clause-served : goal.returns-in_default-clause-served
-returns-in_default-clause-served g c s told same holds =
-    let long : length c.args.self.now.fresh.items ≡ 16 = omega (arith, c.args.self.now.block, c.args.self.now.fresh.ok.0) in
-    let view = g.B.Bank.view in
-    let wrote = subst (λ bytes. Writes {T = Unit {0}} {E = Failed} 0 (16 * c.args.block) bytes c.write_block.result (view c.args.bank.now) (view c.write_block.new.bank))
-    c.as_slice.ensures.value c.write_block.ensures in
-    write_struck s c.args.time c.args.block c.args.self.now.fresh.items (view c.args.bank.now) (view c.write_block.new.bank)
-    c.requires.block long told holds wrote
+pub write-requires-clause-stands : goal.write-requires-clause-stands
+write-requires-clause-stands g c = known_stands (g.B.Bank.view c.args.bank.now) c.args.self.now.volume.cell c.args.self.now.volume.bytes c.requires.known
+
+pub returns-in_default-clause-steps : goal.returns-in_default-clause-steps
+returns-in_default-clause-steps g c =
+    let st = held c.args.self.now.volume.bytes c.args.self.now.number in
+    let asked = Write c.args.time c.args.block c.args.self.now.fresh.items in
+    let fresh = set (image_of c.args.self.now.volume.bytes) c.args.block c.as_slice.result.now in
+    let is : (next1 st asked).image ≡ fresh =
+    ap (λ (s : PlainState). s.image) (write_next st c.args.time c.args.block c.args.self.now.fresh.items c.requires.block)
+    ∙ ap (λ (bytes : List ℕ). set (image_of c.args.self.now.volume.bytes) c.args.block bytes) (sym c.as_slice.ensures.value) in
+    let always = known_holds (g.B.Bank.view c.args.bank.now) c.args.self.now.volume.cell c.args.self.now.volume.bytes c.requires.known in
+    write_struck st asked fresh refl is (g.B.Bank.view c.args.bank.now) (g.B.Bank.view c.write.new.bank) always c.write.ensures.any_moment
 
 pub returns-in_default-clause-serves : goal.returns-in_default-clause-serves
-returns-in_default-clause-serves g c = serves_write c.write_block.ensures
+returns-in_default-clause-serves g c = serves_moves (g.B.Bank.view c.args.bank.now) (g.B.Bank.view c.write.new.bank) _ c.write.ensures.sizes c.write.ensures.contents c.write.ensures.any_moment
 
-pub returns-in_default-sync_blocks-clause-served : goal.returns-in_default-sync_blocks-clause-served
-returns-in_default-sync_blocks-clause-served g c s told same holds =
-    let long : length c.args.self.now.fresh.items ≡ 16 = omega (arith, c.args.self.now.block, c.args.self.now.fresh.ok.0) in
-    let view = g.B.Bank.view in
-    let wrote = subst (λ bytes. Writes {T = Unit {0}} {E = Failed} 0 (16 * c.args.block) bytes c.write_block.result (view c.args.bank.now) (view c.write_block.new.bank))
-    c.as_slice.ensures.value c.write_block.ensures in
-    sync_struck s c.args.time c.args.block c.args.self.now.fresh.items (view c.args.bank.now) (view c.write_block.new.bank)
-    c.requires.block long told holds wrote (view c.sync_blocks.new.bank) c.sync_blocks.ensures
-
-pub returns-in_default-sync_blocks-clause-serves : goal.returns-in_default-sync_blocks-clause-serves
-returns-in_default-sync_blocks-clause-serves g c = serves_then (serves_write c.write_block.ensures) (serves_sync c.sync_blocks.ensures)
-
-pub returns-in_default-say_answer-clause-served : goal.returns-in_default-say_answer-clause-served
-returns-in_default-say_answer-clause-served g c s told same holds =
-    let long : length c.args.self.now.fresh.items ≡ 16 = omega (arith, c.args.self.now.block, c.args.self.now.fresh.ok.0) in
-    let view = g.B.Bank.view in
-    let wrote = subst (λ bytes. Writes {T = Unit {0}} {E = Failed} 0 (16 * c.args.block) bytes c.write_block.result (view c.args.bank.now) (view c.write_block.new.bank))
-    c.as_slice.ensures.value c.write_block.ensures in
-    let told2 = write_told s c.args.time c.args.block c.args.self.now.fresh.items (view c.args.bank.now) (view c.write_block.new.bank)
-    c.requires.block long told holds wrote (view c.sync_blocks.new.bank) c.sync_blocks.ensures in
-    let quiet = write_quiet s c.args.time c.args.block c.args.self.now.fresh.items (view c.args.bank.now) (view c.write_block.new.bank)
-    c.requires.block long told holds wrote (view c.sync_blocks.new.bank) c.sync_blocks.ensures in
-    let there = write_holds s c.args.time c.args.block c.args.self.now.fresh.items (view c.args.bank.now) (view c.write_block.new.bank)
-    c.requires.block long told holds wrote (view c.sync_blocks.new.bank) c.sync_blocks.ensures c.in-Ok.is in
-    let text = write_text s c.args.time c.args.block c.args.self.now.fresh.items c.args.self.now.number c.requires.block same in
-    cut_short refl told2 quiet there text c.say_answer.ensures
+pub returns-in_default-say_answer-clause-steps : goal.returns-in_default-say_answer-clause-steps
+returns-in_default-say_answer-clause-steps g c =
+    let st = held c.args.self.now.volume.bytes c.args.self.now.number in
+    let asked = Write c.args.time c.args.block c.args.self.now.fresh.items in
+    let fresh = set (image_of c.args.self.now.volume.bytes) c.args.block c.as_slice.result.now in
+    let is : (next1 st asked).image ≡ fresh =
+    ap (λ (s : PlainState). s.image) (write_next st c.args.time c.args.block c.args.self.now.fresh.items c.requires.block)
+    ∙ ap (λ (bytes : List ℕ). set (image_of c.args.self.now.volume.bytes) c.args.block bytes) (sym c.as_slice.ensures.value) in
+    let always = known_holds (g.B.Bank.view c.args.bank.now) c.args.self.now.volume.cell c.args.self.now.volume.bytes c.requires.known in
+    let text = write_text st c.args.time c.args.block c.args.self.now.fresh.items (c.args.self.now.number + 1) c.requires.block refl in
+    let ready = write_ready st asked fresh refl is (g.B.Bank.view c.args.bank.now) (g.B.Bank.view c.write.new.bank) always c.write.new.self.cell c.in-Ok.ensures.ok in
+    cut_after volume_store st asked _ text (g.B.Bank.view c.args.bank.now) (g.B.Bank.view c.write.new.bank) (g.B.Bank.view c.say_answer.new.bank) _ ready c.say_answer.ensures
 
 pub returns-in_default-say_answer-clause-serves : goal.returns-in_default-say_answer-clause-serves
-returns-in_default-say_answer-clause-serves g c =
-    serves_then (serves_then (serves_write c.write_block.ensures) (serves_sync c.sync_blocks.ensures)) (serves_say 0 c.say_answer.ensures)
+returns-in_default-say_answer-clause-serves g c = serves_then (serves_moves (g.B.Bank.view c.args.bank.now) (g.B.Bank.view c.write.new.bank) _ c.write.ensures.sizes c.write.ensures.contents c.write.ensures.any_moment) (serves_say 0 c.say_answer.ensures)
 
-pub returns-clause-served : goal.returns-clause-served
-returns-clause-served g c s told same holds =
-    let long : length c.args.self.now.fresh.items ≡ 16 = omega (arith, c.args.self.now.block, c.args.self.now.fresh.ok.0) in
-    let view = g.B.Bank.view in
-    let wrote = subst (λ bytes. Writes {T = Unit {0}} {E = Failed} 0 (16 * c.args.block) bytes c.write_block.result (view c.args.bank.now) (view c.write_block.new.bank))
-    c.as_slice.ensures.value c.write_block.ensures in
-    let told2 = write_told s c.args.time c.args.block c.args.self.now.fresh.items (view c.args.bank.now) (view c.write_block.new.bank)
-    c.requires.block long told holds wrote (view c.sync_blocks.new.bank) c.sync_blocks.ensures in
-    let quiet = write_quiet s c.args.time c.args.block c.args.self.now.fresh.items (view c.args.bank.now) (view c.write_block.new.bank)
-    c.requires.block long told holds wrote (view c.sync_blocks.new.bank) c.sync_blocks.ensures in
-    let there = write_holds s c.args.time c.args.block c.args.self.now.fresh.items (view c.args.bank.now) (view c.write_block.new.bank)
-    c.requires.block long told holds wrote (view c.sync_blocks.new.bank) c.sync_blocks.ensures c.in-Ok.is in
-    let text = write_text s c.args.time c.args.block c.args.self.now.fresh.items c.args.self.now.number c.requires.block same in
-    replied refl told2 quiet there text c.in-Ok-say_answer.is c.say_answer.ensures
+pub returns-clause-steps : goal.returns-clause-steps
+returns-clause-steps g c =
+    let st = held c.args.self.now.volume.bytes c.args.self.now.number in
+    let asked = Write c.args.time c.args.block c.args.self.now.fresh.items in
+    let fresh = set (image_of c.args.self.now.volume.bytes) c.args.block c.as_slice.result.now in
+    let is : (next1 st asked).image ≡ fresh =
+    ap (λ (s : PlainState). s.image) (write_next st c.args.time c.args.block c.args.self.now.fresh.items c.requires.block)
+    ∙ ap (λ (bytes : List ℕ). set (image_of c.args.self.now.volume.bytes) c.args.block bytes) (sym c.as_slice.ensures.value) in
+    let always = known_holds (g.B.Bank.view c.args.bank.now) c.args.self.now.volume.cell c.args.self.now.volume.bytes c.requires.known in
+    let text = write_text st c.args.time c.args.block c.args.self.now.fresh.items (c.args.self.now.number + 1) c.requires.block refl in
+    let ready = write_ready st asked fresh refl is (g.B.Bank.view c.args.bank.now) (g.B.Bank.view c.write.new.bank) always c.write.new.self.cell c.in-Ok.ensures.ok in
+    replied_after volume_store st asked _ text (g.B.Bank.view c.args.bank.now) (g.B.Bank.view c.write.new.bank) (g.B.Bank.view c.say_answer.new.bank) _ ready c.in-Ok-say_answer.ensures
+
+pub returns-clause-known : goal.returns-clause-known
+returns-clause-known g c =
+    let always = known_holds (g.B.Bank.view c.args.bank.now) c.args.self.now.volume.cell c.args.self.now.volume.bytes c.requires.known in
+    known_said (g.B.Bank.view c.write.new.bank) (g.B.Bank.view c.say_answer.new.bank) _ _ (IsKnown c.write.new.self.cell c.write.new.self.bytes) c.say_answer.ensures
+    (known_put (g.B.Bank.view c.args.bank.now) (g.B.Bank.view c.write.new.bank) c.write.new.self.cell _ c.write.new.self.bytes c.write.ensures.image (image_of c.args.self.now.volume.bytes) always c.in-Ok.ensures.ok)
+
+pub returns-clause-state : goal.returns-clause-state
+returns-clause-state g c =
+    let st = held c.args.self.now.volume.bytes c.args.self.now.number in
+    ap (λ (image : List (List ℕ)). record { image = image; number = c.args.self.now.number + 1 })
+    (c.write.ensures.image ∙ ap (λ (bytes : List ℕ). set (image_of c.args.self.now.volume.bytes) c.args.block bytes) c.as_slice.ensures.value)
+    ∙ sym (write_next st c.args.time c.args.block c.args.self.now.fresh.items c.requires.block)
 
 pub returns-clause-serves : goal.returns-clause-serves
-returns-clause-serves g c =
-    serves_then (serves_then (serves_write c.write_block.ensures) (serves_sync c.sync_blocks.ensures)) (serves_say 0 c.say_answer.ensures)
+returns-clause-serves g c = serves_then (serves_moves (g.B.Bank.view c.args.bank.now) (g.B.Bank.view c.write.new.bank) _ c.write.ensures.sizes c.write.ensures.contents c.write.ensures.any_moment) (serves_say 0 c.say_answer.ensures)
