@@ -76,16 +76,13 @@ impl Session {
         ensures at_most { self.new.number ≤ self.old.number + 1 }
         ensures more { IfOk result (λ next. next ≡ Next.More) }
     {
+        self.number += 1;
+        let kept = Answer::Kept { seq: self.number };
         // The image is stable before the reply is said.
         let Ok(()) = self.volume.write(bank, block, self.fresh.as_slice()) else {
             return Err(Fault::Disk);
         };
-        self.number += 1;
-        let Ok(()) = say_answer(
-            bank,
-            &Answer::Kept { seq: self.number },
-            self.out.as_mut_slice(),
-        ) else {
+        let Ok(()) = say_answer(bank, &kept, self.out.as_mut_slice()) else {
             return Err(Fault::Port);
         };
         Ok(Next::More)

@@ -31,8 +31,11 @@ fn status_of(
 
 #[test]
 fn a_session_writes_and_reads(rt: HostRuntime) -> Result<(), Fail> {
-    let mut want = [0u8; 128];
-    want[48..64].copy_from_slice(&[0x22; 16]);
+    let mut want = [0u8; 261];
+    want[..3].copy_from_slice(&[0xa5, 0xa5, 2]);
+    want[51..67].copy_from_slice(&[0x22; 16]);
+    want[131..133].copy_from_slice(&[0xa5, 1]);
+    want[181..197].copy_from_slice(&[0x11; 16]);
     for piece in [1, 7, 4096] {
         let mut bank = MemoryBank::new(rt.alloc())?;
         let status = status_of(rt.alloc(), &mut bank, "session", SESSION, piece, 0)?;
@@ -101,7 +104,7 @@ fn a_session_says_what_it_owes(rt: HostRuntime) -> Result<(), Fail> {
             "W 1 0 11111111111111111111111111111111\nR 0\n",
             100,
             0,
-            2,
+            5,
             6,
             "fault log\n",
         ),
@@ -109,7 +112,7 @@ fn a_session_says_what_it_owes(rt: HostRuntime) -> Result<(), Fail> {
             "W 1 0 11111111111111111111111111111111\nR 0\n",
             100,
             0,
-            3,
+            7,
             6,
             "fault log\n",
         ),
@@ -117,7 +120,23 @@ fn a_session_says_what_it_owes(rt: HostRuntime) -> Result<(), Fail> {
             "W 1 0 11111111111111111111111111111111\nR 0\n",
             100,
             0,
-            4,
+            8,
+            6,
+            "fault log\n",
+        ),
+        (
+            "W 1 0 11111111111111111111111111111111\nR 0\n",
+            100,
+            0,
+            12,
+            6,
+            "fault log\n",
+        ),
+        (
+            "W 1 0 11111111111111111111111111111111\nR 0\n",
+            100,
+            0,
+            13,
             9,
             "",
         ),
@@ -125,15 +144,7 @@ fn a_session_says_what_it_owes(rt: HostRuntime) -> Result<(), Fail> {
             "W 1 0 11111111111111111111111111111111\nR 0\n",
             100,
             0,
-            5,
-            6,
-            "ok 1\nfault log\n",
-        ),
-        (
-            "W 1 0 11111111111111111111111111111111\nR 0\n",
-            100,
-            0,
-            6,
+            14,
             9,
             "ok 1\n",
         ),
@@ -145,6 +156,60 @@ fn a_session_says_what_it_owes(rt: HostRuntime) -> Result<(), Fail> {
             status == want && bank.said() == said.as_bytes(),
             "{input} {call}"
         );
+    }
+    Ok(())
+}
+
+// The status of a second session, after the first was stopped behind so many calls and the bank crashed.
+fn after_a_stop(
+    alloc: Global,
+    bank: &mut MemoryBank,
+    calls: u64,
+    seed: u64,
+) -> Result<u8, AllocError> {
+    bank.fuse(calls);
+    status_of(
+        alloc,
+        bank,
+        "session",
+        "W 1 0 11111111111111111111111111111111\n",
+        100,
+        0,
+    )?;
+    bank.crash(seed);
+    status_of(alloc, bank, "session", "R 0\n", 100, 0)
+}
+
+const OLD: &str = "is 00000000000000000000000000000000\n";
+
+const NEW: &str = "is 11111111111111111111111111111111\n";
+
+const REPLIED: &str = "ok 1\nis 11111111111111111111111111111111\n";
+
+#[test]
+fn the_last_gate_decides(rt: HostRuntime) -> Result<(), Fail> {
+    for (seed, want) in [(0, NEW), (1, OLD)] {
+        let mut bank = MemoryBank::new(rt.alloc())?;
+        let status = after_a_stop(rt.alloc(), &mut bank, 11, seed)?;
+        assert!(rt; status == 0 && bank.said() == want.as_bytes(), "{seed}");
+    }
+    Ok(())
+}
+
+#[test]
+fn what_was_replied_outlives_a_stop_at_any_call(rt: HostRuntime) -> Result<(), Fail> {
+    for seed in 0..3 {
+        for calls in 0..16 {
+            let mut bank = MemoryBank::new(rt.alloc())?;
+            let status = after_a_stop(rt.alloc(), &mut bank, calls, seed)?;
+            let said = bank.said();
+            assert!(rt; status == 0, "{calls} {seed}");
+            assert!(rt;
+                said == REPLIED.as_bytes()
+                    || calls < 13 && (said == OLD.as_bytes() || said == NEW.as_bytes()),
+                "{calls} {seed}"
+            );
+        }
     }
     Ok(())
 }
