@@ -18,7 +18,7 @@ exec python3 - "$root/crates/trap_cli/out/trap_cli" <<'PY'
 import os, subprocess, sys, tempfile
 
 program = sys.argv[1]
-CALLS = ['openat', 'read', 'pread64', 'pwrite64', 'fdatasync', 'fsync', 'write']
+CALLS = ['openat', 'read', 'pread64', 'pwrite64', 'fdatasync', 'fsync', 'rename', 'write', 'close']
 MOST = 40
 
 # (block, contents) of each write; some blocks are written twice

@@ -1,10 +1,10 @@
 //! Trusted edge: the system's calls on files, again and again until the whole piece is done.
 
 use std::fs::{File, OpenFile, OpenOptions};
-use std::io;
 use std::io::ErrorKind;
 use std::os::unix::fs::FileExt;
 use std::rt::Files;
+use std::{fs, io};
 
 // How many zero bytes are written at a time.
 const ZEROS_BYTES: usize = 65_536;
@@ -16,25 +16,40 @@ pub fn open_there<R: Files>(rt: &R, name: &str) -> io::Result<(R::File, u64)> {
     Ok((file, len))
 }
 
-// Makes a file of that many zero bytes, and makes it and its name stable. Where the file is to be new, one that is there
-// is an error: it could not be opened, and isn't lost for that.
+// The name of a file while it is made.
+const UNFINISHED: &str = "new.trap";
+
+// Makes a file of that many zero bytes, and makes it and its name stable. It gets its name when it is whole, so that a
+// program that is stopped leaves no part of it there. Where the file is to be new, one that is there is an error: it
+// could not be opened, and isn't lost for that.
 pub fn make_zero<R: Files>(rt: &R, name: &str, len: u64, is_new: bool) -> io::Result<R::File>
 where
     R::File: FileExt,
 {
+    if is_new && !is_absent(rt, name) {
+        return Err(io::Error::from(ErrorKind::AlreadyExists));
+    }
     let file = OpenOptions::new()
         .read(true)
         .write(true)
         .create(true)
-        .create_new(is_new)
-        .truncate(!is_new)
-        .open(rt, name)?;
+        .truncate(true)
+        .open(rt, UNFINISHED)?;
     fill_zero(&file, len)?;
-    // The zeros and the length are stable before the name is.
+    // The zeros and the length are stable before the file has its name.
     file.sync_all()?;
+    fs::rename(rt, UNFINISHED, name)?;
     // The folder's entry is stable when the disk is there.
     File::open(rt, ".")?.sync_all()?;
     Ok(file)
+}
+
+// Whether there is no file of that name, to be opened or not.
+fn is_absent<R: Files>(rt: &R, name: &str) -> bool {
+    match File::open(rt, name) {
+        Ok(_) => false,
+        Err(e) => e.kind() == ErrorKind::NotFound,
+    }
 }
 
 // The zeros are written and not left as a hole: a write into a hole takes space, so that it may find
