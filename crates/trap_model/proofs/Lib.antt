@@ -10,3 +10,7 @@ pub mod Dropping
 pub mod Adding
 pub mod KeptValid
 pub mod CodeOf
+pub mod Records
+pub mod Further
+pub mod Refusals
+pub mod Retained

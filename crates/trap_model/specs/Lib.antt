@@ -1,6 +1,5 @@
 pub mod Limits
 pub mod Machine
-pub mod Plain
 pub mod Given
 pub mod ZeroRun
 pub mod LogRecord
@@ -10,3 +9,5 @@ pub mod Runs
 pub mod State
 pub mod ArrayStep
 pub mod PlainArray
+pub mod Records
+pub mod Path
