@@ -1,0 +1,13 @@
+pub mod Overlays
+pub mod Standing
+pub mod PendingWrites
+pub mod SlotAreas
+pub mod SlotSpellings
+pub mod HeldSlots
+pub mod HeldSpellings
+pub mod OneAnswer
+pub mod Filling
+pub mod Mounts
+pub mod HeldStages
+pub mod Looking
+pub mod FurtherSlots
