@@ -6,7 +6,10 @@ use Rattle.std.proofs.lemmas.Bool.Decides.{nat_tests}
 use Rattle.trap_model.specs.declared.numbers.Geometry.{Geometry}
 use Rattle.trap_bank.specs.Disks.{View}
 use Rattle.trap_bank.specs.Calls.{Reads}
-use Rattle.trap_raid.specs.Reads.{OnlyReads, moment_after, Costs, CostsAtMost, ReadCosts, PlanCosts}
+use Rattle.trap_map.specs.Layout.{block_place}
+use Rattle.trap_stage.specs.Staged.{Staged, newest_at}
+use Rattle.trap_raid.specs.Reads.{OnlyReads, moment_after, Costs, CostsAtMost, ReadCosts, PlanCosts, NonePending, calls_for}
+use Rattle.trap_raid.proofs.OptionLemmas.{some_or_none, not_both}
 use Rattle.trap_raid.proofs.ReadLemmas.{still_tells}
 
 -- how many members below n there are but one
@@ -76,15 +79,61 @@ at_most_more a b x y h costs = record {
   moment = λ told by_one. omega (arith, costs.moment told by_one, moment_more a b x.moment h);
 }
 
+pub at_most_are : (a b : ℕ) (x y : View) → a ≡ b → CostsAtMost a x y → CostsAtMost b x y
+at_most_are a b x y e costs = subst (λ n. CostsAtMost n x y) e costs
+
+-- ---- what stands at a member's place
+pub standing_most : (o : Option (List ℕ)) (x y : View) → Costs (calls_for o) x y → CostsAtMost 1 x y
+standing_most None x y costs = costs_at_most 1 1 x y (omega arith) costs
+standing_most (Some bytes) x y costs = costs_at_most 0 1 x y (omega arith) costs
+
+pub standing_bare : (o : Option (List ℕ)) (x y : View) → o ≡ None → Costs (calls_for o) x y → Costs 1 x y
+standing_bare o x y none costs = costs_are (calls_for o) 1 x y (ap (λ k. calls_for k) none) costs
+
+-- ---- a place of which bytes are pending
+pub pending_costs : {T E : Type 0} (g : Geometry) (lost : Option ℕ) (writes : List Staged) (row member : ℕ) (bytes : List ℕ) (result : Result T E) (v : View) → member < g.members → newest_at g writes row member ≡ Some bytes → ReadCosts g lost writes row member result v v
+pending_costs g lost writes row member bytes result v inside some = record {
+  pending = λ any. costs_none v;
+  own = λ apart none. absurd (not_both (newest_at g writes row member) bytes none some);
+  others = λ gone clear. absurd (not_both (newest_at g writes row member) bytes (clear member inside) some);
+  most = costs_at_most 0 (g.members - 1) v v (omega arith) (costs_none v);
+}
+
+-- a place of a member that isn't lost, with nothing pending
+pub own_costs : {T E : Type 0} (g : Geometry) (lost : Option ℕ) (writes : List Staged) (row member : ℕ) (result : Result T E) (old new : View) → lost ≢ Some member → newest_at g writes row member ≡ None → Costs 1 old new → ReadCosts g lost writes row member result old new
+own_costs g lost writes row member result old new apart none costs = record {
+  pending = λ some. absurd (some none);
+  own = λ other bare. costs;
+  others = λ gone clear. absurd (apart gone);
+  most = costs_at_most 1 (g.members - 1) old new (omega arith) costs;
+}
+
+-- a place of the lost member, with nothing pending
+pub others_costs : {T E : Type 0} (g : Geometry) (lost : Option ℕ) (writes : List Staged) (row member : ℕ) (result : Result T E) (old new : View) → lost ≡ Some member → newest_at g writes row member ≡ None → (NonePending g writes row → OnOk result (Costs (g.members - 1) old new)) → CostsAtMost (g.members - 1) old new → ReadCosts g lost writes row member result old new
+others_costs g lost writes row member result old new gone none exact most = record {
+  pending = λ some. absurd (some none);
+  own = λ apart bare. absurd (apart gone);
+  others = λ again clear. exact clear;
+  most = most;
+}
+
 -- ---- the two reads of a plan
+-- a member that isn't lost is read once at most
+own_most : {T E : Type 0} (g : Geometry) (lost : Option ℕ) (writes : List Staged) (row m : ℕ) (result : Result T E) (x y : View) → lost ≢ Some m → ReadCosts g lost writes row m result x y → CostsAtMost 1 x y
+own_most g lost writes row m result x y apart costs =
+    elim (some_or_none (newest_at g writes row m)) [
+      | inl none ↦ costs_at_most 1 1 x y (omega arith) (costs.own apart none)
+      | inr some ↦ costs_at_most 0 1 x y (omega arith) (costs.pending (λ none. not_both (newest_at g writes row m) some.0 none some.1))
+    ]
+
 -- of two members at most one is lost
-two_reads : {T E : Type 0} (g : Geometry) (lost : Option ℕ) (m k : ℕ) (first second : Result T E) (x y z : View) → m ≢ k → OnlyReads x y → ReadCosts g lost m first x y → ReadCosts g lost k second y z → CostsAtMost g.members x z
-two_reads g None m k first second x y z apart reads one two =
-    at_most_then 1 1 g.members x y z (omega arith) reads (costs_at_most 1 1 x y (omega arith) (one.own (λ e. absurd (cc)))) (costs_at_most 1 1 y z (omega arith) (two.own (λ e. absurd (cc))))
-two_reads g (Some gone) m k first second x y z apart reads one two =
+two_reads : {T E : Type 0} (g : Geometry) (lost : Option ℕ) (writes : List Staged) (row m k : ℕ) (first second : Result T E) (x y z : View) → m ≢ k → OnlyReads x y → ReadCosts g lost writes row m first x y → ReadCosts g lost writes row k second y z → CostsAtMost g.members x z
+two_reads g None writes row m k first second x y z apart reads one two =
+    at_most_then 1 1 g.members x y z (omega arith) reads (own_most g None writes row m first x y (λ e. absurd (cc)) one) (own_most g None writes row k second y z (λ e. absurd (cc)) two)
+two_reads g (Some gone) writes row m k first second x y z apart reads one two =
     elim (cases_eq gone m) [
-      | inl e ↦ at_most_then (g.members - 1) 1 g.members x y z (omega arith) reads one.most (costs_at_most 1 1 y z (omega arith) (two.own (λ f. apart (both e f))))
-      | inr h ↦ at_most_then 1 (g.members - 1) g.members x y z (omega arith) reads (costs_at_most 1 1 x y (omega arith) (one.own (λ f. h (the_same f)))) two.most
+      | inl e ↦ at_most_then (g.members - 1) 1 g.members x y z (omega arith) reads one.most (own_most g (Some gone) writes row k second y z (λ f. apart (both e f)) two)
+      | inr h ↦ at_most_then 1 (g.members - 1) g.members x y z (omega arith) reads (own_most g (Some gone) writes row m first x y (λ f. h (the_same f)) one) two.most
     ]
   where
     the_same : {n : ℕ} → Some gone ≡ Some n → gone ≡ n
@@ -97,10 +146,12 @@ on_ok_always : {T E : Type 0} (result : Result T E) (P : Type 0) → P → OnOk 
 on_ok_always (Ok v) P p = p
 on_ok_always (Err e) P p = tt
 
-pub plan_costs : {T E : Type 0} (g : Geometry) (lost : Option ℕ) (m k : ℕ) (first second result : Result T E) (x y z : View) → m ≢ k → OnlyReads x y → ReadCosts g lost m first x y → ReadCosts g lost k second y z → PlanCosts g lost result x z
-plan_costs g lost m k first second result x y z apart reads one two = record {
-  whole = λ none. on_ok_always result (Costs 2 x z) (costs_then 1 1 x y z reads (one.own (λ e. no_member m none e)) (two.own (λ e. no_member k none e)));
-  most = two_reads g lost m k first second x y z apart reads one two;
+pub plan_costs : {T E : Type 0} (g : Geometry) (lost : Option ℕ) (writes : List Staged) (block row m k : ℕ) (first second result : Result T E) (x y z : View) → (block_place g block).row ≡ row → m < g.members → k < g.members → m ≢ k → OnlyReads x y → ReadCosts g lost writes row m first x y → ReadCosts g lost writes row k second y z → PlanCosts g lost writes block result x z
+plan_costs g lost writes block row m k first second result x y z is_row in_m in_k apart reads one two = record {
+  whole = λ none clear.
+      let bare = subst (λ r. NonePending g writes r) is_row clear in
+      on_ok_always result (Costs 2 x z) (costs_then 1 1 x y z reads (one.own (λ e. no_member m none e) (bare m in_m)) (two.own (λ e. no_member k none e) (bare k in_k)));
+  most = two_reads g lost writes row m k first second x y z apart reads one two;
 }
   where
     no_member : (n : ℕ) → lost ≡ None → lost ≡ Some n → ⊥

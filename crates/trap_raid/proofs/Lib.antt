@@ -1,4 +1,9 @@
+pub mod OptionLemmas
 pub mod ReadLemmas
 pub mod TableLemmas
 pub mod CostLemmas
 pub mod FitLemmas
+pub mod DrainLemmas
+pub mod DrainSteps
+pub mod MemberLemmas
+pub mod ZeroLemmas

@@ -7,6 +7,7 @@ use Rattle.trap_bank.specs.Disks.{Contents, View}
 use Rattle.trap_bank.specs.Calls.{Reads}
 use Rattle.trap_bank.specs.Steps.{Same}
 use Rattle.trap_bank.proofs.Moves.{read_steps, same_then, no_moves}
+use Rattle.trap_stage.specs.Staged.{Staged, laid_over}
 use Rattle.trap_raid.specs.Members.{RowFits, PlaceFits, member_place}
 use Rattle.trap_raid.specs.Reads.{OnlyReads, HasFailed}
 
@@ -55,17 +56,17 @@ failed_after g lost a b c member reads failed = record {
 }
 
 -- ---- one member more of a row
-pub others_more : (g : Geometry) (old mid : View) (row one member : ℕ) (so_far block next : List ℕ) → OnlyReads old mid → member ≢ one
-    → (IsTrue old.tells → so_far ≡ xor_but g.block one (member_place g old.now.disks row) member)
-    → (IsTrue mid.tells → block ≡ member_place g mid.now.disks row member)
+pub others_more : (g : Geometry) (writes : List Staged) (old mid : View) (row one member : ℕ) (so_far block next : List ℕ) → OnlyReads old mid → member ≢ one
+    → (IsTrue old.tells → so_far ≡ xor_but g.block one (laid_over g writes (member_place g old.now.disks) row) member)
+    → (IsTrue mid.tells → block ≡ laid_over g writes (member_place g mid.now.disks) row member)
     → next ≡ xor so_far block
-    → IsTrue old.tells → next ≡ xor_but g.block one (member_place g old.now.disks row) (member + 1)
-others_more g old mid row one member so_far block next reads other before read is_next told =
-    let here : block ≡ member_place g old.now.disks row member = read (still_tells old mid reads told) ∙ ap (λ (c : Contents). member_place g c.disks row member) (reads.same told) in
+    → IsTrue old.tells → next ≡ xor_but g.block one (laid_over g writes (member_place g old.now.disks) row) (member + 1)
+others_more g writes old mid row one member so_far block next reads other before read is_next told =
+    let here : block ≡ laid_over g writes (member_place g old.now.disks) row member = read (still_tells old mid reads told) ∙ ap (λ (c : Contents). laid_over g writes (member_place g c.disks) row member) (reads.same told) in
     is_next
     ∙ ap (λ (b : List ℕ). xor b block) (before told)
-    ∙ ap (λ (b : List ℕ). xor (xor_but g.block one (member_place g old.now.disks row) member) b) here
-    ∙ sym (xor_but_more g.block one member (member_place g old.now.disks row) other)
+    ∙ ap (λ (b : List ℕ). xor (xor_but g.block one (laid_over g writes (member_place g old.now.disks) row) member) b) here
+    ∙ sym (xor_but_more g.block one member (laid_over g writes (member_place g old.now.disks) row) other)
 
 -- the row's own member is left out
 pub others_but : (size one n : ℕ) (block_of : ℕ → List ℕ) → n ≡ one → xor_but size one block_of (n + 1) ≡ xor_but size one block_of n

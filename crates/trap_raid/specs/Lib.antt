@@ -2,3 +2,4 @@ pub mod Condition
 pub mod Members
 pub mod Reads
 pub mod Plan
+pub mod Draining

@@ -1,9 +1,11 @@
 -- What a call does that only reads members.
-use Rattle.std.specs.Prelude.{◌≡◌, ◌≢◌, ℕ, ◌+◌, ◌-◌, ◌^◌, ◌<◌, ◌≤◌, min, max, Option, Some, None, Result, OnOk, IsTrue}
+use Rattle.std.specs.Prelude.{◌≡◌, ◌≢◌, ℕ, ◌+◌, ◌-◌, ◌^◌, ◌<◌, ◌≤◌, min, max, List, Option, Some, None, Result, OnOk, IsTrue}
 use Rattle.trap_model.specs.declared.numbers.Geometry.{Geometry}
 use Rattle.trap_bank.specs.Disks.{View}
 use Rattle.trap_bank.specs.Faults.{Rose}
 use Rattle.trap_bank.specs.Steps.{Moves, Same}
+use Rattle.trap_map.specs.Layout.{block_place}
+use Rattle.trap_stage.specs.Staged.{Staged, newest_at}
 
 -- the disks are as they were, also after a crash at any moment
 pub record OnlyReads (old new : View) : Type 0 where
@@ -31,15 +33,27 @@ pub record CostsAtMost (calls : ℕ) (old new : View) : Type 0 where
   pub way : new.by_one ≡ old.by_one
   pub moment : IsTrue old.tells → IsTrue old.by_one → new.moment ≤ moment_after calls old.moment
 
--- a read of a place takes one call, or where its member is lost, one for each other member
-pub record ReadCosts {T E : Type 0} (g : Geometry) (lost : Option ℕ) (member : ℕ)
-    (result : Result T E) (old new : View) : Type 0 where
-  pub own : lost ≢ Some member → Costs 1 old new
-  pub others : lost ≡ Some member → OnOk result (Costs (g.members - 1) old new)
+-- pending bytes take no call, a member's bytes one
+abbrev pub calls_for : Option (List ℕ) → ℕ
+calls_for None = 1
+calls_for (Some bytes) = 0
+
+-- nothing is pending for any place of the row
+abbrev pub NonePending : Geometry → List Staged → ℕ → Type 0
+NonePending g writes row = (member : ℕ) → member < g.members → newest_at g writes row member ≡ None
+
+-- A read of a place takes no call where bytes are pending for it. Else it takes one call, or where the member is lost, at
+-- most one for each other member, and exactly that where nothing is pending in the row.
+pub record ReadCosts {T E : Type 0} (g : Geometry) (lost : Option ℕ) (writes : List Staged)
+    (row member : ℕ) (result : Result T E) (old new : View) : Type 0 where
+  pub pending : newest_at g writes row member ≢ None → Costs 0 old new
+  pub own : lost ≢ Some member → newest_at g writes row member ≡ None → Costs 1 old new
+  pub others : lost ≡ Some member → NonePending g writes row → OnOk result (Costs (g.members - 1) old new)
   pub most : CostsAtMost (g.members - 1) old new
 
--- a plan takes two calls where no member is lost, and never more than there are members
-pub record PlanCosts {T E : Type 0} (g : Geometry) (lost : Option ℕ)
+-- a plan takes two calls where no member is lost and nothing is pending in the block's row, and never more than there
+-- are members
+pub record PlanCosts {T E : Type 0} (g : Geometry) (lost : Option ℕ) (writes : List Staged) (block : ℕ)
     (result : Result T E) (old new : View) : Type 0 where
-  pub whole : lost ≡ None → OnOk result (Costs 2 old new)
+  pub whole : lost ≡ None → NonePending g writes (block_place g block).row → OnOk result (Costs 2 old new)
   pub most : CostsAtMost g.members old new

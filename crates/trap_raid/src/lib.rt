@@ -1,10 +1,11 @@
-//! Reads and small writes over the members of an array, of which one may be lost.
+//! Reads, small writes and drains over the members of an array, of which one may be lost.
 #![tactic(auto)]
 
 mod raid;
 mod reads;
 #[cfg(test)]
 mod tests;
+mod writes;
 
 pub use raid::Raid;
 pub use reads::MemberFailed;

@@ -1,20 +1,27 @@
 //! The members of an array, of which one may be lost.
 
-ghost use Rattle.std.specs.Prelude.{◌≡◌, ◌<◌, ℕ, List, Option, Some, None, length, IsTrue, OnOk, IfErr};
+ghost use Rattle.std.specs.Prelude.{◌≡◌, ◌<◌, ◌≤◌, ℕ, List, Option, Some, None, length, IsTrue, OnOk, IfErr};
 ghost use Rattle.std.specs.Option.{ForSome};
 ghost use Rattle.trap_model.specs.Image.{volume};
 ghost use Rattle.trap_map.specs.Table.{table};
-ghost use Rattle.trap_raid.specs.Members.{IsPlace, PlaceFits, BlockFits, MembersHold};
+ghost use Rattle.trap_bank.specs.Disks.{Differs};
+ghost use Rattle.trap_bank.specs.Steps.{Moves};
+ghost use Rattle.trap_model.specs.Image.{IsImage};
+ghost use Rattle.trap_stage.specs.Slots.{last_of};
+ghost use Rattle.trap_raid.specs.Members.{Counts, IsPlace, PlaceFits, BlockFits, MembersFit, StandFor, Covered, member_place};
+ghost use Rattle.trap_raid.specs.Draining.{writes_to, Drains};
 ghost use Rattle.trap_raid.specs.Reads.{OnlyReads, HasFailed, ReadCosts, PlanCosts};
 ghost use Rattle.trap_raid.specs.Plan.{AreBlocks, IsPlan};
 
 use crate::MemberFailed;
 use crate::reads::{read_member, read_others};
+use crate::writes::write_slot;
 use std::marker::Model;
 use trap_bank::Bank;
 use trap_block::xor_into;
 use trap_map::{Place, parity_of, place_of};
 use trap_model::Geometry;
+use trap_stage::Stage;
 
 /// The numbers of an array, and the member that is lost. A contract sees them as a `Condition`. The
 /// bytes of the members are the bank's.
@@ -70,34 +77,42 @@ impl Raid {
         self.rebuilt
     }
 
-    /// Reads what stands at a place: its member's bytes, or where that member is lost, the
-    /// exclusive-or of the other members' bytes of the row. `into` and `scratch` are blocks; after
-    /// a failure they hold any bytes.
+    /// Reads what stands at a place: the newest pending bytes, else its member's, or where that
+    /// member is lost, the exclusive-or of what stands at the other members' places of the row.
+    /// `into` and `scratch` are blocks; after a failure they hold any bytes.
     pub fn read_place<B: Bank>(
         &self,
         bank: &mut B,
+        stage: &Stage,
         place: Place,
         into: &mut [u8],
         scratch: &mut [u8],
     ) -> Result<(), MemberFailed>
+        requires stage { stage.now.g ≡ self.now.g }
         requires place { IsPlace self.now.g place }
         requires disks { PlaceFits self.now.g self.now.lost (B.view bank.old)
             place.row place.member }
         requires into { length into.old ≡ self.now.g.block }
         requires scratch { length scratch.old ≡ self.now.g.block }
         ensures table { IsTrue (B.view bank.old).tells → (image : List (List ℕ))
-            → MembersHold self.now.g (B.view bank.old).now.disks self.now.lost image
+            → IsImage self.now.g image
+            → StandFor self.now.g self.now.lost stage.now.pending
+            (member_place self.now.g (B.view bank.old).now.disks) image
             → OnOk result (into.new ≡ table self.now.g image place.row place.member) }
         ensures cause { IfErr result (λ failed.
             HasFailed self.now.g self.now.lost (B.view bank.old) (B.view bank.new) failed.member) }
-        ensures cost { ReadCosts self.now.g self.now.lost place.member result
-            (B.view bank.old) (B.view bank.new) }
+        ensures cost { ReadCosts self.now.g self.now.lost stage.now.pending place.row place.member
+            result (B.view bank.old) (B.view bank.new) }
 
         // Stopped at any moment, the disks are as they were.
         ensures any_moment { OnlyReads (B.view bank.old) (B.view bank.new) }
     {
+        if let Some(bytes) = stage.pending_at(place) {
+            into.copy_from_slice(bytes);
+            return Ok(());
+        }
         if self.lost == Some(place.member) {
-            read_others(&self.g, bank, place, into, scratch)
+            read_others(&self.g, bank, stage, place, into, scratch)
         } else {
             read_member(&self.g, bank, place, into)
         }
@@ -109,35 +124,66 @@ impl Raid {
     pub fn write_plan<B: Bank>(
         &self,
         bank: &mut B,
+        stage: &Stage,
         block: u32,
         fresh: &[u8],
         delta: &mut [u8],
         parity: &mut [u8],
         scratch: &mut [u8],
     ) -> Result<(), MemberFailed>
+        requires stage { stage.now.g ≡ self.now.g }
         requires block { block < volume self.now.g }
         requires disks { BlockFits self.now.g self.now.lost (B.view bank.old) block }
         requires blocks { AreBlocks self.now.g fresh.now delta.old parity.old scratch.old }
         ensures plan { IsTrue (B.view bank.old).tells → (image : List (List ℕ))
-            → MembersHold self.now.g (B.view bank.old).now.disks self.now.lost image
+            → IsImage self.now.g image
+            → StandFor self.now.g self.now.lost stage.now.pending
+            (member_place self.now.g (B.view bank.old).now.disks) image
             → OnOk result (IsPlan self.now.g image block fresh.now delta.new parity.new) }
         ensures cause { IfErr result (λ failed.
             HasFailed self.now.g self.now.lost (B.view bank.old) (B.view bank.new) failed.member) }
-        ensures cost { PlanCosts self.now.g self.now.lost result
+        ensures cost { PlanCosts self.now.g self.now.lost stage.now.pending block result
             (B.view bank.old) (B.view bank.new) }
 
         // Stopped at any moment, the disks are as they were.
         ensures any_moment { OnlyReads (B.view bank.old) (B.view bank.new) }
     {
         let place = place_of(&self.g, block);
-        self.read_place(bank, place, delta, scratch)?;
+        self.read_place(bank, stage, place, delta, scratch)?;
         xor_into(delta, fresh);
         let parity_place = Place {
             member: parity_of(&self.g, place.row),
             row: place.row,
         };
-        self.read_place(bank, parity_place, parity, scratch)?;
+        self.read_place(bank, stage, parity_place, parity, scratch)?;
         xor_into(parity, delta);
+        Ok(())
+    }
+
+    /// Writes the pending writes up to this number to the members, the oldest first, and syncs each place. Places that
+    /// don't count are left. The slots stay pending: the caller puts a head with the new number first.
+    pub fn drain<B: Bank>(&self, bank: &mut B, stage: &Stage, upto: u64) -> Result<(), MemberFailed>
+        requires stage { stage.now.g ≡ self.now.g }
+        requires low { stage.now.drained ≤ upto }
+        requires high { upto ≤ last_of stage.now }
+        requires disks { MembersFit self.now.g self.now.lost self.now.rebuilt (B.view bank.old) }
+        ensures ok { OnOk result (Moves (B.view bank.old) (B.view bank.new)
+            (Differs (Covered self.now.g (writes_to stage.now upto)))
+            (Drains self.now.g self.now.lost self.now.rebuilt (writes_to stage.now upto))) }
+        ensures sizes { (e : ℕ) → (B.view bank.new).sizes e ≡ (B.view bank.old).sizes e }
+        ensures cause { IfErr result (λ failed. HasFailed self.now.g None
+            (B.view bank.old) (B.view bank.new) failed.member) }
+        ensures counts { IfErr result (λ failed. Counts self.now.lost self.now.rebuilt 0 failed.member) }
+
+        // Stopped at any moment, no byte has changed but in places for which something is pending.
+        ensures any_moment { Moves (B.view bank.old) (B.view bank.new)
+            (Differs (Covered self.now.g (writes_to stage.now upto)))
+            (Differs (Covered self.now.g (writes_to stage.now upto))) }
+    {
+        for number in stage.drained()..upto {
+            let (block, bytes, parity) = stage.slot(number + 1);
+            write_slot(&self.g, bank, self.lost, self.rebuilt, block, bytes, parity)?;
+        }
         Ok(())
     }
 }

@@ -1,14 +1,16 @@
-//! What stands at a place, from the members' disks.
+//! What stands at a place, from the pending writes and the members' disks.
 
 ghost use Rattle.std.specs.Prelude.{◌≡◌, ◌≢◌, ℕ, ◌-◌, ◌<◌, Option, Some, None, length, IsTrue, OnOk, IfErr};
 ghost use Rattle.trap_block.specs.Xor.{xor_but};
+ghost use Rattle.trap_stage.specs.Staged.{newest_at, laid_over};
 ghost use Rattle.trap_raid.specs.Members.{IsPlace, RowFits, member_place};
-ghost use Rattle.trap_raid.specs.Reads.{OnlyReads, HasFailed, Costs, CostsAtMost};
+ghost use Rattle.trap_raid.specs.Reads.{OnlyReads, HasFailed, Costs, CostsAtMost, NonePending, calls_for};
 
 use trap_bank::{Bank, Failed};
 use trap_block::xor_into;
 use trap_map::Place;
 use trap_model::Geometry;
+use trap_stage::Stage;
 
 /// A member failed in the call: the count of faults of its disk rose.
 #[derive(Debug, Clone, Copy, PartialEq, Eq)]
@@ -43,25 +45,60 @@ pub(crate) fn read_member<B: Bank>(
     }
 }
 
-/// The exclusive-or of the other members' places of the row.
+/// Reads what stands at a place of a member that isn't lost: the newest pending bytes, else the
+/// member's.
+pub(crate) fn read_standing<B: Bank>(
+    g: &Geometry,
+    bank: &mut B,
+    stage: &Stage,
+    place: Place,
+    into: &mut [u8],
+) -> Result<(), MemberFailed>
+    requires stage { stage.now.g ≡ g.now }
+    requires place { IsPlace g.now place }
+    requires disk { RowFits g.now (B.view bank.old) place.row place.member }
+    requires into { length into.old ≡ g.now.block }
+    ensures bytes { IsTrue (B.view bank.old).tells → OnOk result
+        (into.new ≡ laid_over g.now stage.now.pending (member_place g.now (B.view bank.old).now.disks)
+        place.row place.member) }
+    ensures cause { IfErr result (λ failed. (failed.member ≡ place.member)
+        × HasFailed g.now None (B.view bank.old) (B.view bank.new) failed.member) }
+    ensures cost { Costs (calls_for (newest_at g.now stage.now.pending place.row place.member))
+        (B.view bank.old) (B.view bank.new) }
+    ensures any_moment { OnlyReads (B.view bank.old) (B.view bank.new) }
+{
+    match stage.pending_at(place) {
+        Some(bytes) => {
+            into.copy_from_slice(bytes);
+            Ok(())
+        }
+        None => read_member(g, bank, place, into),
+    }
+}
+
+/// The exclusive-or of what stands at the other members' places of the row.
 #[tactic(auto, using(crate::proofs::ReadLemmas::xor_but_more))]
 pub(crate) fn read_others<B: Bank>(
     g: &Geometry,
     bank: &mut B,
+    stage: &Stage,
     place: Place,
     into: &mut [u8],
     scratch: &mut [u8],
 ) -> Result<(), MemberFailed>
+    requires stage { stage.now.g ≡ g.now }
     requires place { IsPlace g.now place }
     requires disks { (m : ℕ) → m < g.now.members → m ≢ place.member
         → RowFits g.now (B.view bank.old) place.row m }
     requires into { length into.old ≡ g.now.block }
     requires scratch { length scratch.old ≡ g.now.block }
     ensures others { IsTrue (B.view bank.old).tells → OnOk result (into.new ≡ xor_but g.now.block
-        place.member (member_place g.now (B.view bank.old).now.disks place.row) g.now.members) }
+        place.member (laid_over g.now stage.now.pending (member_place g.now (B.view bank.old).now.disks)
+        place.row) g.now.members) }
     ensures cause { IfErr result (λ failed.
         HasFailed g.now (Some place.member) (B.view bank.old) (B.view bank.new) failed.member) }
-    ensures cost { OnOk result (Costs (g.now.members - 1) (B.view bank.old) (B.view bank.new)) }
+    ensures cost { NonePending g.now stage.now.pending place.row
+        → OnOk result (Costs (g.now.members - 1) (B.view bank.old) (B.view bank.new)) }
     ensures cost_at_most { CostsAtMost (g.now.members - 1) (B.view bank.old) (B.view bank.new) }
     ensures any_moment { OnlyReads (B.view bank.old) (B.view bank.new) }
 {
@@ -72,7 +109,7 @@ pub(crate) fn read_others<B: Bank>(
                 member,
                 row: place.row,
             };
-            read_member(g, bank, other, scratch)?;
+            read_standing(g, bank, stage, other, scratch)?;
             xor_into(into, scratch);
         }
     }

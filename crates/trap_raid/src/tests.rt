@@ -1,4 +1,5 @@
-ghost use Rattle.std.specs.Prelude.{◌≡◌, ◌≢◌, ◌+◌, ◌*◌, ◌<◌, ◌≤◌, Some, length, IsTrue};
+ghost use Rattle.std.specs.Prelude.{◌≡◌, ◌≢◌, ◌+◌, ◌*◌, ◌<◌, ◌≤◌, [], Some, length, IsTrue, IfOk};
+ghost use Rattle.trap_format.specs.LogDisk.{ring_at};
 ghost use Rattle.std.specs.Option.{ForSome};
 ghost use Rattle.trap_bank.specs.Calls.{Fits};
 ghost use Rattle.trap_model.specs.Image.{volume};
@@ -11,6 +12,7 @@ use std::test::Fail;
 use trap_bank::{Bank, Failed, MemoryBank};
 use trap_map::Place;
 use trap_model::Geometry;
+use trap_stage::{Stage, StageFault};
 
 /// Stands for parity in the tables below, which have the rows one after the other.
 const P: u32 = u32::MAX;
@@ -80,7 +82,7 @@ fn is_member_long<B: Bank>(bank: &B, lost: Option<u8>, member: u8, end: u64) -> 
 
 /// Whether the disk of each member but the lost one has all rows.
 fn members_fit<B: Bank>(g: &Geometry, lost: Option<u8>, bank: &B) -> bool
-    ensures { IsTrue result → MembersFit g.now lost (B.view bank.now) }
+    ensures { IsTrue result → MembersFit g.now lost 0 (B.view bank.now) }
 {
     let end = 16 + u64::from(g.rows) * u64::from(g.block);
     for member in 0..g.members {
@@ -121,14 +123,35 @@ fn make_member<B: Bank>(
     Ok(())
 }
 
-/// Makes the disks of all members but the lost one.
-fn make_members<B: Bank>(
+/// Where the slots end.
+fn ring_start(g: &Geometry) -> u64
+    ensures { result ≡ ring_at g.now }
+{
+    192 + u64::from(g.slots) * (12 + 2 * u64::from(g.block))
+}
+
+/// Mounts the slots of numbers that are all drained: nothing is pending.
+fn mount_empty<B: Bank>(
+    rt: &impl Abort,
+    alloc: Global,
+    bank: &mut B,
+    g: &Geometry,
+) -> Result<Stage, StageFault>
+    ensures { IfOk result (λ stage. (stage.g ≡ g.now) × (stage.drained ≡ 0) × (stage.pending ≡ [])) }
+{
+    assert!(rt; is_long(bank, 0, ring_start(g)));
+    Stage::mount(alloc, bank, g, 0, 0)
+}
+
+/// Makes a log's disk, whose slots are all zero, and the disks of all members but the lost one.
+fn make_disks<B: Bank>(
     rt: &impl Abort,
     bank: &mut B,
     g: &Geometry,
     lost: Option<u8>,
     table: &[u32],
 ) -> Result<(), Failed> {
+    bank.make(0, ring_start(g))?;
     for member in 0..g.members {
         if lost != Some(member) {
             make_member(rt, bank, g, member, table)?;
@@ -141,10 +164,12 @@ fn make_members<B: Bank>(
 fn read_all<B: Bank>(
     rt: &impl Abort,
     bank: &mut B,
+    stage: &Stage,
     g: &Geometry,
     lost: Option<u8>,
     table: &[u32],
 ) -> Result<(), MemberFailed>
+    requires stage { stage.now.g ≡ g.now }
     requires lost { ForSome lost (λ member. member < g.now.members) }
     requires block { g.now.block ≡ 16 }
 {
@@ -157,7 +182,7 @@ fn read_all<B: Bank>(
         assert!(rt; from + members <= table.len());
         for member in 0..g.members {
             assert!(rt; members_fit(g, lost, bank));
-            raid.read_place(bank, Place { member, row }, &mut into, &mut scratch)?;
+            raid.read_place(bank, stage, Place { member, row }, &mut into, &mut scratch)?;
             let wanted = place_bytes(rt, &table[from..from + members], usize::from(member));
             assert_eq!(rt; into, wanted, "member {member}, row {row}, lost {:?}", lost);
         }
@@ -169,10 +194,12 @@ fn read_all<B: Bank>(
 fn plan_all<B: Bank>(
     rt: &impl Abort,
     bank: &mut B,
+    stage: &Stage,
     g: &Geometry,
     lost: Option<u8>,
     table: &[u32],
 ) -> Result<(), MemberFailed>
+    requires stage { stage.now.g ≡ g.now }
     requires lost { ForSome lost (λ member. member < g.now.members) }
     requires block { g.now.block ≡ 16 }
 {
@@ -189,7 +216,15 @@ fn plan_all<B: Bank>(
             let from = at - at % members;
             assert!(rt; from + members <= table.len());
             assert!(rt; members_fit(g, lost, bank));
-            raid.write_plan(bank, *block, &fresh, &mut delta, &mut parity, &mut scratch)?;
+            raid.write_plan(
+                bank,
+                stage,
+                *block,
+                &fresh,
+                &mut delta,
+                &mut parity,
+                &mut scratch,
+            )?;
             let wanted = parity_of_row(rt, &table[from..from + members], *block, fresh);
             let mut changed = contents(*block);
             add(&mut changed, &fresh);
@@ -212,9 +247,10 @@ fn try_all(
     requires block { g.now.block ≡ 16 }
 {
     let mut bank = MemoryBank::new(alloc)?;
-    make_members(rt, &mut bank, g, lost, table)?;
-    read_all(rt, &mut bank, g, lost, table)?;
-    plan_all(rt, &mut bank, g, lost, table)?;
+    make_disks(rt, &mut bank, g, lost, table)?;
+    let stage = mount_empty(rt, alloc, &mut bank, g)?;
+    read_all(rt, &mut bank, &stage, g, lost, table)?;
+    plan_all(rt, &mut bank, &stage, g, lost, table)?;
     Ok(())
 }
 
@@ -222,6 +258,8 @@ fn try_all(
 fn three_members() -> Geometry
     ensures members { result.members ≡ 3 }
     ensures block { result.block ≡ 16 }
+    ensures rows { result.rows ≡ 4 }
+    ensures slots { result.slots ≡ 1 }
 {
     Geometry {
         id: 7,
@@ -287,10 +325,85 @@ fn every_place_of_five_members_with_one_lost(rt: HostRuntime) -> Result<(), Fail
 fn a_member_that_fails_is_named(rt: HostRuntime) -> Result<(), Fail> {
     let g = three_members();
     let mut bank = MemoryBank::new(rt.alloc())?;
-    // A call that makes each of two disks, and four that write its rows.
-    make_members(&rt, &mut bank, &g, Some(0), &THREE)?;
-    bank.fail_at(12);
-    let answer = read_all(&rt, &mut bank, &g, Some(0), &THREE);
+    // A call that makes each of three disks, and four that write each of two members' rows.
+    make_disks(&rt, &mut bank, &g, Some(0), &THREE)?;
+    let stage = mount_empty(&rt, rt.alloc(), &mut bank, &g)?;
+    bank.fail_at(13);
+    let answer = read_all(&rt, &mut bank, &stage, &g, Some(0), &THREE);
     assert_eq!(rt; answer, Err(MemberFailed { member: 2 }));
+    Ok(())
+}
+
+/// Reads the places of a row, and compares them.
+fn read_row<B: Bank>(
+    rt: &impl Abort,
+    bank: &mut B,
+    stage: &Stage,
+    g: &Geometry,
+    lost: Option<u8>,
+    row: u32,
+    wanted: &[[u8; 16]],
+) -> Result<(), MemberFailed>
+    requires stage { stage.now.g ≡ g.now }
+    requires lost { ForSome lost (λ member. member < g.now.members) }
+    requires block { g.now.block ≡ 16 }
+    requires row { row < g.now.rows }
+{
+    let raid = Raid::new(*g, lost, 0);
+    let mut into = [0; 16];
+    let mut scratch = [0; 16];
+    for member in 0..g.members {
+        assert!(rt; members_fit(g, lost, bank));
+        raid.read_place(bank, stage, Place { member, row }, &mut into, &mut scratch)?;
+        assert!(rt; usize::from(member) < wanted.len());
+        assert_eq!(rt;
+            into,
+            wanted[usize::from(member)],
+            "member {member}, lost {:?}",
+            lost
+        );
+    }
+    Ok(())
+}
+
+/// Drains the pending writes up to a number.
+fn drain_to<B: Bank>(
+    rt: &impl Abort,
+    bank: &mut B,
+    stage: &Stage,
+    g: &Geometry,
+    upto: u64,
+) -> Result<(), MemberFailed>
+    requires { stage.now.g ≡ g.now }
+{
+    assert!(rt; stage.drained() <= upto && upto <= stage.last());
+    assert!(rt; members_fit(g, None, bank));
+    Raid::new(*g, None, 0).drain(bank, stage, upto)
+}
+
+#[test]
+fn a_pending_write_is_read_and_then_drained(rt: HostRuntime) -> Result<(), Fail> {
+    let g = three_members();
+    let mut bank = MemoryBank::new(rt.alloc())?;
+    make_disks(&rt, &mut bank, &g, None, &THREE)?;
+    let mut stage = mount_empty(&rt, rt.alloc(), &mut bank, &g)?;
+    // Row 1 has block 3, parity, and block 2, which is written.
+    let fresh = contents(102);
+    let parity = parity_of_row(&rt, &[3, P, 2], 2, fresh);
+    let wanted = [contents(3), parity, fresh];
+    assert!(rt; is_long(&bank, 0, ring_start(&g)));
+    assert!(rt; is_block(&g, 2));
+    stage.fill(&mut bank, 1, 2, &fresh, &parity)?;
+    read_row(&rt, &mut bank, &stage, &g, None, 1, &wanted)?;
+    read_row(&rt, &mut bank, &stage, &g, Some(0), 1, &wanted)?;
+    read_row(&rt, &mut bank, &stage, &g, Some(1), 1, &wanted)?;
+    read_row(&rt, &mut bank, &stage, &g, Some(2), 1, &wanted)?;
+    drain_to(&rt, &mut bank, &stage, &g, 1)?;
+    stage.forget_to(1);
+    assert_eq!(rt; stage.last(), stage.drained());
+    read_row(&rt, &mut bank, &stage, &g, None, 1, &wanted)?;
+    read_row(&rt, &mut bank, &stage, &g, Some(0), 1, &wanted)?;
+    read_row(&rt, &mut bank, &stage, &g, Some(1), 1, &wanted)?;
+    read_row(&rt, &mut bank, &stage, &g, Some(2), 1, &wanted)?;
     Ok(())
 }

@@ -1,7 +1,8 @@
 use Rattle.std.proofs.Common.{◌≡◌, ◌≢◌, ℕ, ◌+◌, ◌*◌, Some, IsTrue, inl, inr, ap, sym, subst, ◌∙◌, arith, rules}
 use Rattle.std.proofs.lemmas.Bool.{cases_eq}
 use Rattle.trap_bank.specs.Calls.{Fits}
-use Rattle.trap_raid.specs.Members.{row_offset}
+use Rattle.trap_format.specs.MemberDisk.{row_at}
+use Rattle.trap_raid.proofs.FitLemmas.{not_lost}
 use Rattle.trap_raid.proofs.tests.members_fit.Goals as goal
 
 pub loop-member-preserved : goal.loop-member-preserved
@@ -15,8 +16,8 @@ loop-member-preserved g c = λ m below apart.
     ]
 
 pub returns : goal.returns
-returns g c = λ yes member inside apart.
-    let there = c.loop-member.invariant member (omega arith) apart in
-    let all : 16 + c.from.result * c.from-2.result ≡ row_offset c.args.g.now c.args.g.now.rows =
+returns g c = λ yes member inside counts.
+    let there = c.loop-member.invariant member (omega arith) (not_lost c.args.lost 0 member counts) in
+    let all : 16 + c.from.result * c.from-2.result ≡ row_at c.args.g.now c.args.g.now.rows =
     ap (λ r. 16 + r * c.from-2.result) c.from.ensures ∙ ap (λ b. 16 + c.args.g.now.rows * b) c.from-2.ensures in
     (there.0, there.1, omega (arith, there.2, all))

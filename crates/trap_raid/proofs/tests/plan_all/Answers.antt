@@ -11,8 +11,8 @@ write_plan-requires-clause-disks g c =
     let v = g.B.Bank.view c.loop-at.bank in
     let block = get_or c.args.table.now c.loop-at.at 0 in
     let yes : IsTrue c.members_fit.result = search rules in
-    let fit : MembersFit c.args.g.now c.args.lost v = c.members_fit.ensures yes in
+    let fit : MembersFit c.args.g.now c.args.lost 0 v = c.members_fit.ensures yes in
     let there : IsTrue c.is_block.result = search rules in
     let below : block < volume c.args.g.now = c.is_block.ensures there in
     let P : Condition → Type 0 = λ k. BlockFits k.g k.lost v block in
-    subst P (sym c.new-raid.ensures) (block_fits c.args.g.now c.args.lost v block fit below)
+    subst P (sym c.new-raid.ensures) (block_fits c.args.g.now c.args.lost 0 v block fit below)

@@ -9,6 +9,6 @@ pub read_place-requires-clause-disks : goal.read_place-requires-clause-disks
 read_place-requires-clause-disks g c =
     let v = g.B.Bank.view c.loop-member.bank in
     let yes : IsTrue c.members_fit.result = search rules in
-    let fit : MembersFit c.args.g.now c.args.lost v = c.members_fit.ensures yes in
+    let fit : MembersFit c.args.g.now c.args.lost 0 v = c.members_fit.ensures yes in
     let P : Condition → Type 0 = λ k. PlaceFits k.g k.lost v c.loop-row.row-counter c.loop-member.member-counter in
-    subst P (sym c.new-raid.ensures) (place_fits c.args.g.now c.args.lost v c.loop-row.row-counter c.loop-member.member-counter fit (omega arith) (omega arith))
+    subst P (sym c.new-raid.ensures) (place_fits c.args.g.now c.args.lost 0 v c.loop-row.row-counter c.loop-member.member-counter fit (omega arith) (omega arith))

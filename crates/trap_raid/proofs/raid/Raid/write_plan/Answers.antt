@@ -1,9 +1,10 @@
-use Rattle.std.proofs.Common.{Ok, ◌≡◌, ℕ, ap, sym, ◌∙◌}
+use Rattle.std.proofs.Common.{Ok, ◌≡◌, ℕ, ◌<◌, ap, sym, subst, ◌∙◌}
+use Rattle.trap_model.specs.declared.numbers.Geometry.{Geometry}
 use Rattle.trap_map.specs.declared.places.Place.{Place}
 use Rattle.trap_map.specs.Layout.{parity_member, block_place}
 use Rattle.trap_raid.specs.Condition.{Condition}
 use Rattle.trap_raid.proofs.ReadLemmas.{only_reads_then, still_tells, place_fits_along, place_fits_at}
-use Rattle.trap_raid.proofs.TableLemmas.{hold_along, members_apart, plan_from_reads}
+use Rattle.trap_raid.proofs.TableLemmas.{stand_along, members_apart, plan_from_reads}
 use Rattle.trap_raid.proofs.CostLemmas.{plan_costs}
 use Rattle.trap_raid.proofs.raid.Raid.write_plan.Goals as goal
 
@@ -28,32 +29,40 @@ returns-clause-any_moment g c = only_reads_then _ _ _ c.read_place.ensures.any_m
 
 -- the second read finds the disks as the first found them
 pub returns-clause-plan : goal.returns-clause-plan
-returns-clause-plan g c = λ told image holds.
+returns-clause-plan g c = λ told image is_image stands.
     let old = g.B.Bank.view c.args.bank.now in
     let mid = g.B.Bank.view c.read_place.new.bank in
     let is_g : c.self.inside.g ≡ c.args.self.now.g = ap (λ (k : Condition). k.g) c.self.view_is in
     let is_place : c.place_of-place.result ≡ block_place c.args.self.now.g c.args.block = c.place_of-place.ensures.place ∙ ap (λ h. block_place h c.args.block) is_g in
     let is_member : c.parity_of.result ≡ parity_member c.args.self.now.g c.place_of-place.result.row =
     c.parity_of.ensures.parity ∙ ap (λ h. parity_member h c.place_of-place.result.row) is_g in
-    let again = hold_along c.args.self.now.g c.args.self.now.lost old.now mid.now image (c.read_place.ensures.any_moment.same told) holds in
+    let again = stand_along c.args.self.now.g c.args.self.now.lost c.args.stage.now.pending old.now mid.now image (c.read_place.ensures.any_moment.same told) stands in
     plan_from_reads c.args.self.now.g image c.args.block c.place_of-place.result c.parity_of.result c.args.fresh.now
     c.read_place.new.into c.read_place-2.new.into c.xor_into.new.dst c.xor_into-2.new.dst
-    holds.image_ c.requires.block c.requires.blocks.fresh_size is_place is_member
-    (c.in_ok-read_place.ensures.table told image holds) c.xor_into.ensures
-    (c.in_ok-read_place-2.ensures.table (still_tells old mid c.read_place.ensures.any_moment told) image again) c.xor_into-2.ensures
+    is_image c.requires.block c.requires.blocks.fresh_size is_place is_member
+    (c.in_ok-read_place.ensures.table told image is_image stands) c.xor_into.ensures
+    (c.in_ok-read_place-2.ensures.table (still_tells old mid c.read_place.ensures.any_moment told) image is_image again) c.xor_into-2.ensures
 
 pub returns-in_err-read_place-2-clause-cost : goal.returns-in_err-read_place-2-clause-cost
 returns-in_err-read_place-2-clause-cost g c =
-    plan_costs c.args.self.now.g c.args.self.now.lost c.place_of-place.result.member c.parity_of.result
+    let is_g : c.self.inside.g ≡ c.args.self.now.g = ap (λ (k : Condition). k.g) c.self.view_is in
+    plan_costs c.args.self.now.g c.args.self.now.lost c.args.stage.now.pending c.args.block c.place_of-place.result.row c.place_of-place.result.member c.parity_of.result
     c.read_place.result c.read_place-2.result c.from_residual-in_err-read_place-2.result
     (g.B.Bank.view c.args.bank.now) (g.B.Bank.view c.read_place.new.bank) (g.B.Bank.view c.read_place-2.new.bank)
+    (sym (ap (λ (p : Place). p.row) c.place_of-place.ensures.place ∙ ap (λ (h : Geometry). (block_place h c.args.block).row) is_g))
+    (subst (λ (h : Geometry). c.place_of-place.result.member < h.members) is_g c.place_of-place.ensures.member)
+    (subst (λ (h : Geometry). c.parity_of.result < h.members) is_g c.parity_of.ensures.member)
     (members_apart c.self.inside.g c.args.block c.place_of-place.result c.parity_of.result c.place_of-place.ensures.place c.parity_of.ensures.parity)
     c.read_place.ensures.any_moment c.read_place.ensures.cost c.read_place-2.ensures.cost
 
 pub returns-clause-cost : goal.returns-clause-cost
 returns-clause-cost g c =
-    plan_costs c.args.self.now.g c.args.self.now.lost c.place_of-place.result.member c.parity_of.result
+    let is_g : c.self.inside.g ≡ c.args.self.now.g = ap (λ (k : Condition). k.g) c.self.view_is in
+    plan_costs c.args.self.now.g c.args.self.now.lost c.args.stage.now.pending c.args.block c.place_of-place.result.row c.place_of-place.result.member c.parity_of.result
     c.read_place.result c.read_place-2.result (Ok tt)
     (g.B.Bank.view c.args.bank.now) (g.B.Bank.view c.read_place.new.bank) (g.B.Bank.view c.read_place-2.new.bank)
+    (sym (ap (λ (p : Place). p.row) c.place_of-place.ensures.place ∙ ap (λ (h : Geometry). (block_place h c.args.block).row) is_g))
+    (subst (λ (h : Geometry). c.place_of-place.result.member < h.members) is_g c.place_of-place.ensures.member)
+    (subst (λ (h : Geometry). c.parity_of.result < h.members) is_g c.parity_of.ensures.member)
     (members_apart c.self.inside.g c.args.block c.place_of-place.result c.parity_of.result c.place_of-place.ensures.place c.parity_of.ensures.parity)
     c.read_place.ensures.any_moment c.read_place.ensures.cost c.read_place-2.ensures.cost

@@ -1,0 +1,138 @@
+-- The steps of a drain, one after the other.
+use Rattle.std.proofs.Common.{◌≡◌, ℕ, suc, ◌+◌, ◌-◌, ◌<◌, ◌≤◌, List, [], ◌∷◌, ◌++◌, take, drop, Option, ap, sym, subst, ◌∙◌, arith}
+use Rattle.std.proofs.Math.Seq.{drop-cons, drop-length}
+use Rattle.std.proofs.lemmas.List.{take-append-drop, drop-drop}
+use Rattle.trap_model.specs.Image.{volume}
+use Rattle.trap_model.specs.declared.numbers.Geometry.{Geometry}
+use Rattle.trap_bank.specs.Disks.{Disks, View, Differs}
+use Rattle.trap_bank.specs.Steps.{Moves}
+use Rattle.trap_bank.proofs.Moves.{moves_then, moves_weaken, moves_mono, moves_again, no_moves}
+use Rattle.trap_bank.proofs.Regions.{differs_mono, differs_again}
+use Rattle.trap_map.specs.Layout.{parity_member, block_place}
+use Rattle.trap_map.specs.declared.places.Place.{Place}
+use Rattle.trap_stage.specs.Staged.{Staged}
+use Rattle.trap_stage.specs.Slots.{Stage, last_of}
+use Rattle.trap_stage.specs.Found.{no_write, staged_numbered}
+use Rattle.trap_raid.specs.Members.{Covered}
+use Rattle.trap_raid.specs.Draining.{writes_to, Drains, PlaceWritten, place_area}
+use Rattle.trap_raid.proofs.DrainLemmas.{covered_newer, covered_older, drains_then, drains_none, block_covered, parity_covered, both_written}
+
+-- ---- the two places of one write
+block_in : (g : Geometry) (staged : Staged) (place : Place) → staged.block < volume g → place ≡ block_place g staged.block → (e i : ℕ) → place_area g place.row place.member e i → Covered g (staged ∷ []) e i
+block_in g staged place below is_place e i within =
+    block_covered g staged e i below (subst (λ (p : Place). place_area g p.row p.member e i) is_place within)
+
+parity_in : (g : Geometry) (staged : Staged) (place : Place) (at_parity : ℕ) → staged.block < volume g → place ≡ block_place g staged.block → at_parity ≡ parity_member g place.row → (e i : ℕ) → place_area g place.row at_parity e i → Covered g (staged ∷ []) e i
+parity_in g staged place at_parity below is_place is_parity e i within =
+    parity_covered g staged e i below (subst (λ (p : Place). place_area g p.row (parity_member g p.row) e i) is_place (subst (λ (m : ℕ). place_area g place.row m e i) is_parity within))
+
+pub block_step : (g : Geometry) (staged : Staged) (place : Place) (a b : View) → staged.block < volume g → place ≡ block_place g staged.block
+    → Moves a b (Differs (place_area g place.row place.member)) (Differs (place_area g place.row place.member))
+    → Moves a b (Differs (Covered g (staged ∷ []))) (Differs (Covered g (staged ∷ [])))
+block_step g staged place a b below is_place moves =
+    moves_mono (place_area g place.row place.member) (Covered g (staged ∷ [])) a b (block_in g staged place below is_place) moves
+
+pub slot_step : (g : Geometry) (staged : Staged) (place : Place) (at_parity : ℕ) (a b c : View) → staged.block < volume g → place ≡ block_place g staged.block → at_parity ≡ parity_member g place.row
+    → Moves a b (Differs (place_area g place.row place.member)) (Differs (place_area g place.row place.member))
+    → Moves b c (Differs (place_area g place.row at_parity)) (Differs (place_area g place.row at_parity))
+    → Moves a c (Differs (Covered g (staged ∷ []))) (Differs (Covered g (staged ∷ [])))
+slot_step g staged place at_parity a b c below is_place is_parity first second =
+    moves_again (Covered g (staged ∷ [])) a b c (block_step g staged place a b below is_place first)
+    (moves_mono (place_area g place.row at_parity) (Covered g (staged ∷ [])) b c (parity_in g staged place at_parity below is_place is_parity) second)
+
+pub slot_steps : (g : Geometry) (lost : Option ℕ) (rebuilt : ℕ) (staged : Staged) (place : Place) (at_parity : ℕ) (a b c : View) → staged.block < volume g → place ≡ block_place g staged.block → at_parity ≡ parity_member g place.row
+    → Moves a b (Differs (place_area g place.row place.member)) (PlaceWritten g lost rebuilt place.row place.member staged.bytes)
+    → Moves b c (Differs (place_area g place.row at_parity)) (PlaceWritten g lost rebuilt place.row at_parity staged.parity)
+    → Moves a c (Differs (Covered g (staged ∷ []))) (Drains g lost rebuilt (staged ∷ []))
+slot_steps g lost rebuilt staged place at_parity a b c below is_place is_parity first second =
+    moves_then a b c (Differs (place_area g place.row place.member)) (PlaceWritten g lost rebuilt place.row place.member staged.bytes)
+    (Differs (place_area g place.row at_parity)) (PlaceWritten g lost rebuilt place.row at_parity staged.parity)
+    (Differs (Covered g (staged ∷ []))) (Drains g lost rebuilt (staged ∷ [])) first second
+    (λ x y was torn. wide_block x.disks y.disks torn)
+    (λ x y z was written mid torn. differs_again (Covered g (staged ∷ [])) x.disks y.disks z.disks (wide_block x.disks y.disks written.differs)
+    (differs_mono (place_area g place.row at_parity) (Covered g (staged ∷ [])) y.disks z.disks (parity_in g staged place at_parity below is_place is_parity) torn))
+    (λ x y z was written mid more. both_written g lost rebuilt staged x.disks y.disks z.disks below
+    (subst (λ (p : Place). PlaceWritten g lost rebuilt p.row p.member staged.bytes x.disks y.disks) is_place written)
+    (subst (λ (p : Place). PlaceWritten g lost rebuilt p.row (parity_member g p.row) staged.parity y.disks z.disks) is_place
+    (subst (λ (m : ℕ). PlaceWritten g lost rebuilt place.row m staged.parity y.disks z.disks) is_parity more)))
+  where
+    wide_block : (x y : Disks) → Differs (place_area g place.row place.member) x y → Differs (Covered g (staged ∷ [])) x y
+    wide_block x y torn = differs_mono (place_area g place.row place.member) (Covered g (staged ∷ [])) x y (block_in g staged place below is_place) torn
+
+-- ---- one write after the other
+-- the writes up to a number are the last of those up to a later one
+pub writes_to-split : (stage : Stage) (number upto : ℕ) → number ≤ upto → upto ≤ last_of stage → writes_to stage upto ≡ take (upto - number) (writes_to stage upto) ++ writes_to stage number
+writes_to-split stage number upto low high =
+    sym (take-append-drop (upto - number) (writes_to stage upto))
+    ∙ ap (λ (rest : List Staged). take (upto - number) (writes_to stage upto) ++ rest)
+    (drop-drop (upto - number) (last_of stage - upto) stage.pending ∙ ap (λ (n : ℕ). drop n stage.pending) (omega arith))
+
+-- the next of them
+pub writes_to-next : (stage : Stage) (number : ℕ) → stage.drained ≤ number → number < last_of stage → writes_to stage (number + 1) ≡ staged_numbered stage (number + 1) ∷ writes_to stage number
+writes_to-next stage number low high =
+    drop-cons stage.pending (last_of stage - (number + 1)) no_write (omega arith)
+    ∙ ap (λ (n : ℕ). staged_numbered stage (number + 1) ∷ drop n stage.pending) (one_less (last_of stage) number high)
+  where
+    one_less : (last number : ℕ) → number < last → suc (last - (number + 1)) ≡ last - number
+    one_less last number high = omega arith
+
+-- none of them
+pub writes_to-none : (stage : Stage) → writes_to stage stage.drained ≡ []
+writes_to-none stage = ap (λ (n : ℕ). drop n stage.pending) (omega arith) ∙ drop-length stage.pending
+
+-- no write yet
+pub drain_start : (g : Geometry) (lost : Option ℕ) (rebuilt : ℕ) (stage : Stage) (upto : ℕ) (v : View) → Moves v v (Differs (Covered g (writes_to stage upto))) (Drains g lost rebuilt (writes_to stage stage.drained))
+drain_start g lost rebuilt stage upto v = no_moves v (Differs (Covered g (writes_to stage upto))) (Drains g lost rebuilt (writes_to stage stage.drained))
+    (λ x was. subst (λ (writes : List Staged). Drains g lost rebuilt writes x.disks x.disks) (sym (writes_to-none stage)) (drains_none g lost rebuilt x.disks))
+
+module _ (g : Geometry) (lost : Option ℕ) (rebuilt : ℕ) (stage : Stage) (number upto : ℕ) (low : stage.drained ≤ number) (inside : number < upto) (high : upto ≤ last_of stage) where
+  -- what the writes so far cover, all of them cover
+  older_in : (e i : ℕ) → Covered g (writes_to stage number) e i → Covered g (writes_to stage upto) e i
+  older_in e i covered =
+      subst (λ (writes : List Staged). Covered g writes e i) (sym (writes_to-split stage number upto (omega arith) high))
+      (covered_older g (take (upto - number) (writes_to stage upto)) (writes_to stage number) e i covered)
+
+  -- so with the next write
+  next_in : (e i : ℕ) → Covered g (staged_numbered stage (number + 1) ∷ []) e i → Covered g (writes_to stage upto) e i
+  next_in e i covered =
+      subst (λ (writes : List Staged). Covered g writes e i) (sym (writes_to-split stage (number + 1) upto (omega arith) high))
+      (covered_older g (take (upto - (number + 1)) (writes_to stage upto)) (writes_to stage (number + 1)) e i
+      (subst (λ (writes : List Staged). Covered g writes e i) (sym (writes_to-next stage number low (omega arith)))
+      (covered_newer g (staged_numbered stage (number + 1) ∷ []) (writes_to stage number) e i covered)))
+
+  so_far : (x y : Disks) → Drains g lost rebuilt (writes_to stage number) x y → Differs (Covered g (writes_to stage upto)) x y
+  so_far x y drains = differs_mono (Covered g (writes_to stage number)) (Covered g (writes_to stage upto)) x y older_in drains.differs
+
+  -- one write more
+  pub drain_more : (a b c : View) → Moves a b (Differs (Covered g (writes_to stage upto))) (Drains g lost rebuilt (writes_to stage number))
+      → Moves b c (Differs (Covered g (staged_numbered stage (number + 1) ∷ []))) (Drains g lost rebuilt (staged_numbered stage (number + 1) ∷ []))
+      → Moves a c (Differs (Covered g (writes_to stage upto))) (Drains g lost rebuilt (writes_to stage (number + 1)))
+  drain_more a b c first second =
+      moves_then a b c (Differs (Covered g (writes_to stage upto))) (Drains g lost rebuilt (writes_to stage number))
+      (Differs (Covered g (staged_numbered stage (number + 1) ∷ []))) (Drains g lost rebuilt (staged_numbered stage (number + 1) ∷ []))
+      (Differs (Covered g (writes_to stage upto))) (Drains g lost rebuilt (writes_to stage (number + 1))) first second
+      (λ x y was torn. torn)
+      (λ x y z was drains mid torn. differs_again (Covered g (writes_to stage upto)) x.disks y.disks z.disks (so_far x.disks y.disks drains)
+      (differs_mono (Covered g (staged_numbered stage (number + 1) ∷ [])) (Covered g (writes_to stage upto)) y.disks z.disks next_in torn))
+      (λ x y z was drains mid more. subst (λ (writes : List Staged). Drains g lost rebuilt writes x.disks z.disks) (sym (writes_to-next stage number low (omega arith)))
+      (drains_then g lost rebuilt (staged_numbered stage (number + 1) ∷ []) (writes_to stage number) x.disks y.disks z.disks drains more))
+
+  -- a write that was cut short
+  pub drain_torn : (a b c : View) → Moves a b (Differs (Covered g (writes_to stage upto))) (Drains g lost rebuilt (writes_to stage number))
+      → Moves b c (Differs (Covered g (staged_numbered stage (number + 1) ∷ []))) (Differs (Covered g (staged_numbered stage (number + 1) ∷ [])))
+      → Moves a c (Differs (Covered g (writes_to stage upto))) (Differs (Covered g (writes_to stage upto)))
+  drain_torn a b c first second =
+      moves_again (Covered g (writes_to stage upto)) a b c
+      (moves_weaken a b (Differs (Covered g (writes_to stage upto))) (Drains g lost rebuilt (writes_to stage number)) (Differs (Covered g (writes_to stage upto))) (Differs (Covered g (writes_to stage upto))) first
+      (λ x y was torn. torn) (λ x y was left drains. so_far x.disks y.disks drains))
+      (moves_mono (Covered g (staged_numbered stage (number + 1) ∷ [])) (Covered g (writes_to stage upto)) b c next_in second)
+
+-- all were written
+pub drain_moves : (g : Geometry) (lost : Option ℕ) (rebuilt : ℕ) (writes : List Staged) (a b : View) → Moves a b (Differs (Covered g writes)) (Drains g lost rebuilt writes) → Moves a b (Differs (Covered g writes)) (Differs (Covered g writes))
+drain_moves g lost rebuilt writes a b moves =
+    moves_weaken a b (Differs (Covered g writes)) (Drains g lost rebuilt writes) (Differs (Covered g writes)) (Differs (Covered g writes)) moves
+    (λ x y was torn. torn) (λ x y was left drains. drains.differs)
+
+-- the pending writes are those that stay, and then those up to the number
+pub pending_split : (stage : Stage) (upto : ℕ) → stage.pending ≡ take (last_of stage - upto) stage.pending ++ writes_to stage upto
+pending_split stage upto = sym (take-append-drop (last_of stage - upto) stage.pending)

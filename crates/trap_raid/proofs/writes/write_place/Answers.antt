@@ -1,0 +1,14 @@
+use Rattle.std.proofs.Common.{◌≡◌, ◌+◌, ◌*◌, ap, ◌∙◌, arith, rules}
+use Rattle.trap_format.specs.MemberDisk.{row_at}
+use Rattle.trap_raid.specs.Members.{Counts}
+use Rattle.trap_raid.proofs.FitLemmas.{row_fits}
+use Rattle.trap_raid.proofs.writes.write_place.Goals as goal
+
+-- the place counts, so that its disk has all rows
+pub write_through-requires-clause-room : goal.write_through-requires-clause-room
+write_through-requires-clause-room g c =
+    let counts : Counts c.args.lost c.args.rebuilt c.args.place.row c.args.place.member = search rules in
+    let there = row_fits c.args.g.now c.args.lost c.args.rebuilt (g.B.Bank.view c.args.bank.now) c.args.place.row c.args.place.member c.requires.disks c.requires.place.row c.requires.place.member counts in
+    let at : 16 + c.from.result * c.from-2.result ≡ row_at c.args.g.now c.args.place.row =
+    ap (λ r. 16 + r * c.from-2.result) c.from.ensures ∙ ap (λ b. 16 + c.args.place.row * b) c.from-2.ensures in
+    (there.0, there.1, omega (arith, there.2, at, c.requires.size))

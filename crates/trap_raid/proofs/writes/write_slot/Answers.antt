@@ -1,0 +1,23 @@
+use Rattle.std.proofs.lemmas.Result.{on_ok_weaker}
+use Rattle.trap_raid.proofs.FitLemmas.{fit_along}
+use Rattle.trap_raid.proofs.DrainSteps.{block_step, slot_step, slot_steps}
+use Rattle.trap_raid.proofs.writes.write_slot.Goals as goal
+
+pub write_place-requires-2-clause-disks : goal.write_place-requires-2-clause-disks
+write_place-requires-2-clause-disks g c = fit_along c.args.g.now c.args.lost c.args.rebuilt (g.B.Bank.view c.args.bank.now) (g.B.Bank.view c.write_place.new.bank) c.write_place.ensures.sizes c.requires.disks
+
+pub returns-in_err-write_place-clause-any_moment : goal.returns-in_err-write_place-clause-any_moment
+returns-in_err-write_place-clause-any_moment g c =
+    block_step c.args.g.now (record { block = c.args.block; bytes = c.args.bytes.now; parity = c.args.parity.now }) c.place_of-place.result _ _
+    c.requires.block c.place_of-place.ensures.place c.write_place.ensures.any_moment
+
+pub returns-clause-any_moment : goal.returns-clause-any_moment
+returns-clause-any_moment g c =
+    slot_step c.args.g.now (record { block = c.args.block; bytes = c.args.bytes.now; parity = c.args.parity.now }) c.place_of-place.result c.parity_of.result _ _ _
+    c.requires.block c.place_of-place.ensures.place c.parity_of.ensures.parity c.write_place.ensures.any_moment c.write_place-2.ensures.any_moment
+
+pub returns-clause-ok : goal.returns-clause-ok
+returns-clause-ok g c = on_ok_weaker c.write_place-2.result
+    (λ second. slot_steps c.args.g.now c.args.lost c.args.rebuilt (record { block = c.args.block; bytes = c.args.bytes.now; parity = c.args.parity.now }) c.place_of-place.result c.parity_of.result _ _ _
+    c.requires.block c.place_of-place.ensures.place c.parity_of.ensures.parity c.in_ok-write_place.ensures.ok second)
+    c.write_place-2.ensures.ok

@@ -1,0 +1,95 @@
+//! Writes of the members' places.
+
+ghost use Rattle.std.specs.Prelude.{◌≡◌, ◌↔◌, ◌<◌, ℕ, List, [], ◌∷◌, None, length, IsTrue, OnOk, IfErr};
+ghost use Rattle.trap_bank.specs.Disks.{Differs};
+ghost use Rattle.trap_bank.specs.Steps.{Moves};
+ghost use Rattle.trap_model.specs.Image.{volume};
+ghost use Rattle.trap_raid.specs.Members.{IsPlace, Counts, MembersFit, Covered};
+ghost use Rattle.trap_raid.specs.Draining.{Drains, PlaceWritten, place_area};
+ghost use Rattle.trap_raid.specs.Reads.{HasFailed};
+
+use crate::MemberFailed;
+use trap_bank::{Bank, Failed, write_through};
+use trap_map::{Place, parity_of, place_of};
+use trap_model::Geometry;
+
+/// Whether a place counts: all do, but of the lost member those alone that are rebuilt.
+fn counts(lost: Option<u8>, rebuilt: u32, place: Place) -> bool
+    ensures { IsTrue result ↔ Counts lost rebuilt place.row place.member }
+{
+    lost != Some(place.member) || place.row < rebuilt
+}
+
+/// Writes the bytes of a place, where it counts.
+pub(crate) fn write_place<B: Bank>(
+    g: &Geometry,
+    bank: &mut B,
+    lost: Option<u8>,
+    rebuilt: u32,
+    place: Place,
+    bytes: &[u8],
+) -> Result<(), MemberFailed>
+    requires place { IsPlace g.now place }
+    requires size { length bytes.now ≡ g.now.block }
+    requires disks { MembersFit g.now lost rebuilt (B.view bank.old) }
+    ensures ok { OnOk result (Moves (B.view bank.old) (B.view bank.new)
+        (Differs (place_area g.now place.row place.member))
+        (PlaceWritten g.now lost rebuilt place.row place.member bytes.now)) }
+    ensures sizes { (e : ℕ) → (B.view bank.new).sizes e ≡ (B.view bank.old).sizes e }
+    ensures cause { IfErr result (λ failed.
+        HasFailed g.now None (B.view bank.old) (B.view bank.new) failed.member) }
+    ensures counts { IfErr result (λ failed. Counts lost rebuilt 0 failed.member) }
+
+    // Stopped at any moment, no other place has changed.
+    ensures any_moment { Moves (B.view bank.old) (B.view bank.new)
+        (Differs (place_area g.now place.row place.member))
+        (Differs (place_area g.now place.row place.member)) }
+{
+    if !counts(lost, rebuilt, place) {
+        return Ok(());
+    }
+    let at = 16 + u64::from(place.row) * u64::from(g.block);
+    // The place is stable before the head has the write drained, and its slot may be filled again.
+    match write_through(bank, place.member + 1, at, bytes) {
+        Ok(()) => Ok(()),
+        Err(Failed) => Err(MemberFailed {
+            member: place.member,
+        }),
+    }
+}
+
+/// Writes the two places of a pending write: its block's, and that of its row's parity.
+pub(crate) fn write_slot<B: Bank>(
+    g: &Geometry,
+    bank: &mut B,
+    lost: Option<u8>,
+    rebuilt: u32,
+    block: u32,
+    bytes: &[u8],
+    parity: &[u8],
+) -> Result<(), MemberFailed>
+    requires block { block < volume g.now }
+    requires size { length bytes.now ≡ g.now.block }
+    requires parity_size { length parity.now ≡ g.now.block }
+    requires disks { MembersFit g.now lost rebuilt (B.view bank.old) }
+    ensures ok { OnOk result (Moves (B.view bank.old) (B.view bank.new)
+        (Differs (Covered g.now ((record { block = block; bytes = bytes.now; parity = parity.now }) ∷ [])))
+        (Drains g.now lost rebuilt ((record { block = block; bytes = bytes.now; parity = parity.now }) ∷ []))) }
+    ensures sizes { (e : ℕ) → (B.view bank.new).sizes e ≡ (B.view bank.old).sizes e }
+    ensures cause { IfErr result (λ failed.
+        HasFailed g.now None (B.view bank.old) (B.view bank.new) failed.member) }
+    ensures counts { IfErr result (λ failed. Counts lost rebuilt 0 failed.member) }
+
+    // Stopped at any moment, no byte has changed but in these two places.
+    ensures any_moment { Moves (B.view bank.old) (B.view bank.new)
+        (Differs (Covered g.now ((record { block = block; bytes = bytes.now; parity = parity.now }) ∷ [])))
+        (Differs (Covered g.now ((record { block = block; bytes = bytes.now; parity = parity.now }) ∷ []))) }
+{
+    let place = place_of(g, block);
+    let parity_place = Place {
+        member: parity_of(g, place.row),
+        row: place.row,
+    };
+    write_place(g, bank, lost, rebuilt, place, bytes)?;
+    write_place(g, bank, lost, rebuilt, parity_place, parity)
+}
