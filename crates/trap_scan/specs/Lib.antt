@@ -1,0 +1,4 @@
+pub mod Chain
+pub mod Window
+pub mod Faults
+pub mod Scan
