@@ -1,0 +1,9 @@
+pub mod Numbered
+pub mod Chains
+pub mod Added
+pub mod Searching
+pub mod Walking
+pub mod Timed
+pub mod Headers
+pub mod Describing
+pub mod Further

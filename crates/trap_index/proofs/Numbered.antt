@@ -1,0 +1,61 @@
+-- Records with successive numbers, in the order of their times.
+use Rattle.std.proofs.Common.{◌≡◌, ℕ, zero, suc, ◌+◌, ◌<◌, ◌≤◌, List, [], ◌∷◌, ◌++◌, length, get_or, take, refl, ap, arith}
+use Rattle.trap_model.specs.declared.log_record.LogRec.{LogRec}
+use Rattle.trap_index.specs.declared.item.Item.{Item}
+use Rattle.trap_index.specs.Indexed.{time_behind, rec_len, recs_len, no_rec}
+use Rattle.trap_index.specs.Keeping.{AreNumbered, TimesNeverFall, rec_of, recs_of}
+
+pub length-recs_of : (before : ℕ) (items : List Item) → length (recs_of before items) ≡ length items
+length-recs_of before [] = refl
+length-recs_of before (item ∷ later) = ap suc (length-recs_of (before + 1) later)
+
+pub recs_of-push : (before q : ℕ) (items : List Item) (item : Item) → q ≡ before + length items + 1 → recs_of before (items ++ item ∷ []) ≡ recs_of before items ++ rec_of q item ∷ []
+recs_of-push before q [] item is = ap (λ (n : ℕ). rec_of n item ∷ []) (let same : before + 1 ≡ q = omega arith in same)
+recs_of-push before q (x ∷ items) item is = ap (λ (l : List LogRec). rec_of (before + 1) x ∷ l) (recs_of-push (before + 1) q items item (omega arith))
+
+pub recs_of_numbered : (before : ℕ) (items : List Item) → AreNumbered before (recs_of before items)
+recs_of_numbered before [] = tt
+recs_of_numbered before (item ∷ later) = (refl, recs_of_numbered (before + 1) later)
+
+pub numbered-take : (before : ℕ) (recs : List LogRec) (k : ℕ) → AreNumbered before recs → AreNumbered before (take k recs)
+numbered-take before recs zero is = tt
+numbered-take before [] (suc k) is = tt
+numbered-take before (rec ∷ later) (suc k) is = (is.0, numbered-take (before + 1) later k is.1)
+
+pub numbered-push : (before : ℕ) (recs : List LogRec) (rec : LogRec) → AreNumbered before recs → rec.seq ≡ before + length recs + 1 → AreNumbered before (recs ++ rec ∷ [])
+numbered-push before [] rec is next = (let same : rec.seq ≡ before + 1 = omega arith in same, tt)
+numbered-push before (x ∷ recs) rec is next = (is.0, numbered-push (before + 1) recs rec is.1 (omega arith))
+
+pub seq_at : (before : ℕ) (recs : List LogRec) (k : ℕ) → AreNumbered before recs → k < length recs → (get_or recs k no_rec).seq ≡ before + 1 + k
+seq_at before [] k is inside = absurd (omega arith)
+seq_at before (rec ∷ later) zero is inside = let first = is.0 in omega arith
+seq_at before (rec ∷ later) (suc k) is inside = let rest = seq_at (before + 1) later k is.1 (omega arith) in omega arith
+
+pub times-push : (before : ℕ) (recs : List LogRec) (rec : LogRec) → TimesNeverFall before recs → time_behind before recs ≤ rec.time → TimesNeverFall before (recs ++ rec ∷ [])
+times-push before [] rec h later = (later, tt)
+times-push before (x ∷ recs) rec h later = (h.0, times-push x.time recs rec h.1 later)
+
+pub time_behind-push : (before : ℕ) (recs : List LogRec) (rec : LogRec) → time_behind before (recs ++ rec ∷ []) ≡ rec.time
+time_behind-push before [] rec = refl
+time_behind-push before (x ∷ recs) rec = time_behind-push x.time recs rec
+
+-- no time is below the one before all
+pub time_least : (before : ℕ) (recs : List LogRec) (k : ℕ) → TimesNeverFall before recs → k < length recs → before ≤ (get_or recs k no_rec).time
+time_least before [] k h inside = absurd (omega arith)
+time_least before (rec ∷ later) zero h inside = h.0
+time_least before (rec ∷ later) (suc k) h inside =
+    let first = h.0 in
+    let rest = time_least rec.time later k h.1 (omega arith) in
+    omega arith
+
+-- nor below that of a record before it
+pub times_in_order : (before : ℕ) (recs : List LogRec) (j k : ℕ) → TimesNeverFall before recs → j ≤ k → k < length recs → (get_or recs j no_rec).time ≤ (get_or recs k no_rec).time
+times_in_order before [] j k h order inside = absurd (omega arith)
+times_in_order before (rec ∷ later) zero zero h order inside = omega arith
+times_in_order before (rec ∷ later) zero (suc k) h order inside = time_least rec.time later k h.1 (omega arith)
+times_in_order before (rec ∷ later) (suc j) zero h order inside = absurd (omega arith)
+times_in_order before (rec ∷ later) (suc j) (suc k) h order inside = times_in_order rec.time later j k h.1 (omega arith) (omega arith)
+
+pub recs_len-push : (recs : List LogRec) (rec : LogRec) → recs_len (recs ++ rec ∷ []) ≡ recs_len recs + rec_len rec
+recs_len-push [] rec = omega arith
+recs_len-push (x ∷ recs) rec = let rest = recs_len-push recs rec in omega arith

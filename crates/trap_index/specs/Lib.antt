@@ -1,0 +1,4 @@
+pub mod Indexed
+pub mod Keeping
+pub mod Counting
+pub mod Describes
