@@ -1,0 +1,160 @@
+use Rattle.std.proofs.Common.{◌≡◌, IsTrue, Err, Result, false, refl, sym, subst, ◌∙◌}
+use Rattle.trap_bank.specs.Steps.{Always}
+use Rattle.trap_array.specs.Calls.{Mounted, StandsFor, IsReady}
+use Rattle.trap_array.specs.Mounting.{HasFound, Refuses, MountFails}
+use Rattle.trap_array.specs.declared.fault.MountFault.{MountFault}
+use Rattle.trap_array.specs.declared.fault.MountFault.TheVariants.{LogFault}
+use Rattle.trap_array.proofs.MountReads.{reads_then, cause_before}
+use Rattle.trap_array.proofs.MountHistory.{exit_of}
+use Rattle.trap_array.proofs.MountRefusals.{never_refused}
+use Rattle.trap_array.proofs.MountPuts.{mounts_read, members_refused, put_failed, put_room, stage_drained, stage_last, stands_still, mounts_put, mounts_contents, mount_ready, mount_stands, mount_found, read_lost, read_others, put_lost, put_others}
+use Rattle.trap_array.proofs.array.Array.mount.Goals as goal
+
+-- ---- the log was refused
+
+pub returns-in_err-found-clause-held : goal.returns-in_err-found-clause-held
+returns-in_err-found-clause-held g c = λ numbers s told holds why err.
+    never_refused numbers s (g.B.Bank.view c.args.bank.now).now.disks holds why
+    (exit_of (λ w. Refuses (g.B.Bank.view c.args.bank.now) w) c.from_residual.result c.in_err-found.field-0.0 c.from_residual.ensures.1 (c.in_err-found.ensures.refused told) why err)
+
+pub returns-in_err-found-clause-any_moment : goal.returns-in_err-found-clause-any_moment
+returns-in_err-found-clause-any_moment g c = mounts_read (g.B.Bank.view c.args.bank.now) (g.B.Bank.view c.find_log.new.bank) c.find_log.ensures.reads
+
+-- ---- the members were refused
+
+pub returns-in_err-head-clause-refused : goal.returns-in_err-head-clause-refused
+returns-in_err-head-clause-refused g c =
+    exit_of (λ w. IsTrue (g.B.Bank.view c.args.bank.now).tells → Refuses (g.B.Bank.view c.args.bank.now) w) c.from_residual-in_err-head.result c.in_err-head.field-0.0 c.from_residual-in_err-head.ensures.1
+    (members_refused c.in_ok-found.found.g c.in_ok-found.found.head c.in_ok-found.found.cell c.in_ok-found.found.stage (g.B.Bank.view c.args.bank.now) (g.B.Bank.view c.find_log.new.bank) _
+    c.find_log.ensures.reads c.in_ok-found.ensures.ok c.in_err-head.ensures.refused)
+
+pub returns-in_err-head-clause-held : goal.returns-in_err-head-clause-held
+returns-in_err-head-clause-held g c = λ numbers s told holds why err.
+    never_refused numbers s (g.B.Bank.view c.args.bank.now).now.disks holds why (returns-in_err-head-clause-refused g c why err told)
+
+pub returns-in_err-head-clause-cause : goal.returns-in_err-head-clause-cause
+returns-in_err-head-clause-cause g c =
+    exit_of (λ w. MountFails w (g.B.Bank.view c.args.bank.now) (g.B.Bank.view c.find_members.new.bank)) c.from_residual-in_err-head.result c.in_err-head.field-0.0 c.from_residual-in_err-head.ensures.1
+    (cause_before (g.B.Bank.view c.args.bank.now) (g.B.Bank.view c.find_log.new.bank) (g.B.Bank.view c.find_members.new.bank) _ c.find_log.ensures.reads c.in_err-head.ensures.cause)
+
+pub returns-in_err-head-clause-any_moment : goal.returns-in_err-head-clause-any_moment
+returns-in_err-head-clause-any_moment g c = mounts_read (g.B.Bank.view c.args.bank.now) (g.B.Bank.view c.find_members.new.bank)
+    (reads_then (g.B.Bank.view c.args.bank.now) (g.B.Bank.view c.find_log.new.bank) (g.B.Bank.view c.find_members.new.bank) c.find_log.ensures.reads c.find_members.ensures.reads)
+
+-- ---- the put
+
+pub put_changed-requires-clause-stands : goal.put_changed-requires-clause-stands
+put_changed-requires-clause-stands g c = stands_still c.in_ok-found.found.g c.in_ok-found.found.head c.in_ok-head.head c.in_ok-found.found.cell c.in_ok-found.found.stage
+    (g.B.Bank.view c.args.bank.now) (g.B.Bank.view c.find_log.new.bank) (g.B.Bank.view c.find_members.new.bank) c.find_log.ensures.reads c.find_members.ensures.reads
+    (g.met.B.Bank.lawful c.find_log.new.bank) c.in_ok-found.ensures.ok c.in_ok-head.ensures.ok
+
+pub put_changed-requires-clause-room : goal.put_changed-requires-clause-room
+put_changed-requires-clause-room g c = put_room c.in_ok-found.found.g c.in_ok-found.found.head c.in_ok-head.head c.in_ok-found.found.cell c.in_ok-found.found.stage
+    (g.B.Bank.view c.args.bank.now) (g.B.Bank.view c.find_log.new.bank) (g.B.Bank.view c.find_members.new.bank) c.find_log.ensures.reads c.find_members.ensures.reads
+    (g.met.B.Bank.lawful c.find_log.new.bank) c.in_ok-found.ensures.ok c.in_ok-head.ensures.ok
+
+pub returns-in_default-clause-sizes : goal.returns-in_default-clause-sizes
+returns-in_default-clause-sizes g c = λ e. c.put_changed.ensures.sizes e ∙ c.find_members.ensures.reads.sizes e ∙ c.find_log.ensures.reads.sizes e
+
+pub returns-in_default-clause-contents : goal.returns-in_default-clause-contents
+returns-in_default-clause-contents g c = mounts_contents c.in_ok-found.found.g c.in_ok-found.found.head c.in_ok-head.head c.in_ok-found.found.cell c.in_ok-found.found.stage
+    (g.B.Bank.view c.args.bank.now) (g.B.Bank.view c.find_log.new.bank) (g.B.Bank.view c.find_members.new.bank) c.find_log.ensures.reads c.find_members.ensures.reads
+    (g.met.B.Bank.lawful c.find_log.new.bank) c.in_ok-found.ensures.ok c.in_ok-head.ensures.ok (g.B.Bank.view c.put_changed.new.bank) c.put_changed.ensures.contents
+
+pub returns-in_default-clause-cause : goal.returns-in_default-clause-cause
+returns-in_default-clause-cause g c = λ why err.
+    put_failed (g.B.Bank.view c.args.bank.now) (g.B.Bank.view c.find_members.new.bank) (g.B.Bank.view c.put_changed.new.bank) why
+    (reads_then (g.B.Bank.view c.args.bank.now) (g.B.Bank.view c.find_log.new.bank) (g.B.Bank.view c.find_members.new.bank) c.find_log.ensures.reads c.find_members.ensures.reads)
+    c.in_default.ensures.cause (same why err)
+  where
+    same : {T : Type 0} (w : MountFault) → ◌≡◌ {A = Result T MountFault} (Err LogFault) (Err w) → LogFault ≡ w
+    same w both = cc
+
+pub returns-in_default-clause-any_moment : goal.returns-in_default-clause-any_moment
+returns-in_default-clause-any_moment g c = mounts_put c.in_ok-found.found.g c.in_ok-found.found.head c.in_ok-head.head c.in_ok-found.found.cell c.in_ok-found.found.stage
+    (g.B.Bank.view c.args.bank.now) (g.B.Bank.view c.find_log.new.bank) (g.B.Bank.view c.find_members.new.bank) c.find_log.ensures.reads c.find_members.ensures.reads
+    (g.met.B.Bank.lawful c.find_log.new.bank) c.in_ok-found.ensures.ok c.in_ok-head.ensures.ok (g.B.Bank.view c.put_changed.new.bank) c.put_changed.ensures.any_moment
+
+-- ---- the array is mounted
+
+pub assemble-requires-clause-drained : goal.assemble-requires-clause-drained
+assemble-requires-clause-drained g c = stage_drained c.in_ok-found.found.g c.in_ok-found.found.head c.in_ok-head.head c.in_ok-found.found.cell c.in_ok-found.found.stage
+    (g.B.Bank.view c.args.bank.now) (g.B.Bank.view c.find_log.new.bank) (g.B.Bank.view c.find_members.new.bank) c.find_log.ensures.reads c.find_members.ensures.reads
+    (g.met.B.Bank.lawful c.find_log.new.bank) c.in_ok-found.ensures.ok c.in_ok-head.ensures.ok
+
+pub assemble-requires-clause-last : goal.assemble-requires-clause-last
+assemble-requires-clause-last g c = stage_last c.in_ok-found.found.g c.in_ok-found.found.head c.in_ok-head.head c.in_ok-found.found.cell c.in_ok-found.found.stage
+    (g.B.Bank.view c.args.bank.now) (g.B.Bank.view c.find_log.new.bank) (g.B.Bank.view c.find_members.new.bank) c.find_log.ensures.reads c.find_members.ensures.reads
+    (g.met.B.Bank.lawful c.find_log.new.bank) c.in_ok-found.ensures.ok c.in_ok-head.ensures.ok
+
+pub returns-clause-stands : goal.returns-clause-stands
+returns-clause-stands g c = λ numbers s told holds.
+    subst (λ (m : Mounted). (m.g ≡ numbers) × Always (g.B.Bank.view c.put_changed.new.bank) (StandsFor m s)) (sym c.assemble.ensures)
+    (mount_stands c.in_ok-found.found.g c.in_ok-found.found.head c.in_ok-head.head c.in_ok-found.found.cell c.in_ok-found.found.stage
+    (g.B.Bank.view c.args.bank.now) (g.B.Bank.view c.find_log.new.bank) (g.B.Bank.view c.find_members.new.bank) c.find_log.ensures.reads c.find_members.ensures.reads
+    (g.met.B.Bank.lawful c.find_log.new.bank) c.in_ok-found.ensures.ok c.in_ok-head.ensures.ok (g.B.Bank.view c.put_changed.new.bank) c.put_changed.new.cell c.in-Ok.ensures.ok c.put_changed.ensures.sizes numbers s told holds)
+
+pub returns-clause-ready : goal.returns-clause-ready
+returns-clause-ready g c =
+    subst (λ (m : Mounted). IsReady m (g.B.Bank.view c.put_changed.new.bank) × (m.is_stopped ≡ false)) (sym c.assemble.ensures) (
+      mount_ready c.in_ok-found.found.g c.in_ok-found.found.head c.in_ok-head.head c.in_ok-found.found.cell c.in_ok-found.found.stage
+          (g.B.Bank.view c.args.bank.now) (g.B.Bank.view c.find_log.new.bank) (g.B.Bank.view c.find_members.new.bank) c.find_log.ensures.reads c.find_members.ensures.reads
+          (g.met.B.Bank.lawful c.find_log.new.bank) c.in_ok-found.ensures.ok c.in_ok-head.ensures.ok (g.B.Bank.view c.put_changed.new.bank) c.put_changed.new.cell c.in-Ok.ensures.ok c.put_changed.ensures.sizes,
+      refl,
+    )
+
+pub returns-clause-found : goal.returns-clause-found
+returns-clause-found g c =
+    subst (λ (m : Mounted). HasFound m (g.B.Bank.view c.args.bank.now) (g.B.Bank.view c.put_changed.new.bank)) (sym c.assemble.ensures)
+    (mount_found c.in_ok-found.found.g c.in_ok-found.found.head c.in_ok-head.head c.in_ok-found.found.cell c.in_ok-found.found.stage
+    (g.B.Bank.view c.args.bank.now) (g.B.Bank.view c.find_log.new.bank) (g.B.Bank.view c.find_members.new.bank) c.find_log.ensures.reads c.find_members.ensures.reads
+    (g.met.B.Bank.lawful c.find_log.new.bank) c.in_ok-found.ensures.ok c.in_ok-head.ensures.ok (g.B.Bank.view c.put_changed.new.bank) c.put_changed.new.cell c.in-Ok.ensures.ok c.put_changed.ensures.sizes)
+
+pub returns-clause-sizes : goal.returns-clause-sizes
+returns-clause-sizes g c = λ e. c.put_changed.ensures.sizes e ∙ c.find_members.ensures.reads.sizes e ∙ c.find_log.ensures.reads.sizes e
+
+pub returns-clause-contents : goal.returns-clause-contents
+returns-clause-contents g c = mounts_contents c.in_ok-found.found.g c.in_ok-found.found.head c.in_ok-head.head c.in_ok-found.found.cell c.in_ok-found.found.stage
+    (g.B.Bank.view c.args.bank.now) (g.B.Bank.view c.find_log.new.bank) (g.B.Bank.view c.find_members.new.bank) c.find_log.ensures.reads c.find_members.ensures.reads
+    (g.met.B.Bank.lawful c.find_log.new.bank) c.in_ok-found.ensures.ok c.in_ok-head.ensures.ok (g.B.Bank.view c.put_changed.new.bank) c.put_changed.ensures.contents
+
+pub returns-clause-any_moment : goal.returns-clause-any_moment
+returns-clause-any_moment g c = mounts_put c.in_ok-found.found.g c.in_ok-found.found.head c.in_ok-head.head c.in_ok-found.found.cell c.in_ok-found.found.stage
+    (g.B.Bank.view c.args.bank.now) (g.B.Bank.view c.find_log.new.bank) (g.B.Bank.view c.find_members.new.bank) c.find_log.ensures.reads c.find_members.ensures.reads
+    (g.met.B.Bank.lawful c.find_log.new.bank) c.in_ok-found.ensures.ok c.in_ok-head.ensures.ok (g.B.Bank.view c.put_changed.new.bank) c.put_changed.ensures.any_moment
+
+-- ---- the other disks, and the lost member
+
+pub returns-in_err-found-clause-others : goal.returns-in_err-found-clause-others
+returns-in_err-found-clause-others g c = read_others (g.B.Bank.view c.args.bank.now) (g.B.Bank.view c.find_log.new.bank) c.find_log.ensures.reads
+
+pub returns-in_err-found-clause-lost : goal.returns-in_err-found-clause-lost
+returns-in_err-found-clause-lost g c = read_lost (g.B.Bank.view c.args.bank.now) (g.B.Bank.view c.find_log.new.bank) c.find_log.ensures.reads
+
+pub returns-in_err-head-clause-others : goal.returns-in_err-head-clause-others
+returns-in_err-head-clause-others g c = read_others (g.B.Bank.view c.args.bank.now) (g.B.Bank.view c.find_members.new.bank)
+    (reads_then (g.B.Bank.view c.args.bank.now) (g.B.Bank.view c.find_log.new.bank) (g.B.Bank.view c.find_members.new.bank) c.find_log.ensures.reads c.find_members.ensures.reads)
+
+pub returns-in_err-head-clause-lost : goal.returns-in_err-head-clause-lost
+returns-in_err-head-clause-lost g c = read_lost (g.B.Bank.view c.args.bank.now) (g.B.Bank.view c.find_members.new.bank)
+    (reads_then (g.B.Bank.view c.args.bank.now) (g.B.Bank.view c.find_log.new.bank) (g.B.Bank.view c.find_members.new.bank) c.find_log.ensures.reads c.find_members.ensures.reads)
+
+pub returns-in_default-clause-others : goal.returns-in_default-clause-others
+returns-in_default-clause-others g c = put_others c.in_ok-found.found.g c.in_ok-found.found.head c.in_ok-head.head c.in_ok-found.found.cell c.in_ok-found.found.stage
+    (g.B.Bank.view c.args.bank.now) (g.B.Bank.view c.find_log.new.bank) (g.B.Bank.view c.find_members.new.bank) c.find_log.ensures.reads c.find_members.ensures.reads
+    (g.met.B.Bank.lawful c.find_log.new.bank) c.in_ok-found.ensures.ok c.in_ok-head.ensures.ok (g.B.Bank.view c.put_changed.new.bank) c.put_changed.ensures.contents
+
+pub returns-in_default-clause-lost : goal.returns-in_default-clause-lost
+returns-in_default-clause-lost g c = put_lost c.in_ok-found.found.g c.in_ok-found.found.head c.in_ok-head.head c.in_ok-found.found.cell c.in_ok-found.found.stage
+    (g.B.Bank.view c.args.bank.now) (g.B.Bank.view c.find_log.new.bank) (g.B.Bank.view c.find_members.new.bank) c.find_log.ensures.reads c.find_members.ensures.reads
+    (g.met.B.Bank.lawful c.find_log.new.bank) c.in_ok-found.ensures.ok c.in_ok-head.ensures.ok (g.B.Bank.view c.put_changed.new.bank) c.put_changed.ensures.any_moment.faults c.put_changed.ensures.contents
+
+pub returns-clause-others : goal.returns-clause-others
+returns-clause-others g c = put_others c.in_ok-found.found.g c.in_ok-found.found.head c.in_ok-head.head c.in_ok-found.found.cell c.in_ok-found.found.stage
+    (g.B.Bank.view c.args.bank.now) (g.B.Bank.view c.find_log.new.bank) (g.B.Bank.view c.find_members.new.bank) c.find_log.ensures.reads c.find_members.ensures.reads
+    (g.met.B.Bank.lawful c.find_log.new.bank) c.in_ok-found.ensures.ok c.in_ok-head.ensures.ok (g.B.Bank.view c.put_changed.new.bank) c.put_changed.ensures.contents
+
+pub returns-clause-lost : goal.returns-clause-lost
+returns-clause-lost g c = put_lost c.in_ok-found.found.g c.in_ok-found.found.head c.in_ok-head.head c.in_ok-found.found.cell c.in_ok-found.found.stage
+    (g.B.Bank.view c.args.bank.now) (g.B.Bank.view c.find_log.new.bank) (g.B.Bank.view c.find_members.new.bank) c.find_log.ensures.reads c.find_members.ensures.reads
+    (g.met.B.Bank.lawful c.find_log.new.bank) c.in_ok-found.ensures.ok c.in_ok-head.ensures.ok (g.B.Bank.view c.put_changed.new.bank) c.put_changed.ensures.any_moment.faults c.put_changed.ensures.contents

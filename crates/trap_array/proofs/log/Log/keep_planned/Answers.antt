@@ -1,0 +1,53 @@
+use Rattle.std.proofs.Common.{rules, ◌≡◌, ℕ, ◌+◌, Result, Err, sym, ap, subst, ◌∙◌}
+use Rattle.trap_bank.proofs.Moves.{read_is_left}
+use Rattle.trap_format.specs.declared.head.Head.{Head}
+use Rattle.trap_model.specs.ArrayStep.{added}
+use Rattle.trap_model.specs.State.{last}
+use Rattle.trap_model.specs.declared.history.State.{State}
+use Rattle.trap_model.specs.declared.request.Reply.{Reply}
+use Rattle.trap_model.specs.declared.request.Reply.TheVariants.{Kept}
+use Rattle.trap_array.specs.Calls.{going}
+use Rattle.trap_array.specs.Log.{Log}
+use Rattle.trap_array.specs.NextHead.{entry_for}
+use Rattle.trap_array.specs.Turning.{Turns}
+use Rattle.trap_array.specs.declared.fault.Denied.{Denied}
+use Rattle.trap_array.proofs.Turns.{then_keep_may, then_keep_has}
+use Rattle.trap_array.proofs.TurnSteps.{fault_since, goes_then, turns_failed, turns_done}
+use Rattle.trap_array.proofs.log.Log.keep_planned.Goals as goal
+
+pub returns-in_err-drain : goal.returns-in_err-drain
+returns-in_err-drain g c =
+    let old = g.B.Bank.view c.args.bank.now in
+    let mid = g.B.Bank.view c.commit.new.bank in
+    let new = g.B.Bank.view c.drain.new.bank in
+    let here = c.args.self.now in
+    let between = c.commit.new.self in
+    let after = c.drain.new.self in
+    let next : State → State = λ (s : State). added s (entry_for c.args.time c.args.block c.args.bytes.now) in
+    let replies : State → Reply = λ (s : State). Kept (last s + 1) in
+    let is : Err c.in_err-drain.field-0.0 ≡ c.from_residual-in_err-drain.result = search rules in
+    let P : Result ℕ Denied → Type 0 = λ (r : Result ℕ Denied). Turns here after next replies r old new in
+    subst P is
+    (turns_failed here after next replies c.in_err-drain.field-0.0 old new
+    (fault_since (going here) (going between) old mid new c.commit.ensures.goes_on c.in_ok-commit.ensures.ok.faults c.in_err-drain.field-0.0 c.in_err-drain.ensures.cause)
+    (goes_then (going here) (going between) (going after) c.commit.ensures.goes_on c.drain.ensures.goes_on)
+    (λ d. c.drain.ensures.sizes d ∙ c.commit.ensures.sizes d)
+    (then_keep_may (going here) (going between) c.commit.ensures.goes_on old mid new next c.in_ok-commit.ensures.ok c.drain.ensures.any_moment))
+
+pub returns : goal.returns
+returns g c =
+    let old = g.B.Bank.view c.args.bank.now in
+    let mid = g.B.Bank.view c.commit.new.bank in
+    let new = g.B.Bank.view c.drain.new.bank in
+    let here = c.args.self.now in
+    let between = c.commit.new.self in
+    let after = c.drain.new.self in
+    let next : State → State = λ (s : State). added s (entry_for c.args.time c.args.block c.args.bytes.now) in
+    let seq : c.self.inside.head.last ≡ here.head.last + 1 =
+    ap (λ (l : Log). l.head.last) c.self.view_is ∙ ap (λ (h : Head). h.last) c.in_ok-drain.ensures.head ∙ ap (λ (h : Head). h.last) c.in_ok-commit.ensures.head in
+    turns_done here after next (λ (s : State). Kept (last s + 1)) c.self.inside.head.last old new
+    (λ told s always. ap (λ (n : ℕ). Kept (n + 1)) (sym (always old.now (read_is_left old told)).by.fits.head.last) ∙ ap Kept (sym seq))
+    (then_keep_has (going here) (going between) c.commit.ensures.goes_on old mid new next c.in_ok-commit.ensures.ok (going after) c.in_ok-drain.ensures.ok)
+    c.in_ok-drain.ensures.in_step c.in_ok-drain.ensures.stands
+    (goes_then (going here) (going between) (going after) c.commit.ensures.goes_on c.drain.ensures.goes_on)
+    (λ d. c.drain.ensures.sizes d ∙ c.commit.ensures.sizes d)

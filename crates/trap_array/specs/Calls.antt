@@ -1,0 +1,111 @@
+-- What the calls of a mounted array do.
+use Rattle.std.specs.Prelude.{◌≡◌, ◌⊎◌, ℕ, ◌+◌, ◌<◌, List, Option, Some, Bool, true, false, Result, Ok, Err}
+use Rattle.trap_bank.specs.Disks.{Disks, View}
+use Rattle.trap_bank.specs.Faults.{Rose}
+use Rattle.trap_bank.specs.Steps.{Always}
+use Rattle.trap_cell.specs.Slots.{Slots, Stands}
+use Rattle.trap_format.specs.LogDisk.{log_size}
+use Rattle.trap_format.specs.MemberDisk.{member_size}
+use Rattle.trap_format.specs.declared.head.Head.{Head}
+use Rattle.trap_model.specs.declared.numbers.Geometry.{Geometry}
+use Rattle.trap_model.specs.declared.history.State.{State}
+use Rattle.trap_model.specs.declared.request.Reply.{Reply}
+use Rattle.trap_model.specs.declared.request.Reply.TheVariants.{Kept, Is, No}
+use Rattle.trap_raid.specs.Members.{Counts}
+use Rattle.trap_stage.specs.Staged.{Staged}
+use Rattle.trap_stage.specs.Pending.{pending}
+use Rattle.trap_array.specs.Holding.{HoldsBy}
+use Rattle.trap_array.specs.Log.{Log}
+use Rattle.trap_array.specs.declared.fault.Denied.{Denied}
+use Rattle.trap_array.specs.declared.fault.Denied.TheVariants.{Refused, LogFault, MemberFault, Stopped}
+
+-- what contracts see of a mounted array: its numbers, the head that was put last, the head's cell, the pending writes
+-- with the newest first, and whether a fault has stopped it
+pub record Mounted : Type 0 where
+  pub g : Geometry
+  pub head : Head
+  pub cell : Slots
+  pub pending : List Staged
+  pub is_stopped : Bool
+
+-- an array that isn't stopped, by what it knows of its log
+abbrev pub going : Log → Mounted
+going log = record { g = log.g; head = log.head; cell = log.cell; pending = log.stage.pending; is_stopped = false }
+
+-- the disks hold the state by the array's head, and the array knows their cell and their pending writes
+pub record StandsFor (a : Mounted) (s : State) (disks : Disks) : Type 0 where
+  pub by : HoldsBy a.g a.head s disks
+  pub cell : Stands a.cell disks
+  pub pending : a.pending ≡ pending a.g s a.head.drained
+
+-- the log's disk, and each member's of which some row counts, have their sizes
+pub record HasSizes (g : Geometry) (lost : Option ℕ) (rebuilt : ℕ) (v : View) : Type 0 where
+  pub log : v.sizes 0 ≡ Some (log_size g)
+  pub members : (m : ℕ) → m < g.members → Counts lost rebuilt 0 m → v.sizes (m + 1) ≡ Some (member_size g)
+
+-- the disks have their sizes, and unless the array is stopped, every crash leaves the head's cell as it knows it
+pub record IsReady (a : Mounted) (v : View) : Type 0 where
+  pub sizes : HasSizes a.g a.head.lost a.head.rebuilt v
+  pub stands : a.is_stopped ≡ false → Always v (Stands a.cell)
+
+-- no call changes the numbers of an array, nor which member is lost
+pub record GoesOn (a b : Mounted) : Type 0 where
+  pub g : b.g ≡ a.g
+  pub lost : b.head.lost ≡ a.head.lost
+  pub rebuilt : b.head.rebuilt ≡ a.head.rebuilt
+
+-- the disks hold the state by a head with the same lost member
+pub record HoldsLike (g : Geometry) (h : Head) (s : State) (disks : Disks) : Type 0 where
+  pub head : Head
+  pub by : HoldsBy g head s disks
+  pub lost : head.lost ≡ h.lost
+  pub rebuilt : head.rebuilt ≡ h.rebuilt
+
+-- At a moment of a call. Whatever state the array stood for on entry, the disks hold it, or the next one.
+abbrev pub MayTurn : Mounted → View → (State → State) → Disks → Disks → Type 0
+MayTurn a v next old new =
+    (s : State) → Always v (StandsFor a s) → HoldsLike a.g a.head s new ⊎ HoldsLike a.g a.head (next s) new
+
+-- After a call. Whatever state the array stood for on entry, it stands for the next one.
+abbrev pub HasTurned : Mounted → Mounted → View → (State → State) → Disks → Disks → Type 0
+HasTurned a b v next old new = (s : State) → Always v (StandsFor a s) → StandsFor b (next s) new
+
+-- A member failed of which some row counts, so not the lost one unless it is being rebuilt: the count of its disk rose.
+-- Both numbers are its own.
+pub record MemberFails (a : Mounted) (first second : ℕ) (old new : View) : Type 0 where
+  pub same : first ≡ second
+  pub inside : second < a.g.members
+  pub counts : Counts a.head.lost a.head.rebuilt 0 second
+  pub rose : Rose (old.faults (second + 1)) (new.faults (second + 1))
+
+-- a fault stops the array
+abbrev pub is_fault : {T : Type 0} → Result T Denied → Bool
+is_fault (Ok value) = false
+is_fault (Err (Refused why)) = false
+is_fault (Err LogFault) = true
+is_fault (Err (MemberFault first second)) = true
+is_fault (Err Stopped) = false
+
+-- the call did nothing, since the array was stopped, or a fault came
+abbrev pub is_done : {T : Type 0} → Result T Denied → Bool
+is_done (Ok value) = true
+is_done (Err (Refused why)) = true
+is_done (Err LogFault) = false
+is_done (Err (MemberFault first second)) = false
+is_done (Err Stopped) = false
+
+-- the answer to a write is this reply
+abbrev pub WriteReplies : Result ℕ Denied → Reply → Type 0
+WriteReplies (Ok seq) reply = reply ≡ Kept seq
+WriteReplies (Err (Refused why)) reply = reply ≡ No why
+WriteReplies (Err LogFault) reply = Unit {0}
+WriteReplies (Err (MemberFault first second)) reply = Unit {0}
+WriteReplies (Err Stopped) reply = Unit {0}
+
+-- the answer to a read, with the bytes that it filled in, is this reply
+abbrev pub ReadReplies : {T : Type 0} → Result T Denied → List ℕ → Reply → Type 0
+ReadReplies (Ok value) bytes reply = reply ≡ Is bytes
+ReadReplies (Err (Refused why)) bytes reply = reply ≡ No why
+ReadReplies (Err LogFault) bytes reply = Unit {0}
+ReadReplies (Err (MemberFault first second)) bytes reply = Unit {0}
+ReadReplies (Err Stopped) bytes reply = Unit {0}

@@ -1,0 +1,11 @@
+pub mod Holding
+pub mod Log
+pub mod NextHead
+pub mod Calls
+pub mod Ready
+pub mod Turning
+pub mod Gone
+pub mod OnDisks
+pub mod Mounting
+pub mod Creating
+pub mod MountSteps

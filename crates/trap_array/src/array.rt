@@ -1,0 +1,79 @@
+//! A mounted array.
+
+ghost use Rattle.std.specs.Prelude.{◌≡◌, false};
+ghost use Rattle.trap_format.specs.HeadValue.{IsHead};
+ghost use Rattle.trap_stage.specs.Slots.{last_of};
+ghost use Rattle.trap_array.specs.Holding.{head_place};
+ghost use Rattle.trap_array.specs.Log.{AreFor};
+
+use crate::buffers::Buffers;
+use crate::log::Log;
+use std::marker::Model;
+use trap_cell::Cell;
+use trap_format::Head;
+use trap_model::Geometry;
+use trap_stage::Stage;
+
+/// An array that is mounted: what its log's head says, and its pending writes. After a fault it is stopped, and is of
+/// no further use: mount it again. Its memory was taken at mounting: no call takes more.
+#[derive(Drop)]
+pub struct Array {
+    pub(crate) log: Log,
+    pub(crate) buffers: Buffers,
+    pub(crate) is_stopped: bool,
+}
+
+impl Model for Array {
+    ghost use Rattle.trap_array.specs.Calls.{Mounted};
+    ghost use Rattle.trap_array.specs.Log.{IsArray};
+
+    ghost Value = { Mounted };
+
+    ghost view = { λ a. record {
+      g = a.log.g;
+      head = a.log.head;
+      cell = a.log.cell;
+      pending = a.log.stage.pending;
+      is_stopped = a.is_stopped;
+    } };
+
+    ghost invariant = { λ a. IsArray a.log a.buffers a.is_stopped };
+}
+
+impl Array {
+    /// An array from its parts, which is not stopped.
+    pub(crate) fn assemble(
+        g: Geometry,
+        head: Head,
+        cell: Cell,
+        stage: Stage,
+        buffers: Buffers,
+    ) -> Array
+        requires head { IsHead g head }
+        requires one_slot { g.slots ≡ 1 }
+        requires place { cell.place ≡ head_place }
+        requires same { stage.g ≡ g }
+        requires drained { stage.drained ≡ head.drained }
+        requires last { last_of stage ≡ head.last }
+        requires buffers { AreFor g.block buffers }
+        ensures { result ≡ record { g = g; head = head; cell = cell; pending = stage.pending; is_stopped = false } }
+    {
+        Array {
+            log: Log {
+                g,
+                head,
+                cell,
+                stage,
+            },
+            buffers,
+            is_stopped: false,
+        }
+    }
+
+    /// The numbers of the array, as the log's header has them.
+    pub fn geometry(&self) -> Geometry
+        ensures { result ≡ self.now.g }
+    {
+        self.log.g
+    }
+}

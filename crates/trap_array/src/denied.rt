@@ -1,0 +1,27 @@
+//! The faults of the layers below, as a call of an array answers them.
+
+ghost use Rattle.std.specs.Prelude.{◌≡◌};
+ghost use Rattle.trap_array.specs.declared.fault.Denied.TheVariants.{LogFault, MemberFault};
+
+use crate::Denied;
+use trap_bank::DiskFault;
+use trap_raid::MemberFailed;
+
+impl From<DiskFault> for Denied {
+    ghost from_gives = { λ _ e. e ≡ LogFault };
+
+    fn from(_fault: DiskFault) -> Denied {
+        Denied::LogFault
+    }
+}
+
+impl From<MemberFailed> for Denied {
+    ghost from_gives = { λ failed e. e ≡ MemberFault failed.member failed.member };
+
+    fn from(failed: MemberFailed) -> Denied {
+        Denied::MemberFault {
+            first: failed.member,
+            second: failed.member,
+        }
+    }
+}

@@ -1,0 +1,25 @@
+//! The array: a log whose head commits, and members under it.
+#![tactic(auto)]
+
+mod array;
+mod buffers;
+mod commit;
+mod creating;
+#[cfg(test)]
+mod creating_tests;
+mod denied;
+mod draining;
+mod fault;
+mod fetch;
+mod keep;
+pub mod laws;
+mod log;
+mod mount;
+pub mod mount_laws;
+mod planning;
+mod read;
+mod write;
+
+pub use array::Array;
+pub use creating::create;
+pub use fault::{CreateFault, Denied, MountFault};

@@ -1,0 +1,56 @@
+//! A read of one block.
+
+ghost use Rattle.std.specs.Prelude.{◌≡◌, ◌↔◌, ◌≤◌, ◌<◌, ℕ, ◌+◌, length, IsTrue, IsErrOf, true, false, ◌||◌};
+ghost use Rattle.trap_bank.specs.Faults.{Rose};
+ghost use Rattle.trap_bank.specs.Steps.{Moves, Same, Always};
+ghost use Rattle.trap_model.specs.ArrayStep.{step};
+ghost use Rattle.trap_model.specs.Image.{volume};
+ghost use Rattle.trap_model.specs.declared.history.State.{State};
+ghost use Rattle.trap_model.specs.declared.request.Request.TheVariants as request;
+ghost use Rattle.trap_model.specs.declared.request.Refusal.TheVariants as refusal;
+ghost use Rattle.trap_array.specs.Calls.{IsReady, StandsFor, ReadReplies, MemberFails, is_fault};
+
+use crate::planning::volume_of;
+use crate::{Array, Denied};
+use trap_bank::Bank;
+use trap_model::Refusal;
+
+impl Array {
+    /// Reads the present contents of a block into `into`, which has as many bytes as a block. After a refusal or a
+    /// fault `into` holds any bytes.
+    pub fn read<B: Bank>(&mut self, bank: &mut B, block: u64, into: &mut [u8]) -> Result<(), Denied>
+        requires size { length into.old ≡ self.old.g.block }
+        requires ready { IsReady self.old (B.view bank.old) }
+        ensures reply { IsTrue (B.view bank.old).tells → (s : State) → Always (B.view bank.old) (StandsFor self.old s)
+            → ReadReplies result into.new ((step self.old.g).reply s (request.Read block)) }
+        ensures ready { IsReady self.new (B.view bank.new) }
+        ensures same { self.new ≡ record self.old { is_stopped = self.old.is_stopped || is_fault result } }
+        ensures contents { IsTrue (B.view bank.old).tells → (B.view bank.new).now ≡ (B.view bank.old).now }
+        ensures sizes { (e : ℕ) → (B.view bank.new).sizes e ≡ (B.view bank.old).sizes e }
+
+        // A block that isn't there is refused first. Then a stopped array does nothing, and a fault stops the array.
+        ensures no_block { IsErrOf result (Denied.Refused refusal.NoBlock) ↔ (volume self.old.g ≤ block) }
+        ensures stopped { IsErrOf result Denied.Stopped ↔ ((block < volume self.old.g) × (self.old.is_stopped ≡ true)) }
+        ensures log { IsErrOf result Denied.LogFault → Rose ((B.view bank.old).faults 0) ((B.view bank.new).faults 0) }
+        ensures member { (first second : ℕ) → IsErrOf result (Denied.MemberFault first second)
+            → MemberFails self.old first second (B.view bank.old) (B.view bank.new) }
+
+        // Stopped at any moment, the disks are as they were.
+        ensures any_moment { Moves (B.view bank.old) (B.view bank.new) Same Same }
+    {
+        if block >= volume_of(&self.log.g) {
+            return Err(Denied::Refused(Refusal::NoBlock));
+        }
+        if self.is_stopped {
+            return Err(Denied::Stopped);
+        }
+        match self.log.fetch(bank, &mut self.buffers, block as u32, into) {
+            Ok(()) => Ok(()),
+            Err(failed) => {
+                // A fault stops the array.
+                self.is_stopped = true;
+                Err(Denied::from(failed))
+            }
+        }
+    }
+}
