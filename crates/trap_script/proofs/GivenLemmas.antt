@@ -5,13 +5,10 @@ use Rattle.std.proofs.lemmas.List.{append-nil, length-map}
 use Rattle.std.proofs.lemmas.List.Elements.{All-nil, All-cons, All-head, All-tail}
 use Rattle.std.proofs.lemmas.Slice.Eq.{starts_is}
 use Rattle.std.proofs.Math.Seq.{drop-append_seam}
-use Rattle.std.specs.Prelude.{nat_eq, nat_lt, get_or, flat_map, codes}
+use Rattle.std.specs.Prelude.{nat_eq, flat_map, codes}
 use Rattle.std.specs.List.{starts_with, All}
 use Rattle.trap_model.specs.Given.{given}
 use Rattle.trap_model.specs.Machine.{Machine}
-use Rattle.trap_model.specs.Plain.{PlainState, plain_volume, reply1, step1}
-use Rattle.trap_model.specs.declared.request.Request.TheVariants as request
-use Rattle.trap_model.specs.declared.request.Refusal.TheVariants.{NoBlock}
 use Rattle.trap_model.specs.declared.request.Request.{Request}
 use Rattle.trap_model.specs.declared.request.Reply.{Reply}
 use Rattle.trap_script.specs.Lines.{goes_on}
@@ -156,21 +153,3 @@ given_or_next m lines s all j x rest front behind more at is =
           ∙ ap (given (reply_texts m s all)) (sym (first_texts-next m s all j x rest at))
           ∙ given_replies m lines s all (j + 1) more (omega (arith, below_end all j x rest at)))
     ]
-
--- the plain volume answers every request but `Q` with a line
-accepted_or_not : (b : Bool) (reply : Reply) → reply ≢ Silent → (cond b reply (No NoBlock) ≢ Silent)
-accepted_or_not true reply speaks = speaks
-accepted_or_not false reply speaks = λ silent. cc silent
-
-plain_speaks : (s : PlainState) (request : Request) → goes_on request ≡ true → reply1 s request ≢ Silent
-plain_speaks s (request.Write time block bytes) more = accepted_or_not (nat_lt block plain_volume) (Kept (s.number + 1)) (λ silent. cc silent)
-plain_speaks s (request.Read block) more = accepted_or_not (nat_lt block plain_volume) (Is (get_or s.image block [])) (λ silent. cc silent)
-plain_speaks s (request.At seq block) more = λ silent. cc silent
-plain_speaks s (request.By time block) more = λ silent. cc silent
-plain_speaks s request.Info more = λ silent. cc silent
-plain_speaks s (request.Keep seq) more = λ silent. cc silent
-plain_speaks s request.Quit more = absurd (cc more)
-plain_speaks s request.Bad more = λ silent. cc silent
-
-pub step1_answers_by_lines : AnswersByLines step1
-step1_answers_by_lines = record { speaks = plain_speaks }

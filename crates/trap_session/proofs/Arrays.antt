@@ -1,0 +1,107 @@
+-- The store of a mounted array, as it goes on.
+use Rattle.std.proofs.Common.{◌≡◌, ◌⊎◌, inl, inr, ⊎_elim, ℕ, ◌+◌, ◌<◌, ◌≤◌, Option, Some, None, true, Result, Ok, Err, refl, subst, ◌∙◌, arith}
+use Rattle.std.specs.Prelude.{◌≢◌}
+use Rattle.trap_bank.specs.Disks.{Contents, Disks, View}
+use Rattle.trap_model.specs.ArrayStep.{step, unless, refusal, accepted}
+use Rattle.trap_model.specs.declared.numbers.Geometry.{Geometry}
+use Rattle.trap_model.specs.declared.history.State.{State}
+use Rattle.trap_model.specs.declared.request.Request.{Request}
+use Rattle.trap_model.specs.declared.request.Request.TheVariants as request
+use Rattle.trap_model.specs.declared.request.Refusal.{Refusal}
+use Rattle.trap_model.specs.declared.request.Reply.{Reply}
+use Rattle.trap_model.specs.declared.request.Reply.TheVariants.{No, Silent}
+use Rattle.trap_script.specs.Lines.{goes_on}
+use Rattle.trap_script.proofs.GivenLemmas.{AnswersByLines}
+use Rattle.trap_array.specs.Calls.{Mounted, HoldsLike, GoesOn}
+use Rattle.trap_array.specs.declared.fault.Denied.TheVariants.{Refused, LogFault, MemberFault, Stopped}
+use Rattle.trap_session.specs.Store.{Store, array_store, Served, Answering, CutShort, Struck, Waits, HasRisen}
+use Rattle.trap_session.specs.declared.outcome.Next.{Next}
+use Rattle.trap_session.specs.declared.outcome.Next.TheVariants.{More, Quit}
+use Rattle.trap_session.specs.declared.outcome.SessionFault.{SessionFault}
+use Rattle.trap_session.specs.declared.outcome.SessionFault.TheVariants.{Array, ReadFault, WriteFault, TooLong}
+
+-- a reply that is no silence
+reply-spoken : (why : Option Refusal) (reply : Reply) → reply ≢ Silent → unless why reply No ≢ Silent
+reply-spoken None reply spoken = spoken
+reply-spoken (Some why) reply spoken = λ e. cc
+
+array_speaks : (g : Geometry) (s : State) (asked : Request) → goes_on asked ≡ true → (step g).reply s asked ≢ Silent
+array_speaks g s (request.Write time block bytes) more = reply-spoken (refusal g s (request.Write time block bytes)) (accepted s (request.Write time block bytes)) (λ e. cc)
+array_speaks g s (request.Read block) more = reply-spoken (refusal g s (request.Read block)) (accepted s (request.Read block)) (λ e. cc)
+array_speaks g s (request.At seq block) more = reply-spoken (refusal g s (request.At seq block)) (accepted s (request.At seq block)) (λ e. cc)
+array_speaks g s (request.By time block) more = reply-spoken (refusal g s (request.By time block)) (accepted s (request.By time block)) (λ e. cc)
+array_speaks g s request.Info more = λ e. cc
+array_speaks g s (request.Keep seq) more = reply-spoken (refusal g s (request.Keep seq)) (accepted s (request.Keep seq)) (λ e. cc)
+array_speaks g s request.Quit more = absurd (cc more)
+array_speaks g s request.Bad more = λ e. cc
+
+-- an array replies to every request but `Q`
+pub array_answers : (a : Mounted) → AnswersByLines (array_store a).machine
+array_answers a = record { speaks = array_speaks a.g }
+
+pub array_torn : (a : Mounted) (disks : Disks) (t : State) (asked : Request) → (array_store a).torn disks t asked
+    → (array_store a).holds disks t ⊎ (array_store a).holds disks ((array_store a).machine.next t asked)
+array_torn a disks t asked torn = torn
+
+pub goes_nowhere : (a : Mounted) → GoesOn a a
+goes_nowhere a = record { g = refl; lost = refl; rebuilt = refl }
+
+pub goes_then : {a b c : Mounted} → GoesOn a b → GoesOn b c → GoesOn a c
+goes_then p q = record { g = q.g ∙ p.g; lost = q.lost ∙ p.lost; rebuilt = q.rebuilt ∙ p.rebuilt }
+
+-- the store by numbers that are an array's, and the head of an array
+abbrev store_by : Geometry → Mounted → Store State
+store_by g b = record {
+  machine = step g;
+  block = g.block;
+  holds = λ disks s. HoldsLike g b.head s disks;
+  torn = λ disks s asked. HoldsLike g b.head s disks ⊎ HoldsLike g b.head ((step g).next s asked) disks;
+}
+
+-- What the disks hold by a later array they hold by the first.
+module _ (a b : Mounted) (goes : GoesOn a b) where
+  like : (s : State) (disks : Disks) → HoldsLike a.g b.head s disks → HoldsLike a.g a.head s disks
+  like s disks holds = record { head = holds.head; by = holds.by; lost = holds.lost ∙ goes.lost; rebuilt = holds.rebuilt ∙ goes.rebuilt }
+
+  module _ (s : State) (asked : Request) (x y : Contents) where
+    torn_like : (disks : Disks) → (store_by a.g b).torn disks s asked → (array_store a).torn disks s asked
+    torn_like disks torn = ⊎_elim (λ same. inl (like s disks same)) (λ next. inr (like ((step a.g).next s asked) disks next)) torn
+
+    struck_like : Struck (store_by a.g b) s asked x y → Struck (array_store a) s asked x y
+    struck_like struck = record { more = struck.more; said = struck.said; torn = torn_like y.disks struck.torn }
+
+    cut_like : CutShort (store_by a.g b) s asked x y → CutShort (array_store a) s asked x y
+    cut_like cut = record { more = cut.more; part = cut.part; holds = like ((step a.g).next s asked) y.disks cut.holds }
+
+    answering_like : Answering (store_by a.g b) s asked x y → Answering (array_store a) s asked x y
+    answering_like answering = ⊎_elim (λ (waits : Waits (store_by a.g b) s x y). inl (record { said = waits.said; holds = like s y.disks waits.holds }))
+        (λ more. inr (⊎_elim (λ struck. inl (struck_like struck)) (λ cut. inr (cut_like cut)) more)) answering
+
+    served_like : (result : Result Next SessionFault) → Served (store_by a.g b) result s asked x y → Served (array_store a) result s asked x y
+    served_like (Ok More) served = record { more = served.more; said = served.said; holds = like ((step a.g).next s asked) y.disks served.holds }
+    served_like (Ok Quit) served = record { ends = served.ends; said = served.said; holds = like s y.disks served.holds }
+    served_like (Err (Array denied)) served = struck_like served
+    served_like (Err WriteFault) served = cut_like served
+    served_like (Err ReadFault) served = absurd served
+    served_like (Err TooLong) served = absurd served
+
+    pub answering_first : Answering (array_store b) s asked x y → Answering (array_store a) s asked x y
+    answering_first answering = answering_like (subst (λ (g : Geometry). Answering (store_by g b) s asked x y) goes.g answering)
+
+    pub served_first : (result : Result Next SessionFault) → Served (array_store b) result s asked x y → Served (array_store a) result s asked x y
+    served_first result served = served_like result (subst (λ (g : Geometry). Served (store_by g b) result s asked x y) goes.g served)
+
+  -- what rose since then rose since the first moment
+  pub risen_first : (u v w : View) → ((e : ℕ) → u.faults e ≤ v.faults e) → u.port_faults ≤ v.port_faults → (fault : SessionFault) → HasRisen b fault v w → HasRisen a fault u w
+  risen_first u v w faults port (Array (Refused why)) risen = absurd risen
+  risen_first u v w faults port (Array LogFault) risen = let later = faults 0 in omega (arith, later, risen)
+  risen_first u v w faults port (Array (MemberFault first second)) risen = record {
+    same = risen.same;
+    inside = subst (λ (g : Geometry). second < g.members) goes.g risen.inside;
+    counts = λ is. subst (λ (rows : ℕ). 0 < rows) goes.rebuilt (risen.counts (goes.lost ∙ is));
+    rose = let later = faults (second + 1) in let rose = risen.rose in omega (arith, later, rose);
+  }
+  risen_first u v w faults port (Array Stopped) risen = absurd risen
+  risen_first u v w faults port WriteFault risen = omega (arith, port, risen)
+  risen_first u v w faults port ReadFault risen = absurd risen
+  risen_first u v w faults port TooLong risen = absurd risen

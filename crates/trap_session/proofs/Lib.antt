@@ -1,0 +1,7 @@
+mod FormLemmas
+mod Replying
+mod Walking
+mod Stopping
+mod Arrays
+mod Quits
+mod Running

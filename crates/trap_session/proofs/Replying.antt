@@ -1,0 +1,298 @@
+-- What a crash leaves while one line is answered, from the calls that it makes.
+use Rattle.std.proofs.Common.{◌≡◌, inl, inr, ℕ, ◌+◌, ◌≤◌, nat_le, List, ◌++◌, length, take, Some, None, Bool, true, false, ◌||◌, IsTrue, Result, Ok, Err, OnOk, OnErr, IfOk, IfErr, refl, sym, ap, subst, ◌∙◌, arith}
+use Rattle.std.specs.Prelude.{if◌then◌else◌}
+use Rattle.std.proofs.Math.Seq.{take-append_seam}
+use Rattle.trap_bank.specs.Disks.{Contents, Disks, View, Quiet}
+use Rattle.trap_bank.specs.Calls.{MayLeave, Says}
+use Rattle.trap_bank.specs.Faults.{Rose}
+use Rattle.trap_bank.specs.Steps.{Steps, Moves, Same, Spoke, SpokePart, Always}
+use Rattle.trap_bank.proofs.Moves.{say_steps, said_steps, then_, weaken, nothing_done, always_same, no_moves}
+use Rattle.trap_model.specs.ArrayStep.{step, unless}
+use Rattle.trap_model.specs.Image.{volume}
+use Rattle.trap_model.specs.declared.history.State.{State}
+use Rattle.trap_model.specs.declared.numbers.Geometry.{Geometry}
+use Rattle.trap_model.specs.declared.request.Request.{Request}
+use Rattle.trap_model.specs.declared.request.Request.TheVariants.{Write, Read, Bad, Quit as Q}
+use Rattle.trap_model.specs.declared.request.Refusal.{Refusal}
+use Rattle.trap_model.specs.declared.request.Refusal.TheVariants.{NoBlock, NoLine}
+use Rattle.trap_model.specs.declared.request.Reply.{Reply}
+use Rattle.trap_model.specs.declared.request.Reply.TheVariants.{No}
+use Rattle.trap_script.specs.Lines.{goes_on}
+use Rattle.trap_script.specs.Replies.{reply_text}
+use Rattle.trap_array.specs.Holding.{HoldsBy}
+use Rattle.trap_array.specs.Calls.{Mounted, WriteReplies, ReadReplies, is_fault, StandsFor, HoldsLike, IsReady, GoesOn, MayTurn, HasTurned}
+use Rattle.trap_array.specs.declared.fault.Denied.{Denied}
+use Rattle.trap_array.specs.declared.fault.Denied.TheVariants.{Refused}
+use Rattle.trap_session.specs.Store.{Store, array_store, Replied, CutShort, Struck, HasRisen}
+use Rattle.trap_session.specs.Answers.{Answers, HasAnswered, StandsOn, AnswersLine}
+use Rattle.trap_session.specs.declared.outcome.Next.{Next}
+use Rattle.trap_session.specs.declared.outcome.Next.TheVariants.{More, Quit}
+use Rattle.trap_session.specs.declared.outcome.SessionFault.{SessionFault}
+use Rattle.trap_session.specs.declared.outcome.SessionFault.TheVariants.{Array, ReadFault, WriteFault, TooLong}
+
+-- The request is done and its reply not said yet.
+pub record IsDone {S : Type 0} (store : Store S) (s : S) (asked : Request) (old new : Contents) : Type 0 where
+  pub more : goes_on asked ≡ true
+  pub said : new.said ≡ old.said
+  pub holds : store.holds new.disks (store.machine.next s asked)
+
+module _ {S : Type 0} (store : Store S) (s : S) (asked : Request) (piece : List ℕ) (text : piece ≡ reply_text (store.machine.reply s asked)) where
+  cut_part : (x y z : Contents) → IsDone store s asked x y → SpokePart piece y z → CutShort store s asked x z
+  cut_part x y z done spoke = record {
+    more = done.more;
+    part = record {
+      part = spoke.says.part;
+      rest = spoke.says.rest;
+      whole = spoke.says.whole ∙ text;
+      said = spoke.says.said ∙ ap (λ l. l ++ spoke.says.part) done.said;
+    };
+    holds = subst (λ disks. store.holds disks (store.machine.next s asked)) (sym spoke.disks) done.holds;
+  }
+
+  said_all : (x y z : Contents) → IsDone store s asked x y → Spoke piece y z → Replied store s asked x z
+  said_all x y z done spoke = record {
+    more = done.more;
+    said = spoke.said ∙ ap (λ l. l ++ piece) done.said ∙ ap (λ l. x.said ++ l) text;
+    holds = subst (λ disks. store.holds disks (store.machine.next s asked)) (sym spoke.disks) done.holds;
+  }
+
+-- the request is done, whatever state the array stood for
+abbrev pub HasDone : Mounted → View → Request → Contents → Contents → Type 0
+HasDone a v asked old new = (s : State) → Always v (StandsFor a s) → IsDone (array_store a) s asked old new
+
+-- A reply is said behind a request that is done.
+pub reply_behind : (a : Mounted) (v u w : View) (asked : Request) (reply : Reply) (result : Result Next SessionFault)
+    → (IsTrue v.tells → (s : State) → Always v (StandsFor a s) → (step a.g).reply s asked ≡ reply)
+    → Steps v u (Answers a v asked) (HasDone a v asked) → Says (reply_text reply) result u w
+    → IfOk result (λ next. next ≡ More) → IfErr result (λ fault. fault ≡ WriteFault)
+    → Steps v w (Answers a v asked) (HasAnswered a v result asked)
+reply_behind a v u w asked reply (Ok More) is done call ok err = then_ v u w (Answers a v asked) (HasDone a v asked) (SpokePart (reply_text reply)) (Spoke (reply_text reply))
+    (Answers a v asked) (HasAnswered a v (Ok More) asked) done (said_steps {T = Next} {E = SessionFault} More u w (reply_text reply) call)
+    (λ x y was step. step)
+    (λ x y z was done mid spoke s stands. inr (inr (cut_part (array_store a) s asked (reply_text reply) (ap reply_text (sym (is was.told s stands))) x y z (done s stands) spoke)))
+    (λ x y z was done mid spoke s stands. said_all (array_store a) s asked (reply_text reply) (ap reply_text (sym (is was.told s stands))) x y z (done s stands) spoke)
+reply_behind a v u w asked reply (Ok Quit) is done call ok err = absurd (cc ok)
+reply_behind a v u w asked reply (Err (Array denied)) is done call ok err = absurd (cc err)
+reply_behind a v u w asked reply (Err ReadFault) is done call ok err = absurd (cc err)
+reply_behind a v u w asked reply (Err WriteFault) is done call ok err = then_ v u w (Answers a v asked) (HasDone a v asked) (SpokePart (reply_text reply)) (SpokePart (reply_text reply))
+    (Answers a v asked) (HasAnswered a v (Err WriteFault) asked) done (say_steps {T = Next} {E = SessionFault} (Err WriteFault) u w (reply_text reply) call)
+    (λ x y was step. step)
+    (λ x y z was done mid spoke s stands. inr (inr (cut_part (array_store a) s asked (reply_text reply) (ap reply_text (sym (is was.told s stands))) x y z (done s stands) spoke)))
+    (λ x y z was done mid spoke s stands. cut_part (array_store a) s asked (reply_text reply) (ap reply_text (sym (is was.told s stands))) x y z (done s stands) spoke)
+reply_behind a v u w asked reply (Err TooLong) is done call ok err = absurd (cc err)
+
+-- what every crash leaves is the same after a reply
+always_said : {T E : Type 0} (u w : View) (result : Result T E) (piece : List ℕ) (has : Disks → Type 0) → Says piece result u w → Always u has → Always w has
+always_said u w result piece has call always c left =
+    let from = (say_steps result u w piece call).now c left in
+    subst has (sym from.by.disks) (always from.origin from.was)
+
+-- an array is ready where the disks have the same sizes, and every crash leaves its cell as before
+ready_as : (a : Mounted) (u w : View) → ((e : ℕ) → w.sizes e ≡ u.sizes e) → ((has : Disks → Type 0) → Always u has → Always w has) → IsReady a u → IsReady a w
+ready_as a u w sizes still ready = record {
+  sizes = record {
+    log = sizes 0 ∙ ready.sizes.log;
+    members = λ m inside counts. sizes (m + 1) ∙ ready.sizes.members m inside counts;
+  };
+  stands = λ going. still _ (ready.stands going);
+}
+
+rose_port : (a : Mounted) (v u w : View) (result : Result Next SessionFault) → v.port_faults ≤ u.port_faults → OnErr result (Rose u.port_faults w.port_faults)
+    → IfErr result (λ fault. fault ≡ WriteFault) → IfErr result (λ fault. HasRisen a fault v w)
+rose_port a v u w (Ok next) later rose is = rose
+rose_port a v u w (Err fault) later rose is = subst (λ f. HasRisen a f v w) (sym is) (omega (arith, later, rose))
+
+-- One line whose reply is said: all that is owed of it.
+pub line_replied : (a b : Mounted) (v u w : View) (asked : Request) (reply : Reply) (result : Result Next SessionFault)
+    → (IsTrue v.tells → (s : State) → Always v (StandsFor a s) → (step a.g).reply s asked ≡ reply)
+    → Steps v u (Answers a v asked) (HasDone a v asked) → StandsOn a b asked v u
+    → ((e : ℕ) → u.sizes e ≡ v.sizes e) → IsReady b u → b.is_stopped ≡ false → GoesOn a b
+    → Says (reply_text reply) result u w → IfOk result (λ next. next ≡ More) → IfErr result (λ fault. fault ≡ WriteFault)
+    → AnswersLine a b result asked v w
+line_replied a b v u w asked reply result is done stands sizes ready going goes_on call ok err = record {
+  steps = reply_behind a v u w asked reply result is done call ok err;
+  stands = always_ok result (λ s was. always_said u w result (reply_text reply) (StandsFor b ((step a.g).next s asked)) call (stands s was));
+  going = always_ok result going;
+  ready = ready_as b u w call.sizes (λ has. always_said u w result (reply_text reply) has call) ready;
+  goes_on = goes_on;
+  cause = rose_port a v u w result done.port_faults call.cause err;
+  sizes = λ e. call.sizes e ∙ sizes e;
+}
+  where
+    always_ok : {T E P : Type 0} (r : Result T E) → P → OnOk r P
+    always_ok (Ok value) p = p
+    always_ok (Err fault) p = tt
+
+-- the array as it stood holds the state by its own head
+pub holds_own : (a : Mounted) (s : State) (disks : Disks) → StandsFor a s disks → HoldsLike a.g a.head s disks
+holds_own a s disks stands = record { head = a.head; by = stands.by; lost = refl; rebuilt = refl }
+
+-- and an array that goes on holds it by a head with the same lost member
+pub holds_on : (a b : Mounted) (s : State) (disks : Disks) → GoesOn a b → StandsFor b s disks → HoldsLike a.g a.head s disks
+holds_on a b s disks goes stands = record {
+  head = b.head;
+  by = subst (λ g. HoldsBy g b.head s disks) goes.g stands.by;
+  lost = goes.lost;
+  rebuilt = goes.rebuilt;
+}
+
+-- A request that calls of the array turn the state by.
+module _ (a : Mounted) (v u : View) (asked : Request) (more : goes_on asked ≡ true) where
+  torn_at : (x y : Contents) → Quiet (MayTurn a v (λ s. (step a.g).next s asked)) x y → (s : State) → Always v (StandsFor a s) → Struck (array_store a) s asked x y
+  torn_at x y may s stands = record { more = more; said = may.said; torn = may.disks s stands }
+
+  -- it was done
+  pub turned_done : (b : Mounted) → GoesOn a b → Moves v u (MayTurn a v (λ s. (step a.g).next s asked)) (HasTurned a b v (λ s. (step a.g).next s asked))
+      → Steps v u (Answers a v asked) (HasDone a v asked)
+  turned_done b goes moves = weaken v u (Quiet (MayTurn a v (λ s. (step a.g).next s asked))) (Quiet (HasTurned a b v (λ s. (step a.g).next s asked)))
+      (Answers a v asked) (HasDone a v asked) moves
+      (λ x y was may s stands. inr (inl (torn_at x y may s stands)))
+      (λ x y was left turned s stands. record { more = more; said = turned.said; holds = holds_on a b ((step a.g).next s asked) y.disks goes (turned.disks s stands) })
+
+  pub turned_stands : (b : Mounted) → Moves v u (MayTurn a v (λ s. (step a.g).next s asked)) (HasTurned a b v (λ s. (step a.g).next s asked))
+      → StandsOn a b asked v u
+  turned_stands b moves s stands c left = (moves.now c left).by.disks s stands
+
+  -- or a disk failed
+  pub turned_struck : (denied : Denied) → Moves v u (MayTurn a v (λ s. (step a.g).next s asked)) (MayTurn a v (λ s. (step a.g).next s asked))
+      → Steps v u (Answers a v asked) (HasAnswered a v (Err (Array denied)) asked)
+  turned_struck denied moves = weaken v u (Quiet (MayTurn a v (λ s. (step a.g).next s asked))) (Quiet (MayTurn a v (λ s. (step a.g).next s asked)))
+      (Answers a v asked) (HasAnswered a v (Err (Array denied)) asked) moves
+      (λ x y was may s stands. inr (inl (torn_at x y may s stands)))
+      (λ x y was left may s stands. torn_at x y may s stands)
+
+  -- The disks are as they were.
+  module _ (moves : Moves v u Same Same) where
+    held_still : (x y : Contents) → MayLeave v x → Quiet Same x y → (s : State) → Always v (StandsFor a s) → HoldsLike a.g a.head s y.disks
+    held_still x y was same s stands = subst (HoldsLike a.g a.head s) (sym same.disks) (holds_own a s x.disks (stands x was))
+
+    pub same_done : ((s : State) → (step a.g).next s asked ≡ s) → Steps v u (Answers a v asked) (HasDone a v asked)
+    same_done still = weaken v u (Quiet Same) (Quiet Same) (Answers a v asked) (HasDone a v asked) moves
+        (λ x y was same s stands. inl (record { said = same.said; holds = held_still x y was same s stands }))
+        (λ x y was left same s stands. record { more = more; said = same.said; holds = subst (λ t. HoldsLike a.g a.head t y.disks) (sym (still s)) (held_still x y was same s stands) })
+
+    pub same_stands : (b : Mounted) (stopped : Bool) → b ≡ record a { is_stopped = stopped } → ((s : State) → (step a.g).next s asked ≡ s) → StandsOn a b asked v u
+    same_stands b stopped same still s stands = always_same v u (StandsFor b ((step a.g).next s asked)) moves
+        (λ c left. let was = stands c left in
+        subst (λ m. StandsFor m ((step a.g).next s asked) c.disks) (sym same)
+        (subst (λ t. StandsFor (record a { is_stopped = stopped }) t c.disks) (sym (still s)) (record { by = was.by; cell = was.cell; pending = was.pending })))
+
+    pub same_struck : (denied : Denied) → Steps v u (Answers a v asked) (HasAnswered a v (Err (Array denied)) asked)
+    same_struck denied = weaken v u (Quiet Same) (Quiet Same) (Answers a v asked) (HasAnswered a v (Err (Array denied)) asked) moves
+        (λ x y was same s stands. inl (record { said = same.said; holds = held_still x y was same s stands }))
+        (λ x y was left same s stands. record { more = more; said = same.said; torn = inl (held_still x y was same s stands) })
+
+-- a read changes no state
+pub read_still : (g : Geometry) (s : State) (block : ℕ) → (step g).next s (Read block) ≡ s
+read_still g s block = either (nat_le (volume g) block)
+  where
+    either : (beyond : Bool) → unless (if beyond then Some NoBlock else None) s (λ _. s) ≡ s
+    either true = refl
+    either false = refl
+
+-- One line in which a disk failed.
+pub line_struck : (a b : Mounted) (v u : View) (asked : Request) (denied : Denied)
+    → Steps v u (Answers a v asked) (HasAnswered a v (Err (Array denied)) asked)
+    → ((e : ℕ) → u.sizes e ≡ v.sizes e) → IsReady b u → GoesOn a b → HasRisen a (Array denied) v u
+    → AnswersLine a b (Err (Array denied)) asked v u
+line_struck a b v u asked denied steps sizes ready goes risen = record {
+  steps = steps;
+  stands = tt;
+  going = tt;
+  ready = ready;
+  goes_on = goes;
+  cause = risen;
+  sizes = sizes;
+}
+
+-- an array that goes on isn't stopped by a call without a fault
+pub still_going : (before now : Bool) → now ≡ (before || false) → before ≡ false → now ≡ false
+still_going true now is going = absurd (cc going)
+still_going false now is going = is
+
+-- a write that was done, and is replied to
+pub write_replied : (a b : Mounted) (v u w : View) (time block : ℕ) (bytes fresh : List ℕ) → bytes ≡ fresh → (reply : Reply) (result : Result Next SessionFault)
+    → (IsTrue v.tells → (s : State) → Always v (StandsFor a s) → (step a.g).reply s (Write time block bytes) ≡ reply)
+    → Moves v u (MayTurn a v (λ s. (step a.g).next s (Write time block bytes))) (HasTurned a b v (λ s. (step a.g).next s (Write time block bytes)))
+    → ((e : ℕ) → u.sizes e ≡ v.sizes e) → IsReady b u → b.is_stopped ≡ false → GoesOn a b
+    → Says (reply_text reply) result u w → IfOk result (λ next. next ≡ More) → IfErr result (λ fault. fault ≡ WriteFault)
+    → AnswersLine a b result (Write time block fresh) v w
+write_replied a b v u w time block bytes fresh same reply result is moves sizes ready going goes call ok err =
+    subst (λ l. AnswersLine a b result (Write time block l) v w) same
+    (line_replied a b v u w (Write time block bytes) reply result is (turned_done a v u (Write time block bytes) refl b goes moves)
+    (turned_stands a v u (Write time block bytes) refl b moves) sizes ready going goes call ok err)
+
+-- a write in which a disk failed
+pub write_struck : (a b : Mounted) (v u : View) (time block : ℕ) (bytes fresh : List ℕ) → bytes ≡ fresh → (denied : Denied)
+    → Moves v u (MayTurn a v (λ s. (step a.g).next s (Write time block bytes))) (MayTurn a v (λ s. (step a.g).next s (Write time block bytes)))
+    → ((e : ℕ) → u.sizes e ≡ v.sizes e) → IsReady b u → GoesOn a b → HasRisen a (Array denied) v u
+    → AnswersLine a b (Err (Array denied)) (Write time block fresh) v u
+write_struck a b v u time block bytes fresh same denied moves sizes ready goes risen =
+    subst (λ l. AnswersLine a b (Err (Array denied)) (Write time block l) v u) same
+    (line_struck a b v u (Write time block bytes) denied (turned_struck a v u (Write time block bytes) refl denied moves) sizes ready goes risen)
+
+-- a call that changes nothing of the array but perhaps whether it is stopped
+pub same_goes : (a b : Mounted) (stopped : Bool) → b ≡ record a { is_stopped = stopped } → GoesOn a b
+same_goes a b stopped same = subst (GoesOn a) (sym same) (record { g = refl; lost = refl; rebuilt = refl })
+
+-- a request that changes no state, and is replied to
+pub same_replied : (a b : Mounted) (v u w : View) (asked : Request) → goes_on asked ≡ true → ((s : State) → (step a.g).next s asked ≡ s)
+    → (stopped : Bool) → b ≡ record a { is_stopped = stopped } → stopped ≡ false → (reply : Reply) (result : Result Next SessionFault)
+    → (IsTrue v.tells → (s : State) → Always v (StandsFor a s) → (step a.g).reply s asked ≡ reply)
+    → Moves v u Same Same → ((e : ℕ) → u.sizes e ≡ v.sizes e) → IsReady b u
+    → Says (reply_text reply) result u w → IfOk result (λ next. next ≡ More) → IfErr result (λ fault. fault ≡ WriteFault)
+    → AnswersLine a b result asked v w
+same_replied a b v u w asked more still stopped same going reply result is moves sizes ready call ok err =
+    line_replied a b v u w asked reply result is (same_done a v u asked more moves still) (same_stands a v u asked more moves b stopped same still)
+    sizes ready (ap (λ (m : Mounted). m.is_stopped) same ∙ going) (same_goes a b stopped same) call ok err
+
+-- a read in which a disk failed
+pub read_struck : (a b : Mounted) (v u : View) (block : ℕ) (stopped : Bool) → b ≡ record a { is_stopped = stopped } → (denied : Denied)
+    → Moves v u Same Same → ((e : ℕ) → u.sizes e ≡ v.sizes e) → IsReady b u → HasRisen a (Array denied) v u
+    → AnswersLine a b (Err (Array denied)) (Read block) v u
+read_struck a b v u block stopped same denied moves sizes ready risen =
+    line_struck a b v u (Read block) denied (same_struck a v u (Read block) refl moves denied) sizes ready (same_goes a b stopped same) risen
+
+-- no call at all
+pub no_call : (v : View) → Moves v v Same Same
+no_call v = no_moves v Same Same (λ x was. refl)
+
+-- The line ends the session.
+pub line_quits : (a : Mounted) (v : View) → IsReady a v → a.is_stopped ≡ false → AnswersLine a a (Ok Quit) Q v v
+line_quits a v ready going = record {
+  steps = nothing_done v (Answers a v Q) (HasAnswered a v (Ok Quit) Q) (λ x was s stands. record { ends = refl; said = refl; holds = holds_own a s x.disks (stands x was) });
+  stands = λ s stands. stands;
+  going = going;
+  ready = ready;
+  goes_on = record { g = refl; lost = refl; rebuilt = refl };
+  cause = tt;
+  sizes = λ e. refl;
+}
+
+-- a refused write is replied to so,
+pub refused_write : (a : Mounted) (v : View) (asked : Request) (written : Result ℕ Denied) (why : Refusal) → written ≡ Err (Refused why)
+    → (IsTrue v.tells → (s : State) → Always v (StandsFor a s) → WriteReplies written ((step a.g).reply s asked))
+    → IsTrue v.tells → (s : State) → Always v (StandsFor a s) → (step a.g).reply s asked ≡ No why
+refused_write a v asked written why is replies told s stands = subst (λ r. WriteReplies r ((step a.g).reply s asked)) is (replies told s stands)
+
+-- and a refused read
+pub refused_read : (a : Mounted) (v : View) (asked : Request) {T : Type 0} (read : Result T Denied) (bytes : List ℕ) (why : Refusal) → read ≡ Err (Refused why)
+    → (IsTrue v.tells → (s : State) → Always v (StandsFor a s) → ReadReplies read bytes ((step a.g).reply s asked))
+    → IsTrue v.tells → (s : State) → Always v (StandsFor a s) → (step a.g).reply s asked ≡ No why
+refused_read a v asked read bytes why is replies told s stands = subst (λ r. ReadReplies r bytes ((step a.g).reply s asked)) is (replies told s stands)
+
+-- neither is a fault
+pub refused_going : {T : Type 0} {call : Result T Denied} {why : Refusal} (before : Bool) → call ≡ Err (Refused why) → before ≡ false → (before || is_fault call) ≡ false
+refused_going true is going = absurd (cc going)
+refused_going false is going = ap is_fault is
+
+-- a buffer that is filled whole
+pub filled_whole : (n : ℕ) (front behind : List ℕ) → length front ≡ n → take n (front ++ behind) ≡ front
+filled_whole n front behind long = subst (λ k. take k (front ++ behind) ≡ front) long (take-append_seam front behind)
+
+-- The line has no form.
+pub bad_replied : (a : Mounted) (v w : View) (result : Result Next SessionFault) → IsReady a v → a.is_stopped ≡ false
+    → Says (reply_text (No NoLine)) result v w → IfOk result (λ next. next ≡ More) → IfErr result (λ fault. fault ≡ WriteFault)
+    → AnswersLine a a result Bad v w
+bad_replied a v w result ready going call ok err = same_replied a a v v w Bad refl (λ s. refl) a.is_stopped refl going (No NoLine) result
+    (λ told s stands. refl) (no_call v) (λ e. refl) ready call ok err

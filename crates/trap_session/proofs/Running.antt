@@ -1,0 +1,158 @@
+-- The loop over lines, over a mounted array: how its run of calls begins, goes on and stops.
+use Rattle.std.proofs.Common.{◌≡◌, ℕ, ◌<◌, List, [], ◌∷◌, ◌++◌, length, drop, Some, Result, Ok, Err, OnOk, IsErr, IsErrAnd, IfErr, refl, ap, subst}
+use Rattle.trap_bank.specs.Disks.{Contents, View}
+use Rattle.trap_bank.specs.Calls.{MayLeave}
+use Rattle.trap_bank.specs.Steps.{Steps, Always}
+use Rattle.trap_bank.specs.Stream.{Stream}
+use Rattle.trap_bank.proofs.Moves.{then_, weaken, nothing_done}
+use Rattle.trap_model.specs.ArrayStep.{step}
+use Rattle.trap_model.specs.declared.numbers.Geometry.{Geometry}
+use Rattle.trap_model.specs.declared.history.State.{State}
+use Rattle.trap_script.specs.Lines.{lines, line_feeds, request_of, HasNoFeed}
+use Rattle.trap_script.specs.Walk.{state_after}
+use Rattle.trap_array.specs.Calls.{Mounted, StandsFor, GoesOn}
+use Rattle.trap_session.specs.Store.{array_store, Answering, Served, HasRisen}
+use Rattle.trap_session.specs.Answers.{Answers, HasAnswered, AnswersLine}
+use Rattle.trap_session.specs.Serving.{Serves, HasStopped, StopsAs, StopsBy, StopsAtPort}
+use Rattle.trap_session.specs.declared.outcome.Next.{Next}
+use Rattle.trap_session.specs.declared.outcome.Next.TheVariants.{More, Quit}
+use Rattle.trap_session.specs.declared.outcome.Ended.{Ended}
+use Rattle.trap_session.specs.declared.outcome.SessionFault.{SessionFault}
+use Rattle.trap_session.specs.declared.outcome.SessionFault.TheVariants.{Array, ReadFault, WriteFault, TooLong}
+use Rattle.trap_session.proofs.Walking.{Walked, walk_start}
+use Rattle.trap_session.proofs.Replying.{holds_own}
+use Rattle.trap_session.proofs.Arrays.{array_answers, array_torn, answering_first, served_first, risen_first, goes_then}
+use Rattle.trap_session.proofs.Stopping.{part_line, more_line, more_state, quit_line, fault_line, part_last, done_last, fault_last}
+
+-- The lines so far were answered, and the array's state turned so.
+pub record WalkedTo (a : Mounted) (s : State) (input passed : List ℕ) (turn : State → State) (old now : Contents) : Type 0 where
+  pub walked : Walked (array_store a) s input passed old now
+  pub state_ : state_after (step a.g) s (lines a.g.block input) (line_feeds passed) ≡ turn s
+
+-- the same, whatever state the array stood for on entry
+abbrev pub Walks : Mounted → View → Stream → List ℕ → (State → State) → Contents → Contents → Type 0
+Walks a v from passed turn old now = (s : State) → Always v (StandsFor a s) → (input : List ℕ) → from.left ≡ Some input
+    → WalkedTo a s input passed turn old now
+
+-- whatever state the array stood for on entry, it stands for the turned one
+abbrev pub Turns : Mounted → Mounted → View → View → (State → State) → Type 0
+Turns a b v w turn = (s : State) → Always v (StandsFor a s) → Always w (StandsFor b (turn s))
+
+-- what an Ok says
+pub on_ok : {T E P : Type 0} {r : Result T E} {v : T} → r ≡ Ok v → OnOk r P → P
+on_ok {P = P} is holds = subst (λ r. OnOk r P) is holds
+
+module _ (a : Mounted) (v : View) (from : Stream) where
+  pub run_begins : Steps v v (Serves a v from) (Walks a v from [] (λ s. s))
+  run_begins = nothing_done v (Serves a v from) (Walks a v from [] (λ s. s))
+      (λ x was s stands input known. record { walked = walk_start (array_store a) s input x (holds_own a s x.disks (stands x was)); state_ = refl })
+
+  module _ (b : Mounted) (w : View) (passed : List ℕ) (turn : State → State) (goes : GoesOn a b) (turns : Turns a b v w turn)
+      (steps : Steps v w (Serves a v from) (Walks a v from passed turn)) where
+    -- it stops without another call
+    pub run_ends : (result : Result Ended SessionFault) (to : Stream)
+        → ((s : State) (input : List ℕ) → from.left ≡ Some input → (x y : Contents) → Walked (array_store a) s input passed x y → StopsAs (array_store a) result s input x y from to)
+        → Steps v w (Serves a v from) (HasStopped a v result from to)
+    run_ends result to stops = weaken v w (Serves a v from) (Walks a v from passed turn) (Serves a v from) (HasStopped a v result from to) steps
+        (λ x y was part. part)
+        (λ x y was left walks s stands input known. stops s input known x y (walks s stands input known).walked)
+
+    module _ (c : Mounted) (u : View) (line : List ℕ) (none : HasNoFeed line) (next : Result Next SessionFault)
+        (answers : AnswersLine b c next (request_of b.g.block line) w u) where
+      asked_first : AnswersLine b c next (request_of a.g.block line) w u
+      asked_first = subst (λ (g : Geometry). AnswersLine b c next (request_of g.block line) w u) goes.g answers
+
+      answering_now : (s : State) → Always v (StandsFor a s) → (y z : Contents) → Answers b w (request_of a.g.block line) y z
+          → Answering (array_store a) (turn s) (request_of a.g.block line) y z
+      answering_now s stands y z answering = answering_first a b goes (turn s) (request_of a.g.block line) y z (answering (turn s) (turns s stands))
+
+      served_now : (s : State) → Always v (StandsFor a s) → (y z : Contents) → HasAnswered b w next (request_of a.g.block line) y z
+          → Served (array_store a) next (turn s) (request_of a.g.block line) y z
+      served_now s stands y z served = served_first a b goes (turn s) (request_of a.g.block line) y z next (served (turn s) (turns s stands))
+
+      pub goes_further : GoesOn a c
+      goes_further = goes_then goes answers.goes_on
+
+      pub risen : (fault : SessionFault) → next ≡ Err fault → HasRisen a fault v u
+      risen fault is = risen_first a b goes v w u steps.faults steps.port_faults fault (subst (λ r. IfErr r (λ f. HasRisen b f w u)) is answers.cause)
+
+      -- after another line, whatever it does
+      after_line : (After : Contents → Contents → Type 0)
+          → ((s : State) (input : List ℕ) → from.left ≡ Some input → (x y z : Contents) → WalkedTo a s input passed turn x y
+          → Answering (array_store a) (turn s) (request_of a.g.block line) y z → StopsAtPort (array_store a) s input x z)
+          → ((x y z : Contents) → MayLeave v x → Walks a v from passed turn x y → HasAnswered b w next (request_of a.g.block line) y z → After x z)
+          → Steps v u (Serves a v from) After
+      after_line After part at_end = then_ v w u (Serves a v from) (Walks a v from passed turn) (Answers b w (request_of a.g.block line)) (HasAnswered b w next (request_of a.g.block line))
+          (Serves a v from) After steps asked_first.steps
+          (λ x y was some. some)
+          (λ x y z was walks mid answering s stands input known. part s input known x y z (walks s stands input known) (answering_now s stands y z answering))
+          (λ x y z was walks mid served. at_end x y z was walks served)
+
+      stopped : (result : Result Ended SessionFault) (to : Stream)
+          → ((s : State) (input : List ℕ) → from.left ≡ Some input → (x y z : Contents) → WalkedTo a s input passed turn x y
+          → Served (array_store a) next (turn s) (request_of a.g.block line) y z → StopsAs (array_store a) result s input x z from to)
+          → (x y z : Contents) → MayLeave v x → Walks a v from passed turn x y → HasAnswered b w next (request_of a.g.block line) y z → HasStopped a v result from to x z
+      stopped result to stops x y z was walks served s stands input known = stops s input known x y z (walks s stands input known) (served_now s stands y z served)
+
+      -- a line with a line feed
+      module _ (here : (input : List ℕ) → from.left ≡ Some input → (rest : List ℕ) × (drop (length passed) input ≡ line ++ 10 ∷ rest)) where
+        line_part : (s : State) (input : List ℕ) → from.left ≡ Some input → (x y z : Contents) → WalkedTo a s input passed turn x y
+            → Answering (array_store a) (turn s) (request_of a.g.block line) y z → StopsAtPort (array_store a) s input x z
+        line_part s input known x y z walks answering = let at = here input known in
+            part_line (array_store a) (array_answers a) (array_torn a) x y z s input passed (turn s) walks.walked walks.state_ line none at.0 at.1 answering
+
+        pub line_more : next ≡ Ok More → Steps v u (Serves a v from) (Walks a v from (passed ++ (line ++ 10 ∷ [])) (λ s. (step a.g).next (turn s) (request_of a.g.block line)))
+        line_more is = after_line (Walks a v from (passed ++ (line ++ 10 ∷ [])) (λ s. (step a.g).next (turn s) (request_of a.g.block line))) line_part
+            (λ x y z was walks served s stands input known.
+            let at = here input known in
+            let walk = walks s stands input known in
+            let more = subst (λ r. Served (array_store a) r (turn s) (request_of a.g.block line) y z) is (served_now s stands y z served) in
+            record {
+              walked = more_line (array_store a) (array_answers a) (array_torn a) x y z s input passed (turn s) walk.walked walk.state_ line none at.0 at.1 more;
+              state_ = more_state (array_store a) (array_answers a) (array_torn a) x y z s input passed (turn s) walk.walked walk.state_ line none at.0 at.1 more;
+            })
+
+        pub line_turns : next ≡ Ok More → Turns a c v u (λ s. (step a.g).next (turn s) (request_of a.g.block line))
+        line_turns is s stands = subst (λ (g : Geometry). Always u (StandsFor c ((step g).next (turn s) (request_of a.g.block line)))) goes.g
+            (on_ok is asked_first.stands (turn s) (turns s stands))
+
+        pub line_quit : (to : Stream) (ended : Ended) → next ≡ Ok Quit → Steps v u (Serves a v from) (HasStopped a v (Ok ended) from to)
+        line_quit to ended is = after_line (HasStopped a v (Ok ended) from to) line_part (stopped (Ok ended) to (λ s input known x y z walks served.
+            let at = here input known in
+            quit_line (array_store a) (array_answers a) (array_torn a) x y z s input passed (turn s) walks.walked walks.state_ line none at.0 at.1
+            (subst (λ r. Served (array_store a) r (turn s) (request_of a.g.block line) y z) is served)))
+
+        pub line_fault : (to : Stream) (fault : SessionFault) → next ≡ Err fault → Steps v u (Serves a v from) (HasStopped a v (Err fault) from to)
+        line_fault to fault is = after_line (HasStopped a v (Err fault) from to) line_part (stopped (Err fault) to (λ s input known x y z walks served.
+            let at = here input known in
+            fault_line (array_store a) (array_answers a) (array_torn a) x y z s input passed (turn s) walks.walked walks.state_ line none at.0 at.1 from to fault
+            (subst (λ r. Served (array_store a) r (turn s) (request_of a.g.block line) y z) is served)))
+
+      -- the last line, without one
+      module _ (here : (input : List ℕ) → from.left ≡ Some input → drop (length passed) input ≡ line) (some : 0 < length line) where
+        last_part : (s : State) (input : List ℕ) → from.left ≡ Some input → (x y z : Contents) → WalkedTo a s input passed turn x y
+            → Answering (array_store a) (turn s) (request_of a.g.block line) y z → StopsAtPort (array_store a) s input x z
+        last_part s input known x y z walks answering =
+            part_last (array_store a) (array_answers a) (array_torn a) x y z s input passed (turn s) walks.walked walks.state_ line none (here input known) some answering
+
+        pub last_done : (to : Stream) (ended : Ended) (way : Next) → next ≡ Ok way → Steps v u (Serves a v from) (HasStopped a v (Ok ended) from to)
+        last_done to ended way is = after_line (HasStopped a v (Ok ended) from to) last_part (stopped (Ok ended) to (λ s input known x y z walks served.
+            done_last (array_store a) (array_answers a) (array_torn a) x y z s input passed (turn s) walks.walked walks.state_ line none (here input known) some way
+            (subst (λ r. Served (array_store a) r (turn s) (request_of a.g.block line) y z) is served)))
+
+        pub last_fault : (to : Stream) (fault : SessionFault) → next ≡ Err fault → Steps v u (Serves a v from) (HasStopped a v (Err fault) from to)
+        last_fault to fault is = after_line (HasStopped a v (Err fault) from to) last_part (stopped (Err fault) to (λ s input known x y z walks served.
+            fault_last (array_store a) (array_answers a) (array_torn a) x y z s input passed (turn s) walks.walked walks.state_ line none (here input known) some from to fault
+            (subst (λ r. Served (array_store a) r (turn s) (request_of a.g.block line) y z) is served)))
+
+-- why a session stops so, where a line had a fault
+pub fault_stops : (a : Mounted) (v u : View) (from to : Stream) (fault : SessionFault) → HasRisen a fault v u → StopsBy a (Err fault) v u from to
+fault_stops a v u from to (Array denied) risen = risen
+fault_stops a v u from to ReadFault risen = absurd risen
+fault_stops a v u from to WriteFault risen = risen
+fault_stops a v u from to TooLong risen = absurd risen
+
+-- a fault that is handed on
+pub err_is : {T E : Type 0} (r : Result T E) (fault : E) → IsErr r × IsErrAnd r (λ e. e ≡ fault) → r ≡ Err fault
+err_is (Ok value) fault both = absurd (cc both.0)
+err_is (Err e) fault both = ap Err both.1

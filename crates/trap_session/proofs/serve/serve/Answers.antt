@@ -1,0 +1,234 @@
+use Rattle.std.proofs.Common.{◌≡◌, inl, ℕ, ◌<◌, List, [], ◌∷◌, ◌++◌, length, Some, true, false, Ok, Err, refl, sym, ap, subst, ◌∙◌, arith}
+use Rattle.std.proofs.lemmas.List.Elements.{All-nil}
+use Rattle.trap_lines.specs.Reader.{to_come, Finds, FindsNone}
+use Rattle.trap_lines.proofs.Passing.{passes_nothing, passes_trans}
+use Rattle.trap_session.specs.declared.outcome.SessionFault.TheVariants.{ReadFault, TooLong}
+use Rattle.trap_session.specs.declared.outcome.Ended.TheVariants as ended
+use Rattle.trap_bank.specs.Steps.{Steps}
+use Rattle.trap_model.specs.ArrayStep.{step}
+use Rattle.trap_model.specs.declared.numbers.Geometry.{Geometry}
+use Rattle.trap_script.specs.Lines.{request_of, goes_on, is_line_feed}
+use Rattle.trap_session.specs.Store.{array_store}
+use Rattle.trap_session.specs.Serving.{Serves, HasStopped, StopsBy}
+use Rattle.trap_session.proofs.Arrays.{goes_nowhere, goes_then}
+use Rattle.trap_session.proofs.Stopping.{line_at, last_line, stops_reading, stops_end, consumed, one_more_line, took_quit}
+use Rattle.trap_session.proofs.Quits.{ahead_start, ahead_on, ends_unquit, more_goes}
+use Rattle.trap_session.proofs.Running.{run_begins, run_ends, line_more, line_turns, line_quit, line_fault, last_done, last_fault, risen, fault_stops, err_is, on_ok}
+use Rattle.trap_session.proofs.serve.serve.Goals as goal
+
+pub lines-init : goal.lines-init
+lines-init g c = (
+  [],
+  passes_nothing c.args.reader.now (g.S.Source.stream c.args.source.now),
+  inl refl,
+  λ some. absurd (omega (arith, some, c.requires.untaken)),
+  λ e. refl,
+  goes_nowhere c.args.array.now,
+  c.requires.going,
+  c.requires.ready,
+  refl,
+  λ input left. ahead_start c.args.array.now.g.block input,
+  (λ s. s, λ s stands. stands, run_begins c.args.array.now (g.B.Bank.view c.args.bank.now) (g.S.Source.stream c.args.source.now)),
+)
+
+pub returns-in-Err-Source-clause-stops : goal.returns-in-Err-Source-clause-stops
+returns-in-Err-Source-clause-stops g c =
+    let view = g.B.Bank.view in
+    let stream = g.S.Source.stream in
+    let inv = c.lines.invariant in
+    let r' = c.next.new.self in
+    let none = subst (λ f. FindsNone f c.lines.reader r' (stream c.lines.source) (stream c.next.new.source)) c.in-Err-Source.field-0-is c.in-Err-Source.ensures.err in
+    run_ends c.args.array.now (view c.args.bank.now) (stream c.args.source.now) c.lines.array (view c.lines.bank) inv.0 inv.10.0 inv.5 inv.10.1 inv.10.2
+    (Err ReadFault) (stream c.next.new.source)
+    (λ s input left x y walked. stops_reading (array_store c.args.array.now) s input inv.0 none.0 x y
+    c.args.reader.now c.lines.reader r' (stream c.args.source.now) (stream c.lines.source) (stream c.next.new.source)
+    walked c.requires.none c.requires.untaken left inv.1 none.2 none.1 none.3.0 (omega (arith, r'.within, r'.chunk.ok.0)))
+
+pub returns-in-Err-TooLong-clause-stops : goal.returns-in-Err-TooLong-clause-stops
+returns-in-Err-TooLong-clause-stops g c =
+    let view = g.B.Bank.view in
+    let stream = g.S.Source.stream in
+    let inv = c.lines.invariant in
+    let r' = c.next.new.self in
+    let none = subst (λ f. FindsNone f c.lines.reader r' (stream c.lines.source) (stream c.next.new.source)) c.in-Err-TooLong.field-0-is c.in-Err-TooLong.ensures.err in
+    run_ends c.args.array.now (view c.args.bank.now) (stream c.args.source.now) c.lines.array (view c.lines.bank) inv.0 inv.10.0 inv.5 inv.10.1 inv.10.2
+    (Err TooLong) (stream c.next.new.source)
+    (λ s input left x y walked. stops_reading (array_store c.args.array.now) s input inv.0 none.0 x y
+    c.args.reader.now c.lines.reader r' (stream c.args.source.now) (stream c.lines.source) (stream c.next.new.source)
+    walked c.requires.none c.requires.untaken left inv.1 none.2 none.1 none.3.0 (omega (arith, r'.within, r'.chunk.ok.0)))
+
+pub returns-in-Ok-End-clause-stops : goal.returns-in-Ok-End-clause-stops
+returns-in-Ok-End-clause-stops g c =
+    let view = g.B.Bank.view in
+    let stream = g.S.Source.stream in
+    let inv = c.lines.invariant in
+    let r' = c.next.new.self in
+    let end = subst (λ f. Finds f c.lines.reader r' (stream c.lines.source) (stream c.next.new.source)) c.in-Ok-End.field-0-is c.in-Ok-End.ensures.found in
+    run_ends c.args.array.now (view c.args.bank.now) (stream c.args.source.now) c.lines.array (view c.lines.bank) inv.0 inv.10.0 inv.5 inv.10.1 inv.10.2
+    (Ok ended.Input) (stream c.next.new.source)
+    (λ s input left x y walked. stops_end (array_store c.args.array.now) s input inv.0 x y walked
+    (last_line c.args.reader.now c.lines.reader (stream c.args.source.now) (stream c.lines.source) c.requires.none input left inv.0 inv.1
+    r' (stream c.next.new.source) [] end.0 end.1.0))
+
+pub returns-in_err-answer_found-in-Ok-Last-clause-stops : goal.returns-in_err-answer_found-in-Ok-Last-clause-stops
+returns-in_err-answer_found-in-Ok-Last-clause-stops g c =
+    let view = g.B.Bank.view in
+    let stream = g.S.Source.stream in
+    let inv = c.lines.invariant in
+    let r' = c.next.new.self in
+    let found = subst (λ f. Finds f c.lines.reader r' (stream c.lines.source) (stream c.next.new.source)) c.in-Ok-Last.field-0-is c.in-Ok-Last.ensures.found in
+    let here = λ (input : List ℕ) (left : (stream c.args.source.now).left ≡ Some input). last_line c.args.reader.now c.lines.reader (stream c.args.source.now) (stream c.lines.source) c.requires.none input left inv.0 inv.1
+    r' (stream c.next.new.source) found.0 found.2 found.4.0 in
+    let some : 0 < length found.0 = omega (arith, found.3, found.1.long) in
+    let fault = c.in_err-answer_found-in-Ok-Last.field-0.0 in
+    subst (λ r. Steps (view c.args.bank.now) (view c.answer_found.new.bank) (Serves c.args.array.now (view c.args.bank.now) (stream c.args.source.now))
+    (HasStopped c.args.array.now (view c.args.bank.now) r (stream c.args.source.now) (stream c.next.new.source)))
+    (sym (err_is c.from_residual.result fault c.from_residual.ensures))
+    (last_fault c.args.array.now (view c.args.bank.now) (stream c.args.source.now) c.lines.array (view c.lines.bank) inv.0 inv.10.0 inv.5 inv.10.1 inv.10.2
+    c.answer_found.new.array (view c.answer_found.new.bank) found.0 found.1.no_feed c.answer_found.result (c.answer_found.ensures.answers found.0 found.1)
+    here some (stream c.next.new.source) fault c.in_err-answer_found-in-Ok-Last.was)
+
+pub returns-in_err-answer_found-in-Ok-Last-clause-cause : goal.returns-in_err-answer_found-in-Ok-Last-clause-cause
+returns-in_err-answer_found-in-Ok-Last-clause-cause g c =
+    let view = g.B.Bank.view in
+    let stream = g.S.Source.stream in
+    let inv = c.lines.invariant in
+    let r' = c.next.new.self in
+    let found = subst (λ f. Finds f c.lines.reader r' (stream c.lines.source) (stream c.next.new.source)) c.in-Ok-Last.field-0-is c.in-Ok-Last.ensures.found in
+    let here = λ (input : List ℕ) (left : (stream c.args.source.now).left ≡ Some input). last_line c.args.reader.now c.lines.reader (stream c.args.source.now) (stream c.lines.source) c.requires.none input left inv.0 inv.1
+    r' (stream c.next.new.source) found.0 found.2 found.4.0 in
+    let some : 0 < length found.0 = omega (arith, found.3, found.1.long) in
+    let fault = c.in_err-answer_found-in-Ok-Last.field-0.0 in
+    subst (λ r. StopsBy c.args.array.now r (view c.args.bank.now) (view c.answer_found.new.bank) (stream c.args.source.now) (stream c.next.new.source))
+    (sym (err_is c.from_residual.result fault c.from_residual.ensures))
+    (fault_stops c.args.array.now (view c.args.bank.now) (view c.answer_found.new.bank) (stream c.args.source.now) (stream c.next.new.source) fault
+    (risen c.args.array.now (view c.args.bank.now) (stream c.args.source.now) c.lines.array (view c.lines.bank) inv.0 inv.10.0 inv.5 inv.10.1 inv.10.2
+    c.answer_found.new.array (view c.answer_found.new.bank) found.0 found.1.no_feed c.answer_found.result (c.answer_found.ensures.answers found.0 found.1) fault c.in_err-answer_found-in-Ok-Last.was))
+
+pub returns-in_err-answer_found-in-Ok-Line-clause-stops : goal.returns-in_err-answer_found-in-Ok-Line-clause-stops
+returns-in_err-answer_found-in-Ok-Line-clause-stops g c =
+    let view = g.B.Bank.view in
+    let stream = g.S.Source.stream in
+    let inv = c.lines.invariant in
+    let r' = c.next.new.self in
+    let found = subst (λ f. Finds f c.lines.reader r' (stream c.lines.source) (stream c.next.new.source)) c.in-Ok-Line.field-0-is c.in-Ok-Line.ensures.found in
+    let here = λ (input : List ℕ) (left : (stream c.args.source.now).left ≡ Some input). line_at c.args.reader.now c.lines.reader (stream c.args.source.now) (stream c.lines.source) c.requires.none input left inv.0 inv.1
+    r' (stream c.next.new.source) found.0 found.2 in
+    let fault = c.in_err-answer_found-in-Ok-Line.field-0.0 in
+    subst (λ r. Steps (view c.args.bank.now) (view c.answer_found-in-Ok-Line.new.bank) (Serves c.args.array.now (view c.args.bank.now) (stream c.args.source.now))
+    (HasStopped c.args.array.now (view c.args.bank.now) r (stream c.args.source.now) (stream c.next.new.source)))
+    (sym (err_is c.from_residual-in_err-answer_found-in-Ok-Line.result fault c.from_residual-in_err-answer_found-in-Ok-Line.ensures))
+    (line_fault c.args.array.now (view c.args.bank.now) (stream c.args.source.now) c.lines.array (view c.lines.bank) inv.0 inv.10.0 inv.5 inv.10.1 inv.10.2
+    c.answer_found-in-Ok-Line.new.array (view c.answer_found-in-Ok-Line.new.bank) found.0 found.1.no_feed c.answer_found-in-Ok-Line.result (c.answer_found-in-Ok-Line.ensures.answers found.0 found.1)
+    here (stream c.next.new.source) fault c.in_err-answer_found-in-Ok-Line.was)
+
+pub returns-in_err-answer_found-in-Ok-Line-clause-cause : goal.returns-in_err-answer_found-in-Ok-Line-clause-cause
+returns-in_err-answer_found-in-Ok-Line-clause-cause g c =
+    let view = g.B.Bank.view in
+    let stream = g.S.Source.stream in
+    let inv = c.lines.invariant in
+    let r' = c.next.new.self in
+    let found = subst (λ f. Finds f c.lines.reader r' (stream c.lines.source) (stream c.next.new.source)) c.in-Ok-Line.field-0-is c.in-Ok-Line.ensures.found in
+    let here = λ (input : List ℕ) (left : (stream c.args.source.now).left ≡ Some input). line_at c.args.reader.now c.lines.reader (stream c.args.source.now) (stream c.lines.source) c.requires.none input left inv.0 inv.1
+    r' (stream c.next.new.source) found.0 found.2 in
+    let fault = c.in_err-answer_found-in-Ok-Line.field-0.0 in
+    subst (λ r. StopsBy c.args.array.now r (view c.args.bank.now) (view c.answer_found-in-Ok-Line.new.bank) (stream c.args.source.now) (stream c.next.new.source))
+    (sym (err_is c.from_residual-in_err-answer_found-in-Ok-Line.result fault c.from_residual-in_err-answer_found-in-Ok-Line.ensures))
+    (fault_stops c.args.array.now (view c.args.bank.now) (view c.answer_found-in-Ok-Line.new.bank) (stream c.args.source.now) (stream c.next.new.source) fault
+    (risen c.args.array.now (view c.args.bank.now) (stream c.args.source.now) c.lines.array (view c.lines.bank) inv.0 inv.10.0 inv.5 inv.10.1 inv.10.2
+    c.answer_found-in-Ok-Line.new.array (view c.answer_found-in-Ok-Line.new.bank) found.0 found.1.no_feed c.answer_found-in-Ok-Line.result (c.answer_found-in-Ok-Line.ensures.answers found.0 found.1) fault c.in_err-answer_found-in-Ok-Line.was))
+
+pub returns-in-Ok-Last-clause-stops : goal.returns-in-Ok-Last-clause-stops
+returns-in-Ok-Last-clause-stops g c =
+    let view = g.B.Bank.view in
+    let stream = g.S.Source.stream in
+    let inv = c.lines.invariant in
+    let r' = c.next.new.self in
+    let found = subst (λ f. Finds f c.lines.reader r' (stream c.lines.source) (stream c.next.new.source)) c.in-Ok-Last.field-0-is c.in-Ok-Last.ensures.found in
+    let here = λ (input : List ℕ) (left : (stream c.args.source.now).left ≡ Some input). last_line c.args.reader.now c.lines.reader (stream c.args.source.now) (stream c.lines.source) c.requires.none input left inv.0 inv.1
+    r' (stream c.next.new.source) found.0 found.2 found.4.0 in
+    let some : 0 < length found.0 = omega (arith, found.3, found.1.long) in
+    last_done c.args.array.now (view c.args.bank.now) (stream c.args.source.now) c.lines.array (view c.lines.bank) inv.0 inv.10.0 inv.5 inv.10.1 inv.10.2
+    c.answer_found.new.array (view c.answer_found.new.bank) found.0 found.1.no_feed c.answer_found.result (c.answer_found.ensures.answers found.0 found.1)
+    here some (stream c.next.new.source) ended.Input c.in_ok-answer_found-in-Ok-Last.field-0 c.in_ok-answer_found-in-Ok-Last.was
+
+pub returns-in-Quit-clause-stops : goal.returns-in-Quit-clause-stops
+returns-in-Quit-clause-stops g c =
+    let view = g.B.Bank.view in
+    let stream = g.S.Source.stream in
+    let inv = c.lines.invariant in
+    let r' = c.next.new.self in
+    let found = subst (λ f. Finds f c.lines.reader r' (stream c.lines.source) (stream c.next.new.source)) c.in-Ok-Line.field-0-is c.in-Ok-Line.ensures.found in
+    let here = λ (input : List ℕ) (left : (stream c.args.source.now).left ≡ Some input). line_at c.args.reader.now c.lines.reader (stream c.args.source.now) (stream c.lines.source) c.requires.none input left inv.0 inv.1
+    r' (stream c.next.new.source) found.0 found.2 in
+    line_quit c.args.array.now (view c.args.bank.now) (stream c.args.source.now) c.lines.array (view c.lines.bank) inv.0 inv.10.0 inv.5 inv.10.1 inv.10.2
+    c.answer_found-in-Ok-Line.new.array (view c.answer_found-in-Ok-Line.new.bank) found.0 found.1.no_feed c.answer_found-in-Ok-Line.result (c.answer_found-in-Ok-Line.ensures.answers found.0 found.1)
+    here (stream c.next.new.source) ended.Quit (c.in_ok-answer_found-in-Ok-Line.was ∙ ap Ok c.in-Quit.is)
+
+pub returns-in-Quit-clause-cause : goal.returns-in-Quit-clause-cause
+returns-in-Quit-clause-cause g c =
+    let view = g.B.Bank.view in
+    let stream = g.S.Source.stream in
+    let inv = c.lines.invariant in
+    let r' = c.next.new.self in
+    let found = subst (λ f. Finds f c.lines.reader r' (stream c.lines.source) (stream c.next.new.source)) c.in-Ok-Line.field-0-is c.in-Ok-Line.ensures.found in
+    let here = λ (input : List ℕ) (left : (stream c.args.source.now).left ≡ Some input). line_at c.args.reader.now c.lines.reader (stream c.args.source.now) (stream c.lines.source) c.requires.none input left inv.0 inv.1
+    r' (stream c.next.new.source) found.0 found.2 in
+    took_quit c.args.array.now.g.block c.args.reader.now c.lines.reader r' (stream c.args.source.now) (stream c.lines.source) (stream c.next.new.source) inv.0 found.0
+    c.requires.none c.requires.untaken (omega (arith, r'.within, r'.chunk.ok.0)) inv.2 inv.1 found.2 found.1.no_feed
+    (subst (λ (g : Geometry). goes_on (request_of g.block found.0) ≡ false) inv.5.g
+    ((c.answer_found-in-Ok-Line.ensures.quit found.0 found.1).0 (c.in_ok-answer_found-in-Ok-Line.was ∙ ap Ok c.in-Quit.is)))
+
+pub returns-in-Ok-End-clause-no_quit : goal.returns-in-Ok-End-clause-no_quit
+returns-in-Ok-End-clause-no_quit g c is input left =
+    let stream = g.S.Source.stream in
+    let inv = c.lines.invariant in
+    let r' = c.next.new.self in
+    let end = subst (λ f. Finds f c.lines.reader r' (stream c.lines.source) (stream c.next.new.source)) c.in-Ok-End.field-0-is c.in-Ok-End.ensures.found in
+    ends_unquit c.args.array.now.g.block input inv.0 [] (to_come c.lines.reader (stream c.lines.source))
+    (consumed c.args.reader.now c.lines.reader (stream c.args.source.now) (stream c.lines.source) c.requires.none input left inv.0 inv.1) (inv.9 input left)
+    (last_line c.args.reader.now c.lines.reader (stream c.args.source.now) (stream c.lines.source) c.requires.none input left inv.0 inv.1
+    r' (stream c.next.new.source) [] end.0 end.1.0) (All-nil (λ byte. is_line_feed byte ≡ false))
+
+pub returns-in-Ok-Last-clause-no_quit : goal.returns-in-Ok-Last-clause-no_quit
+returns-in-Ok-Last-clause-no_quit g c is input left =
+    let stream = g.S.Source.stream in
+    let inv = c.lines.invariant in
+    let r' = c.next.new.self in
+    let found = subst (λ f. Finds f c.lines.reader r' (stream c.lines.source) (stream c.next.new.source)) c.in-Ok-Last.field-0-is c.in-Ok-Last.ensures.found in
+    ends_unquit c.args.array.now.g.block input inv.0 found.0 (to_come c.lines.reader (stream c.lines.source))
+    (consumed c.args.reader.now c.lines.reader (stream c.args.source.now) (stream c.lines.source) c.requires.none input left inv.0 inv.1) (inv.9 input left)
+    (last_line c.args.reader.now c.lines.reader (stream c.args.source.now) (stream c.lines.source) c.requires.none input left inv.0 inv.1
+    r' (stream c.next.new.source) found.0 found.2 found.4.0) found.1.no_feed
+
+pub lines-preserved : goal.lines-preserved
+lines-preserved g c =
+    let view = g.B.Bank.view in
+    let stream = g.S.Source.stream in
+    let inv = c.lines.invariant in
+    let r' = c.next.new.self in
+    let found = subst (λ f. Finds f c.lines.reader r' (stream c.lines.source) (stream c.next.new.source)) c.in-Ok-Line.field-0-is c.in-Ok-Line.ensures.found in
+    let here = λ (input : List ℕ) (left : (stream c.args.source.now).left ≡ Some input). line_at c.args.reader.now c.lines.reader (stream c.args.source.now) (stream c.lines.source) c.requires.none input left inv.0 inv.1
+    r' (stream c.next.new.source) found.0 found.2 in
+    let answers = c.answer_found-in-Ok-Line.ensures.answers found.0 found.1 in
+    let is = c.in_ok-answer_found-in-Ok-Line.was ∙ ap Ok c.in-More.is in
+    let more = subst (λ (g : Geometry). goes_on (request_of g.block found.0) ≡ true) inv.5.g
+    (more_goes c.answer_found-in-Ok-Line.result (goes_on (request_of c.lines.array.g.block found.0)) is (c.answer_found-in-Ok-Line.ensures.quit found.0 found.1)) in (
+      inv.0 ++ (found.0 ++ 10 ∷ []),
+      passes_trans inv.1 found.2,
+      one_more_line inv.0 found.0,
+      λ some. found.3,
+      λ e. answers.sizes e ∙ inv.4 e,
+      goes_then inv.5 answers.goes_on,
+      on_ok is answers.going,
+      answers.ready,
+      c.answer_found-in-Ok-Line.ensures.same ∙ inv.8,
+      λ input left. ahead_on c.args.array.now.g.block input inv.0 found.0 (here input left).0 (inv.9 input left) (here input left).1 found.1.no_feed more,
+      (
+        λ s. (step c.args.array.now.g).next (inv.10.0 s) (request_of c.args.array.now.g.block found.0),
+        line_turns c.args.array.now (view c.args.bank.now) (stream c.args.source.now) c.lines.array (view c.lines.bank) inv.0 inv.10.0 inv.5 inv.10.1 inv.10.2
+            c.answer_found-in-Ok-Line.new.array (view c.answer_found-in-Ok-Line.new.bank) found.0 found.1.no_feed c.answer_found-in-Ok-Line.result (c.answer_found-in-Ok-Line.ensures.answers found.0 found.1) here is,
+        line_more c.args.array.now (view c.args.bank.now) (stream c.args.source.now) c.lines.array (view c.lines.bank) inv.0 inv.10.0 inv.5 inv.10.1 inv.10.2
+            c.answer_found-in-Ok-Line.new.array (view c.answer_found-in-Ok-Line.new.bank) found.0 found.1.no_feed c.answer_found-in-Ok-Line.result (c.answer_found-in-Ok-Line.ensures.answers found.0 found.1) here is,
+      ),
+    )

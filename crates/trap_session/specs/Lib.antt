@@ -1,0 +1,4 @@
+pub mod Store
+pub mod Forms
+pub mod Answers
+pub mod Serving

@@ -1,0 +1,103 @@
+-- How a session stops, and what a crash leaves while it goes on.
+use Rattle.std.specs.Prelude.{◌≡◌, ◌⊎◌, ℕ, ◌+◌, ◌-◌, ◌^◌, List, [], ◌∷◌, ◌++◌, length, take, drop, Some, true, false, Result, Ok, Err}
+use Rattle.std.specs.Io.KnownBytes.{Consumes}
+use Rattle.trap_bank.specs.Faults.{Rose}
+use Rattle.trap_bank.specs.Disks.{Contents, View}
+use Rattle.trap_bank.specs.Stream.{Stream}
+use Rattle.trap_model.specs.declared.request.Request.{Request}
+use Rattle.trap_script.specs.Lines.{lines, line_feeds, request_of, goes_on, HasNoFeed}
+use Rattle.trap_script.specs.Walk.{state_after, first_texts, Answered, AnsweredAll, AnsweredPart}
+use Rattle.trap_bank.specs.Steps.{Always}
+use Rattle.trap_model.specs.declared.history.State.{State}
+use Rattle.trap_array.specs.Calls.{Mounted, StandsFor}
+use Rattle.trap_session.specs.Store.{Store, array_store, HasRisen}
+use Rattle.trap_session.specs.declared.outcome.Ended.{Ended}
+use Rattle.trap_session.specs.declared.outcome.Ended.TheVariants as ended
+use Rattle.trap_session.specs.declared.outcome.SessionFault.{SessionFault}
+use Rattle.trap_session.specs.declared.outcome.SessionFault.TheVariants.{Array, ReadFault, WriteFault, TooLong}
+
+-- the bytes that were taken from the input
+abbrev pub bytes_taken : List ℕ → Stream → Stream → List ℕ
+bytes_taken input from to = take (to.given - from.given) input
+
+-- the replies to all lines were said
+abbrev pub StopsDone : {S : Type 0} → Store S → S → List ℕ → Contents → Contents → Type 0
+StopsDone store s input old now =
+    AnsweredAll store.machine (store.holds now.disks) s (lines store.block input) old.said now.said
+
+-- the replies to the first j lines were said
+abbrev pub StopsAfter : {S : Type 0} → Store S → S → List ℕ → ℕ → Contents → Contents → Type 0
+StopsAfter store s input j old now =
+    Answered store.machine (store.holds now.disks) s (lines store.block input) j old.said now.said
+
+-- the replies to the lines that were taken whole were said
+abbrev pub StopsReading : {S : Type 0} → Store S → S → List ℕ → Contents → Contents → Stream → Stream → Type 0
+StopsReading store s input old now from to =
+    StopsAfter store s input (line_feeds (bytes_taken input from to)) old now
+
+-- a part of the replies was said
+abbrev pub StopsAtPort : {S : Type 0} → Store S → S → List ℕ → Contents → Contents → Type 0
+StopsAtPort store s input old now =
+    AnsweredPart store.machine (store.holds now.disks) s (lines store.block input) old.said now.said
+
+-- the replies to the first j lines were said, and a disk failed in the next one
+pub record StopsTorn {S : Type 0} (store : Store S) (s : S) (input : List ℕ) (old now : Contents) : Type 0 where
+  pub j : ℕ
+  pub asked : Request
+  pub rest : List Request
+  pub next : drop j (lines store.block input) ≡ asked ∷ rest
+  pub said : now.said ≡ old.said ++ first_texts store.machine s (lines store.block input) j
+  pub torn : store.torn now.disks (state_after store.machine s (lines store.block input) j) asked
+
+-- What was said, and what the disks hold, when a session stops so.
+abbrev pub StopsAs : {S : Type 0} → Store S → Result Ended SessionFault → S → List ℕ → Contents → Contents → Stream → Stream → Type 0
+StopsAs store (Ok ended) s input old now from to = StopsDone store s input old now
+StopsAs store (Err (Array denied)) s input old now from to = StopsTorn store s input old now
+StopsAs store (Err ReadFault) s input old now from to = StopsReading store s input old now from to
+StopsAs store (Err WriteFault) s input old now from to = StopsAtPort store s input old now
+StopsAs store (Err TooLong) s input old now from to = StopsReading store s input old now from to
+
+-- nothing, or bytes up to a line feed
+abbrev pub AreWholeLines : List ℕ → Type 0
+AreWholeLines bytes = (bytes ≡ []) ⊎ ((front : List ℕ) × (bytes ≡ front ++ 10 ∷ []))
+
+-- one of the bytes' whole lines is a `Q`
+pub record HasQuit (size : ℕ) (bytes : List ℕ) : Type 0 where
+  pub before : List ℕ
+  pub line : List ℕ
+  pub rest : List ℕ
+  pub parts : bytes ≡ before ++ (line ++ 10 ∷ rest)
+  pub whole : AreWholeLines before
+  pub no_feed : HasNoFeed line
+  pub quit : goes_on (request_of size line) ≡ false
+
+-- from the source came bytes with a `Q` among their lines
+pub record TookQuit (size : ℕ) (from to : Stream) : Type 0 where
+  pub bytes : List ℕ
+  pub taken : Consumes from.left to.left bytes
+  pub given : to.given ≡ from.given + length bytes
+  pub has_quit : HasQuit size bytes
+
+-- where the input is known, none of its whole lines is a `Q`
+abbrev pub HadNoQuit : ℕ → Stream → Type 0
+HadNoQuit size from = (input : List ℕ) → from.left ≡ Some input → HasQuit size input → ⊥
+
+-- why a session stops so
+abbrev pub StopsBy : Mounted → Result Ended SessionFault → View → View → Stream → Stream → Type 0
+StopsBy a (Ok ended.Quit) old new from to = TookQuit a.g.block from to
+StopsBy a (Ok ended.Input) old new from to = to.ended ≡ true
+StopsBy a (Err (Array denied)) old new from to = HasRisen a (Array denied) old new
+StopsBy a (Err ReadFault) old new from to = Rose from.faults to.faults
+StopsBy a (Err WriteFault) old new from to = HasRisen a WriteFault old new
+StopsBy a (Err TooLong) old new from to = (to.given ≡ from.given + 2 ^ 40) × (to.ended ≡ false)
+
+-- At any moment, where the array stood for a state on entry and the input is known: a part of the replies was said, and
+-- the disks hold the state after the requests whose replies were given, or after one more.
+abbrev pub Serves : Mounted → View → Stream → Contents → Contents → Type 0
+Serves a v from old new = (s : State) → Always v (StandsFor a s) → (input : List ℕ) → from.left ≡ Some input
+    → AnsweredPart (array_store a).machine ((array_store a).holds new.disks) s (lines a.g.block input) old.said new.said
+
+-- At its end, where the array stood for a state on entry and the input is known: the session stopped so.
+abbrev pub HasStopped : Mounted → View → Result Ended SessionFault → Stream → Stream → Contents → Contents → Type 0
+HasStopped a v result from to old new = (s : State) → Always v (StandsFor a s) → (input : List ℕ) → from.left ≡ Some input
+    → StopsAs (array_store a) result s input old new from to

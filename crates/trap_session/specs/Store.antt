@@ -1,0 +1,90 @@
+-- A store of states on disks, and what one line does to it and to the port.
+use Rattle.std.specs.Prelude.{◌≡◌, ◌⊎◌, ℕ, ◌++◌, true, false, Result, Ok, Err}
+use Rattle.trap_bank.specs.Faults.{Rose}
+use Rattle.trap_bank.specs.Disks.{Contents, Disks, View}
+use Rattle.trap_bank.specs.Calls.{SaysPart}
+use Rattle.trap_model.specs.Machine.{Machine}
+use Rattle.trap_model.specs.declared.request.Request.{Request}
+use Rattle.trap_script.specs.Lines.{goes_on}
+use Rattle.trap_script.specs.Replies.{reply_text}
+use Rattle.trap_model.specs.ArrayStep.{step}
+use Rattle.trap_model.specs.declared.history.State.{State}
+use Rattle.trap_array.specs.Calls.{Mounted, HoldsLike, MemberFails}
+use Rattle.trap_array.specs.declared.fault.Denied.TheVariants.{Refused, LogFault, MemberFault, Stopped}
+use Rattle.trap_session.specs.declared.outcome.Next.{Next}
+use Rattle.trap_session.specs.declared.outcome.Next.TheVariants.{More, Quit}
+use Rattle.trap_session.specs.declared.outcome.SessionFault.{SessionFault}
+use Rattle.trap_session.specs.declared.outcome.SessionFault.TheVariants.{Array, ReadFault, WriteFault, TooLong}
+
+-- a machine whose states stand on disks
+pub record Store (S : Type 0) : Type 1 where
+  pub machine : Machine S
+  -- the size of a block in bytes
+  pub block : ℕ
+  -- the disks hold the state
+  pub holds : Disks → S → Type 0
+  -- what the disks hold after one of them failed in the request
+  pub torn : Disks → S → Request → Type 0
+
+-- the reply was said, and the disks hold the state after the request
+pub record Replied {S : Type 0} (store : Store S) (s : S) (asked : Request) (old new : Contents) : Type 0 where
+  pub more : goes_on asked ≡ true
+  pub said : new.said ≡ old.said ++ reply_text (store.machine.reply s asked)
+  pub holds : store.holds new.disks (store.machine.next s asked)
+
+-- the port failed in the reply; the disks hold the state after the request
+pub record CutShort {S : Type 0} (store : Store S) (s : S) (asked : Request) (old new : Contents) : Type 0 where
+  pub more : goes_on asked ≡ true
+  pub part : SaysPart (reply_text (store.machine.reply s asked)) old new
+  pub holds : store.holds new.disks (store.machine.next s asked)
+
+-- a disk failed in the request, and nothing was said
+pub record Struck {S : Type 0} (store : Store S) (s : S) (asked : Request) (old new : Contents) : Type 0 where
+  pub more : goes_on asked ≡ true
+  pub said : new.said ≡ old.said
+  pub torn : store.torn new.disks s asked
+
+-- the request ends the session, and nothing was done
+pub record LeftAlone {S : Type 0} (store : Store S) (s : S) (asked : Request) (old new : Contents) : Type 0 where
+  pub ends : goes_on asked ≡ false
+  pub said : new.said ≡ old.said
+  pub holds : store.holds new.disks s
+
+-- what one line does, by its answer
+abbrev pub Served : {S : Type 0} → Store S → Result Next SessionFault → S → Request → Contents → Contents → Type 0
+Served store (Ok More) s asked old new = Replied store s asked old new
+Served store (Ok Quit) s asked old new = LeftAlone store s asked old new
+Served store (Err (Array denied)) s asked old new = Struck store s asked old new
+Served store (Err WriteFault) s asked old new = CutShort store s asked old new
+Served store (Err ReadFault) s asked old new = ⊥
+Served store (Err TooLong) s asked old new = ⊥
+
+-- nothing was done yet
+pub record Waits {S : Type 0} (store : Store S) (s : S) (old new : Contents) : Type 0 where
+  pub said : new.said ≡ old.said
+  pub holds : store.holds new.disks s
+
+-- what a crash leaves while one line is answered: nothing was done, or the disks were worked on, or they hold the
+-- next state and a part of the reply was said
+abbrev pub Answering : {S : Type 0} → Store S → S → Request → Contents → Contents → Type 0
+Answering store s asked old new = Waits store s old new ⊎ (Struck store s asked old new ⊎ CutShort store s asked old new)
+
+-- The states of a mounted array. The disks hold one by a head that names the same lost member as the array's. Where a
+-- disk failed in a request, they hold the state before it or the one after.
+abbrev pub array_store : Mounted → Store State
+array_store a = record {
+  machine = step a.g;
+  block = a.g.block;
+  holds = λ disks s. HoldsLike a.g a.head s disks;
+  torn = λ disks s asked. HoldsLike a.g a.head s disks ⊎ HoldsLike a.g a.head ((step a.g).next s asked) disks;
+}
+
+-- the count of what failed rose; a refusal and a stopped array are no faults of a session
+abbrev pub HasRisen : Mounted → SessionFault → View → View → Type 0
+HasRisen a (Array (Refused why)) old new = ⊥
+HasRisen a (Array LogFault) old new = Rose (old.faults 0) (new.faults 0)
+HasRisen a (Array (MemberFault first second)) old new = MemberFails a first second old new
+HasRisen a (Array Stopped) old new = ⊥
+HasRisen a WriteFault old new = Rose old.port_faults new.port_faults
+HasRisen a ReadFault old new = ⊥
+HasRisen a TooLong old new = ⊥

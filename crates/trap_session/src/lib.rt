@@ -1,0 +1,11 @@
+//! A session: its lines, each with a reply.
+#![tactic(auto)]
+
+mod buffers;
+mod outcome;
+mod reply;
+mod serve;
+mod session;
+
+pub use outcome::{Ended, Next, SessionFault};
+pub use session::Session;

@@ -1,0 +1,54 @@
+//! The loop of a session over its lines.
+
+ghost use Rattle.std.specs.Prelude.{◌≡◌, ◌+◌, ◌*◌, ◌^◌, ◌≤◌, ℕ, [], false};
+ghost use Rattle.trap_bank.specs.Steps.{Steps};
+ghost use Rattle.trap_lines.specs.Reader.{pending, taken, room};
+ghost use Rattle.trap_array.specs.Calls.{IsReady};
+ghost use Rattle.trap_session.specs.Serving.{Serves, HasStopped, StopsBy, HadNoQuit};
+
+use crate::buffers::Buffers;
+use crate::{Ended, Next, SessionFault};
+use trap_array::Array;
+use trap_bank::{Bank, Source};
+use trap_lines::{Found, LineReader, ReadFault};
+
+// Answers line after line, up to a `Q` or the end of the input.
+pub fn serve<B: Bank, S: Source>(
+    buffers: &mut Buffers,
+    reader: &mut LineReader,
+    array: &mut Array,
+    bank: &mut B,
+    source: &mut S,
+) -> Result<Ended, SessionFault>
+    requires geometry { array.old.g ≡ buffers.old.g }
+    requires going { array.old.is_stopped ≡ false }
+    requires ready { IsReady array.old (B.view bank.old) }
+    requires room { room reader.old ≡ 44 + 2 * buffers.old.g.block }
+    requires none { pending reader.old ≡ [] }
+    requires untaken { taken reader.old ≡ 0 }
+    requires below { (S.stream source.old).given ≤ 2 ^ 62 }
+    ensures stops { Steps (B.view bank.old) (B.view bank.new)
+        (Serves array.old (B.view bank.old) (S.stream source.old))
+        (HasStopped array.old (B.view bank.old) result (S.stream source.old) (S.stream source.new)) }
+    ensures cause { StopsBy array.old result (B.view bank.old) (B.view bank.new)
+        (S.stream source.old) (S.stream source.new) }
+    ensures no_quit { result ≡ Ok Ended.Input → HadNoQuit array.old.g.block (S.stream source.old) }
+    ensures sizes { (e : ℕ) → (B.view bank.new).sizes e ≡ (B.view bank.old).sizes e }
+{
+    'lines: loop {
+        match reader.next(source) {
+            Err(ReadFault::Source) => return Err(SessionFault::ReadFault),
+            Err(ReadFault::TooLong) => return Err(SessionFault::TooLong),
+            Ok(Found::End) => return Ok(Ended::Input),
+            Ok(Found::Last { len }) => {
+                // The end of the input ends this line, and the session behind it, whatever the line is.
+                buffers.answer_found(array, bank, reader, len)?;
+                return Ok(Ended::Input);
+            }
+            Ok(Found::Line { len }) => match buffers.answer_found(array, bank, reader, len)? {
+                Next::More => {}
+                Next::Quit => return Ok(Ended::Quit),
+            },
+        }
+    }
+}

@@ -1,0 +1,92 @@
+//! A session over a mounted array.
+
+ghost use Rattle.std.specs.Prelude.{◌≡◌, ◌+◌, ◌*◌, ◌^◌, ◌≤◌, ◌↔◌, [], ℕ, IsTrue, IfOk, false};
+ghost use Rattle.trap_bank.specs.Steps.{Steps};
+ghost use Rattle.trap_script.specs.Lines.{request_of, goes_on};
+ghost use Rattle.trap_array.specs.Calls.{IsReady};
+ghost use Rattle.trap_session.specs.Answers.{AnswersLine};
+ghost use Rattle.trap_session.specs.Serving.{Serves, HasStopped, StopsBy, HadNoQuit};
+
+use crate::buffers::Buffers;
+use crate::serve::serve;
+use crate::{Ended, Next, SessionFault};
+use std::alloc::{AllocError as OutOfMemory, Global};
+use std::marker::Model;
+use trap_array::Array;
+use trap_bank::{Bank, Source};
+use trap_lines::LineReader;
+use trap_model::Geometry;
+
+/// The buffers of a session: a contract sees the numbers of the array that it is for. It reads one input, once.
+#[derive(Drop)]
+pub struct Session {
+    buffers: Buffers,
+    reader: LineReader,
+}
+
+impl Model for Session {
+    ghost use Rattle.std.specs.Prelude.{◌≡◌, ◌+◌, ◌*◌, []};
+    ghost use Rattle.trap_model.specs.declared.numbers.Geometry.{Geometry};
+    ghost use Rattle.trap_lines.specs.Reader.{pending, taken, room};
+
+    ghost Value = { Geometry };
+
+    ghost view = { λ s. s.buffers.g };
+
+    ghost invariant = { λ s. (pending s.reader ≡ []) × (taken s.reader ≡ 0)
+        × (room s.reader ≡ 44 + 2 * s.buffers.g.block) };
+}
+
+impl Session {
+    /// Takes the memory of a session over an array of these numbers.
+    pub fn new(alloc: Global, g: &Geometry) -> Result<Session, OutOfMemory>
+        ensures { IfOk result (λ session. session ≡ g.now) }
+    {
+        let block = usize::from(g.block);
+        let buffers = Buffers::new(alloc, g)?;
+        let reader = LineReader::new(alloc, 44 + 2 * block)?;
+        Ok(Session { buffers, reader })
+    }
+
+    /// Answers one line that stands outside an input, with its reply in one call.
+    pub fn one<B: Bank>(
+        &mut self,
+        array: &mut Array,
+        bank: &mut B,
+        line: &[u8],
+    ) -> Result<Next, SessionFault>
+        requires geometry { array.old.g ≡ self.old }
+        requires going { array.old.is_stopped ≡ false }
+        requires ready { IsReady array.old (B.view bank.old) }
+        ensures answers { AnswersLine array.old array.new result
+            (request_of array.old.g.block line.now) (B.view bank.old) (B.view bank.new) }
+        ensures quit { (result ≡ Ok Next.Quit) ↔ (goes_on (request_of array.old.g.block line.now) ≡ false) }
+        ensures same { self.new ≡ self.old }
+    {
+        self.buffers.one(array, bank, line)
+    }
+
+    /// Answers line after line, up to a `Q` or the end of the input. No turn of the background is taken yet.
+    pub fn serve<B: Bank, S: Source>(
+        self,
+        array: &mut Array,
+        bank: &mut B,
+        source: &mut S,
+    ) -> Result<Ended, SessionFault>
+        requires geometry { array.old.g ≡ self }
+        requires going { array.old.is_stopped ≡ false }
+        requires ready { IsReady array.old (B.view bank.old) }
+        requires below { (S.stream source.old).given ≤ 2 ^ 62 }
+        ensures stops { Steps (B.view bank.old) (B.view bank.new)
+            (Serves array.old (B.view bank.old) (S.stream source.old))
+            (HasStopped array.old (B.view bank.old) result (S.stream source.old) (S.stream source.new)) }
+        ensures cause { StopsBy array.old result (B.view bank.old) (B.view bank.new)
+            (S.stream source.old) (S.stream source.new) }
+        ensures no_quit { result ≡ Ok Ended.Input → HadNoQuit array.old.g.block (S.stream source.old) }
+        ensures sizes { (e : ℕ) → (B.view bank.new).sizes e ≡ (B.view bank.old).sizes e }
+    {
+        let mut buffers = self.buffers;
+        let mut reader = self.reader;
+        serve(&mut buffers, &mut reader, array, bank, source)
+    }
+}
