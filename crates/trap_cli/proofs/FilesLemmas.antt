@@ -1,7 +1,7 @@
 -- What each call does to a bank of files, which tells nothing of content.
-use Rattle.std.proofs.Common.{◌≡◌, ◌≢◌, ◌⊎◌, ℕ, ◌+◌, ◌-◌, ◌^◌, ◌<◌, ◌≤◌, min, List, length, slice_set, ap, Option, None, Bool, false, Result, Ok, Err, OnOk, OnErr, IsTrue, get_or, refl, sym, subst, inl, inr, arith, rules}
+use Rattle.std.proofs.Common.{◌≡◌, ℕ, ◌<◌, ◌≤◌, List, length, slice_set, ap, Option, None, Result, Ok, Err, OnOk, OnErr, get_or, refl, inl, inr, arith, rules}
 use Rattle.trap_bank.specs.Faults.{Rose}
-use Rattle.trap_bank.specs.Disks.{Contents, View}
+use Rattle.trap_bank.specs.Disks.{Contents}
 use Rattle.trap_bank.specs.Calls.{Goes, Elapses, Reads, Writes, Syncs, Makes}
 use Rattle.trap_cli.specs.declared.edge.bank.OpenDisk.{OpenDisk}
 use Rattle.trap_cli.specs.Counts.{Blames}

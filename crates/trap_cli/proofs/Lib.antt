@@ -1,8 +1,10 @@
 pub mod FilesLemmas
-pub mod TouchingLemmas
-pub mod Replying
-pub mod Walking
+pub mod Words
+pub mod Saying
+pub mod Lines
+pub mod Heads
 pub mod Stopping
-pub mod FaultLines
 pub mod Crashing
-pub mod Ending
+pub mod Sessions
+pub mod Creates
+pub mod Running

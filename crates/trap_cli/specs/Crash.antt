@@ -1,48 +1,83 @@
 -- What a crash at any moment of a run leaves.
-use Rattle.std.specs.Prelude.{◌≡◌, ◌⊎◌, ℕ, ◌+◌, List, ◌++◌}
+use Rattle.std.specs.Prelude.{◌≡◌, ◌⊎◌, ℕ, ◌+◌, List, ◌++◌, Option, Some, None}
 use Rattle.trap_bank.specs.Disks.{Contents, Disks, View, Differs}
 use Rattle.trap_bank.specs.Stream.{Stream}
 use Rattle.trap_model.specs.Given.{given}
-use Rattle.trap_model.specs.Plain.{PlainState, step1, plain_block}
+use Rattle.trap_model.specs.ArrayStep.{step}
+use Rattle.trap_model.specs.State.{fresh}
+use Rattle.trap_model.specs.declared.asked.Asked.{Asked}
+use Rattle.trap_model.specs.declared.numbers.Geometry.{Geometry}
+use Rattle.trap_model.specs.declared.history.State.{State}
+use Rattle.trap_format.specs.Checked.{first_broken, HasNumbers}
+use Rattle.trap_format.specs.declared.limits.Field.{Field}
 use Rattle.trap_script.specs.Lines.{lines}
 use Rattle.trap_script.specs.Walk.{state_after, reply_texts}
-use Rattle.trap_volume.specs.Volume.{CellHolds, CountsAbsent, IsUnmade}
+use Rattle.trap_array.specs.Holding.{Holds}
+use Rattle.trap_array.specs.Creating.{IsLowest, NoneIsThere, Creates}
+use Rattle.trap_array.specs.Mounting.{SameHead}
+use Rattle.trap_cli.specs.Ended.{last_line, created_line}
+use Rattle.trap_cli.specs.Stops.{BeginsTold}
+use Rattle.trap_cli.specs.declared.command.Command.{Command}
+use Rattle.trap_cli.specs.declared.command.Command.TheVariants.{Create, Session}
 use Rattle.trap_cli.specs.declared.outcome.Ended.{Ended}
-use Rattle.trap_cli.specs.Run.{last_line, BeginsTold}
 
 -- a first part of a fault line, the empty one included
 abbrev pub IsFaultFront : List ℕ → Type 0
 IsFaultFront p = (ended : Ended) × (rest : List ℕ) × (p ++ rest ≡ last_line ended)
 
+-- a crash on entry might have left the disks
+abbrev pub LeftOnEntry : View → Disks → Type 0
+LeftOnEntry old disks = Differs old.unsynced old.now.disks disks
+
+-- and so it might, but perhaps for the slot of the head's cell that isn't current; the cell has the same value
+pub record LeftBesideHead (old : View) (disks : Disks) : Type 0 where
+  pub entry : Disks
+  pub left : LeftOnEntry old entry
+  pub same : (disks ≡ entry) ⊎ SameHead entry disks
+
 -- how many replies of the input's lines these bytes begin with
-abbrev pub replies_given : PlainState → List ℕ → List ℕ → ℕ
-replies_given s input p = given (reply_texts step1 s (lines plain_block input)) p
+abbrev pub replies_given : Geometry → State → List ℕ → List ℕ → ℕ
+replies_given g s input p = given (reply_texts (step g) s (lines g.block input)) p
 
--- disk 0 holds the image after so many lines
-abbrev pub HoldsAfter : PlainState → List ℕ → ℕ → Disks → Type 0
-HoldsAfter s input j disks = CellHolds disks (state_after step1 s (lines plain_block input) j).image
+-- the disks hold the state after so many lines
+abbrev pub HoldsAfter : Geometry → State → List ℕ → ℕ → Disks → Type 0
+HoldsAfter g s input j disks = Holds g (state_after (step g) s (lines g.block input) j) disks
 
--- Where these bytes were said: a crash on entry might have left the disks, and no more than a front of a fault line was
--- said; or disk 0 holds the image after the lines whose replies were given, or after one more; or disk 0 counted as
--- absent on entry, is unmade, and no more than a front of a fault line was said.
-abbrev pub CrashLeaves : PlainState → List ℕ → View → List ℕ → Disks → Type 0
-CrashLeaves s input old p disks =
-    (IsFaultFront p × Differs old.unsynced old.now.disks disks)
-    ⊎ ((HoldsAfter s input (replies_given s input p) disks ⊎ HoldsAfter s input (replies_given s input p + 1) disks)
-    ⊎ (CountsAbsent old.now.disks × IsFaultFront p × IsUnmade disks))
+-- Where these bytes were said: a crash on entry might have left the disks, perhaps beside the head's slot, and no more
+-- than a front of a fault line was said; or the disks hold the state after the lines whose replies were given, or after
+-- one more.
+abbrev pub SessionLeaves : Geometry → State → List ℕ → View → List ℕ → Disks → Type 0
+SessionLeaves g s input old p disks =
+    (IsFaultFront p × LeftBesideHead old disks)
+    ⊎ (HoldsAfter g s input (replies_given g s input p) disks ⊎ HoldsAfter g s input (replies_given g s input p + 1) disks)
 
--- a crash leaves this, where so much was said before the run
-pub record LeftBy (s : PlainState) (input : List ℕ) (old : View) (before : List ℕ) (c : Contents) : Type 0 where
+-- Where these bytes were said: no disk changed where a number breaks its limit, or a disk of the array was there.
+-- Otherwise disk 0 is no log, or the disks hold the new array, and so they do where the whole line was said.
+pub record CreateLeaves (asked : Asked) (old : View) (p : List ℕ) (disks : Disks) : Type 0 where
+  pub broken : (field : Field) → first_broken asked ≡ Some field → LeftOnEntry old disks
+  pub there : (g : Geometry) (d : ℕ) → HasNumbers g asked → IsLowest g old d → LeftOnEntry old disks
+  pub made : (g : Geometry) → HasNumbers g asked → NoneIsThere g old → Creates g old.now.disks disks
+  pub whole : (g : Geometry) (rest : List ℕ) → HasNumbers g asked → NoneIsThere g old → p ≡ created_line asked.id ++ rest
+      → Holds g (fresh g) disks
+
+-- Some bytes were said, where so many were said before, and the disks are as these bytes tell.
+pub record LeftSaid (Has : List ℕ → Disks → Type 0) (before : List ℕ) (c : Contents) : Type 0 where
   pub part : List ℕ
   pub said : c.said ≡ before ++ part
-  pub leaves : CrashLeaves s input old part c.disks
+  pub leaves : Has part c.disks
+
+-- a crash leaves this, where so much was said before the run; words that are no command change nothing
+abbrev pub LeftBy : Option Command → View → Stream → List ℕ → Contents → Type 0
+LeftBy None old from before c = LeftSaid (λ p disks. IsFaultFront p × LeftOnEntry old disks) before c
+LeftBy (Some Session) old from before c = (g : Geometry) (s : State) (input : List ℕ)
+    → BeginsTold g s input old from → LeftSaid (SessionLeaves g s input old) before c
+LeftBy (Some (Create asked)) old from before c = LeftSaid (CreateLeaves asked old) before c
 
 -- a crash on entry left the first contents; now one leaves the others
-abbrev pub Leaves : View → Stream → Contents → Contents → Type 0
-Leaves old from x y = (s : PlainState) (input : List ℕ) → BeginsTold s input old from → LeftBy s input old x.said y
+abbrev pub Leaves : Option Command → View → Stream → Contents → Contents → Type 0
+Leaves command old from x y = LeftBy command old from x.said y
 
 -- and so it is with each front of the line said behind
-abbrev pub LeavesBefore : List ℕ → View → Stream → Contents → Contents → Type 0
-LeavesBefore line old from x y = (s : PlainState) (input : List ℕ) → BeginsTold s input old from
-    → (front rest : List ℕ) → front ++ rest ≡ line
-    → LeftBy s input old x.said (record { disks = y.disks; said = y.said ++ front })
+abbrev pub LeavesBefore : List ℕ → Option Command → View → Stream → Contents → Contents → Type 0
+LeavesBefore line command old from x y = (front rest : List ℕ) → front ++ rest ≡ line
+    → LeftBy command old from x.said (record { disks = y.disks; said = y.said ++ front })

@@ -1,7 +1,7 @@
 -- What contracts see of a bank of files: sizes and counts of faults, and nothing of content.
 use Rattle.std.specs.Prelude.{ℕ, List, [], Option, Some, None, Bool, true, false, IsTrue, get_or}
 use Rattle.std.proofs.Common.{subst}
-use Rattle.trap_bank.specs.Disks.{Contents, View, Disks}
+use Rattle.trap_bank.specs.Disks.{Contents, View}
 use Rattle.trap_bank.specs.Calls.{IsLawful}
 use Rattle.trap_cli.specs.declared.edge.bank.OpenDisk.{OpenDisk}
 

@@ -1,9 +1,8 @@
 pub mod Counts
 pub mod Files
-pub mod Touching
-pub mod Store
-pub mod CellVolume
-pub mod Session
-pub mod Serving
-pub mod Run
+pub mod Command
+pub mod Ended
+pub mod Cause
+pub mod Stops
 pub mod Crash
+pub mod Run

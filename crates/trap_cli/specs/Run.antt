@@ -1,82 +1,28 @@
--- What a run says and leaves, by how it ends.
-use Rattle.std.specs.Prelude.{◌≡◌, ◌≢◌, ◌⊎◌, ℕ, ◌++◌, List, [], ◌∷◌, map, codes, string_bytes, String, Some, IsTrue}
-use Rattle.std.specs.declared.alloc.Global.{Global}
+-- What a run says and leaves.
+use Rattle.std.specs.Prelude.{◌≡◌, ◌⊎◌, ℕ, ◌+◌, ◌<◌, ◌≤◌, ◌++◌, List, [], Option, Some, None, IsTrue, true}
 use Rattle.trap_bank.specs.Faults.{Rose}
-use Rattle.trap_bank.specs.Disks.{Contents, View}
+use Rattle.trap_bank.specs.Disks.{View}
+use Rattle.trap_bank.specs.Steps.{Steps, SpokePart}
 use Rattle.trap_bank.specs.Stream.{Stream}
-use Rattle.trap_model.specs.Plain.{PlainState}
+use Rattle.trap_model.specs.declared.numbers.Geometry.{Geometry}
+use Rattle.trap_model.specs.declared.history.State.{State}
+use Rattle.trap_format.specs.Checked.{first_broken, HasNumbers}
+use Rattle.trap_format.specs.declared.head.Head.{Head}
+use Rattle.trap_format.specs.declared.limits.Field.{Field}
+use Rattle.trap_raid.specs.Members.{IsMember}
+use Rattle.trap_array.specs.Holding.{HoldsBy}
+use Rattle.trap_array.specs.Creating.{IsLowest}
+use Rattle.trap_array.specs.Mounting.{IsNoLog}
+use Rattle.trap_array.specs.declared.fault.CreateFault.TheVariants.{Exists}
+use Rattle.trap_array.specs.declared.fault.MountFault.TheVariants.{NotAnArray}
+use Rattle.trap_cli.specs.Ended.{status_of, last_line, is_refused}
+use Rattle.trap_cli.specs.Cause.{CauseOf}
+use Rattle.trap_cli.specs.Stops.{BeginsTold, StopsBefore}
+use Rattle.trap_cli.specs.Crash.{Leaves, LeavesBefore}
+use Rattle.trap_cli.specs.declared.command.Command.{Command}
+use Rattle.trap_cli.specs.declared.command.Command.TheVariants.{Create, Session}
 use Rattle.trap_cli.specs.declared.outcome.Ended.{Ended}
-use Rattle.trap_cli.specs.declared.outcome.Ended.TheVariants.{Done, Usage, NotAnArray, Log, Input, Port, Memory, TooLong}
-use Rattle.trap_volume.specs.Volume.{BeginsWith, IsOtherSize, HasNoValue}
-use Rattle.trap_cli.specs.CellVolume.{volume_store}
-use Rattle.trap_cli.specs.Session.{StopsAs, StopsBy}
-
-abbrev pub status_of : Ended → ℕ
-status_of Done = 0
-status_of Usage = 2
-status_of NotAnArray = 3
-status_of Log = 6
-status_of Input = 8
-status_of Port = 9
-status_of Memory = 10
-status_of TooLong = 12
-
--- the last line that is said; none where the command was done, or the port failed
-abbrev pub last_line : Ended → List ℕ
-last_line Done = []
-last_line Usage = codes "fault usage\n"
-last_line NotAnArray = codes "fault not an array\n"
-last_line Log = codes "fault log\n"
-last_line Input = codes "fault input\n"
-last_line Port = []
-last_line Memory = codes "fault memory\n"
-last_line TooLong = codes "fault too long\n"
-
--- the words are `session` alone
-abbrev pub IsSession : List (String Global) → Type 0
-IsSession words = map string_bytes words ≡ codes "session" ∷ []
-
--- disk 0 is there with another size, or, where the bank tells, its gate is on and the cell has no value
-abbrev pub IsNoArray : View → Type 0
-IsNoArray v = IsOtherSize (v.sizes 0) ⊎ (IsTrue v.tells × HasNoValue v.now.disks)
-
--- disk 0 holds the image, or counts as absent and the image is zero; no write was accepted yet
-pub record Begins (s : PlainState) (v : View) : Type 0 where
-  pub number : s.number ≡ 0
-  pub volume : BeginsWith v.now.disks s.image
-
--- the bank and the source tell, and the run begins with the state
-pub record BeginsTold (s : PlainState) (input : List ℕ) (v : View) (from : Stream) : Type 0 where
-  pub left : from.left ≡ Some input
-  pub tells : IsTrue v.tells
-  pub begins : Begins s v
-
--- why a run ends so
-abbrev pub CauseOf : Ended → List (String Global) → View → View → Stream → Stream → Type 0
-CauseOf Done words old new from to = IsSession words × (IsNoArray old → ⊥) × StopsBy 16 Done old new from to
-CauseOf Usage words old new from to = IsSession words → ⊥
-CauseOf NotAnArray words old new from to = IsSession words × (IsTrue old.tells → IsNoArray old)
-CauseOf Log words old new from to = IsSession words × (IsOtherSize (old.sizes 0) → ⊥) × StopsBy 16 Log old new from to
-CauseOf Input words old new from to = IsSession words × (IsNoArray old → ⊥) × StopsBy 16 Input old new from to
-CauseOf Port words old new from to = IsSession words × (IsNoArray old → ⊥) × StopsBy 16 Port old new from to
-CauseOf Memory words old new from to = IsSession words × (IsNoArray old → ⊥) × StopsBy 16 Memory old new from to
-CauseOf TooLong words old new from to = IsSession words × (IsNoArray old → ⊥) × StopsBy 16 TooLong old new from to
-
--- no disk changed, and nothing was said
-pub record Untouched (old new : View) : Type 0 where
-  pub sizes : (e : ℕ) → new.sizes e ≡ old.sizes e
-  pub contents : IsTrue old.tells → new.now ≡ old.now
-
--- a run that is refused has touched nothing
-abbrev pub LeavesRefused : Ended → View → View → Type 0
-LeavesRefused Done old new = Unit {0}
-LeavesRefused Usage old new = Untouched old new
-LeavesRefused NotAnArray old new = Untouched old new
-LeavesRefused Log old new = Unit {0}
-LeavesRefused Input old new = Unit {0}
-LeavesRefused Port old new = Unit {0}
-LeavesRefused Memory old new = Unit {0}
-LeavesRefused TooLong old new = Unit {0}
+use Rattle.trap_cli.specs.declared.outcome.Ended.TheVariants.{BadGeometry, NotCreated, NotMounted}
 
 -- those bytes were said, and then the line; or a first part of it, where the port failed
 pub record SaysLast (line before : List ℕ) (old new : View) : Type 0 where
@@ -86,33 +32,78 @@ pub record SaysLast (line before : List ℕ) (old new : View) : Type 0 where
   pub said : new.now.said ≡ before ++ part
   pub port : (rest ≡ []) ⊎ Rose old.port_faults new.port_faults
 
+-- the line was said, or a first part of it, and nothing else was done
+pub record Spoken (line : List ℕ) (old new : View) : Type 0 where
+  pub steps : Steps old new (SpokePart line) (SpokePart line)
+  pub sizes : (e : ℕ) → new.sizes e ≡ old.sizes e
+  pub disks : IsTrue old.tells → new.now.disks ≡ old.now.disks
+  pub last : IsTrue old.tells → SaysLast line old.now.said old new
+
+-- no disk changed, and nothing was said
+pub record Untouched (old new : View) : Type 0 where
+  pub sizes : (e : ℕ) → new.sizes e ≡ old.sizes e
+  pub contents : IsTrue old.tells → new.now ≡ old.now
+
 -- no disk changed, and nothing but the line was said
 pub record Refuses (line : List ℕ) (old new : View) : Type 0 where
   pub sizes : (e : ℕ) → new.sizes e ≡ old.sizes e
   pub disks : IsTrue old.tells → new.now.disks ≡ old.now.disks
   pub says : IsTrue old.tells → SaysLast line old.now.said old new
 
-abbrev pub IsRefusedAs : Ended → View → View → Type 0
-IsRefusedAs Done old new = Unit {0}
-IsRefusedAs Usage old new = Refuses (last_line Usage) old new
-IsRefusedAs NotAnArray old new = Refuses (last_line NotAnArray) old new
-IsRefusedAs Log old new = Unit {0}
-IsRefusedAs Input old new = Unit {0}
-IsRefusedAs Port old new = Unit {0}
-IsRefusedAs Memory old new = Unit {0}
-IsRefusedAs TooLong old new = Unit {0}
+-- no disk from this one on has another size, and no count fell
+pub record TouchesBelow (d : ℕ) (old new : View) : Type 0 where
+  pub tells : new.tells ≡ old.tells
+  pub sizes : (e : ℕ) → d ≤ e → new.sizes e ≡ old.sizes e
+  pub faults : (e : ℕ) → old.faults e ≤ new.faults e
+  pub port_faults : old.port_faults ≤ new.port_faults
 
--- the session stops so, and then the last line is said
-pub record EndsAs (ended : Ended) (s : PlainState) (input : List ℕ) (old new : View) (from to : Stream) : Type 0 where
+-- where the bank tells, no disk from this one on changed
+abbrev pub StaysFrom : ℕ → View → View → Type 0
+StaysFrom d old new = IsTrue old.tells → (e : ℕ) → d ≤ e → new.now.disks e ≡ old.now.disks e
+
+-- A member is recorded lost only where it was so on entry, or its disk was absent. The mark of one that was lost is
+-- smaller only where the count of its disk rose, or its disk was absent or not its own.
+pub record KeepsMembers (g : Geometry) (h k : Head) (old new : View) : Type 0 where
+  pub lost : (m : ℕ) → k.lost ≡ Some m → (h.lost ≡ Some m) ⊎ (old.sizes (m + 1) ≡ None)
+  pub mark : (m : ℕ) → h.lost ≡ Some m → k.lost ≡ Some m → k.rebuilt < h.rebuilt
+      → Rose (old.faults (m + 1)) (new.faults (m + 1)) ⊎ (IsMember g old.now.disks m → ⊥)
+
+-- where the bank and the source tell, and the disks held a state on entry: between the heads on entry and at exit
+abbrev pub MembersStay : View → View → Stream → Type 0
+MembersStay old new from = (g : Geometry) (s t : State) (input : List ℕ) (h k : Head) → BeginsTold g s input old from
+    → HoldsBy g h s old.now.disks → HoldsBy g k t new.now.disks → KeepsMembers g h k old new
+
+-- the refusals that are decided by what was asked and by sizes alone
+abbrev pub IsRefusedFirst : Option Command → Ended → View → Type 0
+IsRefusedFirst None ended old = Unit {0}
+IsRefusedFirst (Some Session) ended old = IsNoLog (old.sizes 0) → ended ≡ NotMounted NotAnArray
+IsRefusedFirst (Some (Create asked)) ended old =
+    ((field : Field) → first_broken asked ≡ Some field → ended ≡ BadGeometry field)
+    × ((g : Geometry) (d : ℕ) → first_broken asked ≡ None → HasNumbers g asked → IsLowest g old d
+    → ended ≡ NotCreated (Exists d))
+
+-- A command ended so; its last line isn't said yet.
+pub record Works (command : Option Command) (ended : Ended) (old new : View) (from to : Stream) : Type 0 where
+  pub cause : CauseOf command ended old new from to
+  pub first : IsRefusedFirst command ended old
+  pub refused : is_refused ended ≡ true → Untouched old new
+  pub stops : StopsBefore command ended old new.now from to
+  pub touches : TouchesBelow 17 old new
+  pub others : (command ≡ Some Session → ⊥) → StaysFrom 17 old new
+  pub members : command ≡ Some Session → MembersStay old new from
+  pub steps : Steps old new (Leaves command old from) (LeavesBefore (last_line ended) command old from)
+
+-- the command stopped so, and then the last line was said
+pub record Ends (command : Option Command) (ended : Ended) (old new : View) (from to : Stream) : Type 0 where
   pub before : List ℕ
-  pub stops : StopsAs volume_store ended s input old.now (record { disks = new.now.disks; said = before }) from to
+  pub stops : StopsBefore command ended old (record { disks = new.now.disks; said = before }) from to
   pub last : SaysLast (last_line ended) before old new
 
--- A run with these words ended in one of the ways, and its status is that one's.
-pub record Runs (status : ℕ) (words : List (String Global)) (old new : View) (from to : Stream) : Type 0 where
+-- A run of the command ended in one of the ways, and its status is that one's.
+pub record Runs (status : ℕ) (command : Option Command) (old new : View) (from to : Stream) : Type 0 where
   pub ended : Ended
   pub number : status ≡ status_of ended
-  pub cause : CauseOf ended words old new from to
-  pub refused : IsRefusedAs ended old new
-  -- where the bank and the source tell, and disk 0 holds an image on entry or counts as absent
-  pub told : (s : PlainState) (input : List ℕ) → BeginsTold s input old from → EndsAs ended s input old new from to
+  pub cause : CauseOf command ended old new from to
+  pub first : IsRefusedFirst command ended old
+  pub refused : is_refused ended ≡ true → Refuses (last_line ended) old new
+  pub told : IsTrue old.tells → Ends command ended old new from to

@@ -1,11 +1,13 @@
 //! The program: its words, the files of the current folder, standard input and output.
 #![tactic(auto)]
 
+mod command;
+mod creating;
 mod edge;
+mod last;
+pub mod laws;
 mod outcome;
-mod reply;
 mod run;
-mod serve;
 mod session;
 #[cfg(test)]
 mod tests;

@@ -1,40 +1,26 @@
-//! How requests, sessions and runs end.
+//! How runs end.
 
-/// What comes after a line.
-#[derive(Debug, Clone, Copy, PartialEq, Eq)]
-pub enum Next {
-    /// The next line.
-    More,
-    /// Nothing: the line was `Q`.
-    Quit,
-}
-
-/// What failed in a line.
-#[derive(Debug, Clone, Copy, PartialEq, Eq)]
-pub enum Fault {
-    /// Disk 0: its count of faults rose.
-    Disk,
-    /// The reply port: its count of faults rose.
-    Port,
-}
+use trap_array::{CreateFault, MountFault};
+use trap_format::Field;
+use trap_session::SessionFault;
 
 /// How a run ends.
 #[derive(Debug, Clone, Copy, PartialEq, Eq)]
 pub enum Ended {
-    /// The lines were answered up to the end of the input or to `Q`.
+    /// The array was made, or the lines were answered up to the end of the input or to `Q`.
     Done,
     /// The words are no command.
     Usage,
-    /// Disk 0 has another size than a volume.
-    NotAnArray,
-    /// Disk 0 failed.
-    Log,
-    /// The source failed.
-    Input,
-    /// The reply port failed in a reply.
+    /// A number of `create` breaks its limit: this field's is the first.
+    BadGeometry(Field),
+    /// No array was made.
+    NotCreated(CreateFault),
+    /// The array could not be mounted.
+    NotMounted(MountFault),
+    /// The session stopped.
+    Stopped(SessionFault),
+    /// The reply port failed while `create` said that the array is made.
     Port,
     /// There was no memory for the session.
     Memory,
-    /// 2^40 bytes were taken, and more input is needed.
-    TooLong,
 }

@@ -1,49 +1,55 @@
-use Rattle.std.proofs.Common.{◌≡◌, IsTrue, sym, subst}
+use Rattle.std.proofs.Common.{Option, subst}
+use Rattle.trap_cli.specs.declared.command.Command.{Command}
+use Rattle.trap_cli.specs.Command.{IsCommand, command_session}
+use Rattle.trap_cli.specs.Crash.{LeftBy}
+use Rattle.trap_cli.specs.Run.{Runs}
+use Rattle.trap_cli.proofs.Words.{one_command}
+use Rattle.trap_cli.proofs.Running.{run_runs, run_touches, run_others, run_members, run_crash, usage_exact}
 use Rattle.trap_cli.proofs.run.run.Goals as goal
-use Rattle.trap_cli.proofs.TouchingLemmas.{touches_then}
-use Rattle.trap_cli.proofs.Ending.{caused, refused_as, ends_as, usage_exact, other_size_first, not_an_array_exact}
-use Rattle.trap_cli.proofs.Crashing.{run_leaves}
 
 pub returns-clause-runs : goal.returns-clause-runs
-returns-clause-runs g c =
+returns-clause-runs g c command is =
     let view = g.B.Bank.view in
     let stream = g.S.Source.stream in
-    let old = view c.args.bank.now in
-    let mid = view c.work-ended.new.bank in
-    let new = view c.say_last.new.bank in
-    let from = stream c.args.source.now in
-    let to = stream c.work-ended.new.source in
-    record {
-      ended = c.work-ended.result;
-      number = c.status.ensures;
-      cause = caused c.work-ended.result c.args.words.now old mid new from to c.work-ended.ensures.cause c.say_last.ensures.serves;
-      refused = refused_as c.work-ended.result old mid new c.work-ended.ensures.refused c.say_last.ensures.serves c.work-ended.ensures.touches
-          c.say_last.ensures.disks c.say_last.ensures.last;
-      told = λ s input begins.
-          let told = subst IsTrue (sym c.work-ended.ensures.touches.tells) begins.tells in
-          ends_as c.work-ended.result s input old mid new from to (c.work-ended.ensures.stops s input begins) (c.say_last.ensures.disks told)
-          c.work-ended.ensures.touches.port_faults (c.say_last.ensures.last told);
-    }
+    subst (λ (command : Option Command). Runs c.status.result command (view c.args.bank.now) (view c.say_last.new.bank) (stream c.args.source.now) (stream c.work-ended.new.source))
+    (one_command c.args.words.now c.read_command-command.result command c.read_command-command.ensures is)
+    (run_runs c.read_command-command.result c.work-ended.result (view c.args.bank.now) (view c.work-ended.new.bank) (view c.say_last.new.bank) (stream c.args.source.now) (stream c.work-ended.new.source)
+    c.work-ended.ensures.works c.say_last.ensures.spoken c.status.result c.status.ensures)
 
 pub returns-clause-usage : goal.returns-clause-usage
 returns-clause-usage g c =
-    usage_exact c.work-ended.result c.status.result c.args.words.now (g.B.Bank.view c.args.bank.now) (g.B.Bank.view c.work-ended.new.bank)
-    (g.S.Source.stream c.args.source.now) (g.S.Source.stream c.work-ended.new.source) c.status.ensures c.work-ended.ensures.cause
-
-pub returns-clause-other_size : goal.returns-clause-other_size
-returns-clause-other_size g c =
-    other_size_first c.work-ended.result c.status.result c.args.words.now (g.B.Bank.view c.args.bank.now) (g.B.Bank.view c.work-ended.new.bank)
-    (g.S.Source.stream c.args.source.now) (g.S.Source.stream c.work-ended.new.source) c.status.ensures c.work-ended.ensures.cause
-
-pub returns-clause-not_an_array : goal.returns-clause-not_an_array
-returns-clause-not_an_array g c =
-    not_an_array_exact c.work-ended.result c.status.result c.args.words.now (g.B.Bank.view c.args.bank.now) (g.B.Bank.view c.work-ended.new.bank)
-    (g.S.Source.stream c.args.source.now) (g.S.Source.stream c.work-ended.new.source) c.status.ensures c.work-ended.ensures.cause
-
-pub returns-clause-any_moment : goal.returns-clause-any_moment
-returns-clause-any_moment g c =
-    run_leaves (g.B.Bank.view c.args.bank.now) (g.B.Bank.view c.work-ended.new.bank) (g.B.Bank.view c.say_last.new.bank)
-    (g.S.Source.stream c.args.source.now) _ (g.met.B.Bank.lawful c.args.bank.now) c.work-ended.ensures.steps c.say_last.ensures.steps
+    let view = g.B.Bank.view in
+    let stream = g.S.Source.stream in
+    usage_exact c.status.result c.args.words.now c.read_command-command.result c.work-ended.result (view c.args.bank.now) (view c.work-ended.new.bank) (stream c.args.source.now) (stream c.work-ended.new.source)
+    c.read_command-command.ensures c.status.ensures c.work-ended.ensures.works.cause
 
 pub returns-clause-touches : goal.returns-clause-touches
-returns-clause-touches g c = touches_then c.work-ended.ensures.touches c.say_last.ensures.serves.touches
+returns-clause-touches g c =
+    let view = g.B.Bank.view in
+    let stream = g.S.Source.stream in
+    run_touches c.read_command-command.result c.work-ended.result (view c.args.bank.now) (view c.work-ended.new.bank) (view c.say_last.new.bank) (stream c.args.source.now) (stream c.work-ended.new.source)
+    c.work-ended.ensures.works c.say_last.ensures.spoken
+
+pub returns-clause-others : goal.returns-clause-others
+returns-clause-others g c other =
+    let view = g.B.Bank.view in
+    let stream = g.S.Source.stream in
+    run_others c.read_command-command.result c.work-ended.result (view c.args.bank.now) (view c.work-ended.new.bank) (view c.say_last.new.bank) (stream c.args.source.now) (stream c.work-ended.new.source)
+    c.work-ended.ensures.works c.say_last.ensures.spoken
+    (λ session. other (subst (λ (command : Option Command). IsCommand command c.args.words.now) session c.read_command-command.ensures))
+
+pub returns-clause-members : goal.returns-clause-members
+returns-clause-members g c session =
+    let view = g.B.Bank.view in
+    let stream = g.S.Source.stream in
+    run_members c.read_command-command.result c.work-ended.result (view c.args.bank.now) (view c.work-ended.new.bank) (view c.say_last.new.bank) (stream c.args.source.now) (stream c.work-ended.new.source)
+    c.work-ended.ensures.works c.say_last.ensures.spoken (one_command c.args.words.now c.read_command-command.result command_session c.read_command-command.ensures session)
+
+pub returns-clause-any_moment : goal.returns-clause-any_moment
+returns-clause-any_moment g c command is =
+    let view = g.B.Bank.view in
+    let stream = g.S.Source.stream in
+    subst (λ (command : Option Command). (w : _) → (view c.say_last.new.bank).left (view c.args.bank.now).moment w → LeftBy command (view c.args.bank.now) (stream c.args.source.now) (view c.args.bank.now).now.said w)
+    (one_command c.args.words.now c.read_command-command.result command c.read_command-command.ensures is)
+    (run_crash c.read_command-command.result c.work-ended.result (view c.args.bank.now) (view c.work-ended.new.bank) (view c.say_last.new.bank) (stream c.args.source.now) (stream c.work-ended.new.source)
+    c.work-ended.ensures.works c.say_last.ensures.spoken (g.met.B.Bank.lawful c.args.bank.now))

@@ -1,0 +1,293 @@
+-- All but the last line of `create`.
+use Rattle.std.proofs.Common.{◌≡◌, ◌≢◌, ◌↔◌, ◌⊎◌, inl, inr, ⊎_elim, ℕ, zero, suc, ◌+◌, ◌<◌, ◌≤◌, List, [], ◌++◌, Option, Some, None, Result, Ok, Err, false, IsTrue, refl, sym, ap, subst, ◌∙◌, append_assoc, append-nil, arith}
+use Rattle.std.proofs.lemmas.Bool.{cases_eq}
+use Rattle.trap_bank.specs.Faults.{Rose}
+use Rattle.trap_bank.specs.Disks.{Contents, Disks, View, Quiet, Differs, size_of}
+use Rattle.trap_bank.specs.Calls.{MayLeave, IsLawful, Says}
+use Rattle.trap_bank.specs.Steps.{Steps, Moves, Same, SpokePart}
+use Rattle.trap_bank.specs.Stream.{Stream}
+use Rattle.trap_bank.proofs.Moves.{then_, weaken, nothing_done, read_is_left, say_steps}
+use Rattle.trap_model.specs.State.{fresh}
+use Rattle.trap_model.specs.declared.asked.Asked.{Asked}
+use Rattle.trap_model.specs.declared.numbers.Geometry.{Geometry}
+use Rattle.trap_format.specs.Checked.{first_broken, HasNumbers}
+use Rattle.trap_format.specs.declared.limits.Field.{Field}
+use Rattle.trap_format.proofs.Spellings.{same_geometry}
+use Rattle.trap_array.specs.Holding.{Holds}
+use Rattle.trap_array.specs.Creating.{IsNoArray, Creates, HasCreated, IsLowest, NoneIsThere, IsUntouched}
+use Rattle.trap_array.specs.declared.fault.CreateFault.{CreateFault}
+use Rattle.trap_array.specs.declared.fault.CreateFault.TheVariants.{Exists, LogFault, MemberFault}
+use Rattle.trap_cli.specs.declared.outcome.Ended.{Ended}
+use Rattle.trap_cli.specs.declared.outcome.Ended.TheVariants.{Done, BadGeometry, NotCreated, Port}
+use Rattle.trap_cli.specs.Command.{command_create}
+use Rattle.trap_cli.specs.Ended.{last_line, created_line, is_create_refusal}
+use Rattle.trap_cli.specs.Cause.{CreateFails}
+use Rattle.trap_cli.specs.Stops.{CreateStopped, IsUnfinished}
+use Rattle.trap_cli.specs.Crash.{IsFaultFront, CreateLeaves, Leaves, LeavesBefore}
+use Rattle.trap_cli.specs.Run.{Works, TouchesBelow, StaysFrom}
+use Rattle.trap_cli.proofs.Lines.{not_created}
+
+-- the numbers that were asked for are those of one array
+numbers_same : (asked : Asked) (g h : Geometry) → HasNumbers g asked → HasNumbers h asked → g ≡ h
+numbers_same asked g h a b = same_geometry g h (a.id ∙ sym b.id) (a.members ∙ sym b.members) (a.chunk ∙ sym b.chunk) (a.block ∙ sym b.block) (a.rows ∙ sym b.rows)
+    (a.slots ∙ sym b.slots) (a.gap ∙ sym b.gap) (a.entries ∙ sym b.entries) (a.ring ∙ sym b.ring)
+
+-- there is one lowest disk
+lowest_same : (g : Geometry) (v : View) (d e : ℕ) → IsLowest g v d → IsLowest g v e → d ≡ e
+lowest_same g v d e a b = ⊎_elim (λ (is : d ≡ e). is)
+    (λ (other : d ≢ e). ⊎_elim (λ (below : d < e). absurd (a.there (b.lowest d below))) (λ (below : e < d). absurd (b.there (a.lowest e below))) (apart other)) (cases_eq d e)
+  where
+    apart : d ≢ e → (d < e) ⊎ (e < d)
+    apart other = grind (arith, other)
+
+-- where there is none, no disk of the array is there
+none_there : (g : Geometry) (v : View) → ((d : ℕ) → IsLowest g v d → ⊥) → NoneIsThere g v
+none_there g v none d inside = below (suc d) d (omega arith) inside
+  where
+    at : (d : ℕ) → d ≤ g.members → ((e : ℕ) → e < d → v.sizes e ≡ None) → (size : Option ℕ) → v.sizes d ≡ size → v.sizes d ≡ None
+    at d inside lower None is = is
+    at d inside lower (Some n) is = absurd (none d (record { inside = inside; there = λ absent. let both : Some n ≡ None = sym is ∙ absent in cc; lowest = lower }))
+
+    below : (n d : ℕ) → d < n → d ≤ g.members → v.sizes d ≡ None
+    below zero d less inside = absurd (omega (arith, less))
+    below (suc n) d less inside = at d inside (λ e under. below n e (omega (arith, less, under)) (omega (arith, inside, under))) (v.sizes d) refl
+
+-- an absent disk 0 is no log
+absent_no_log : (disks : Disks) → size_of (disks 0) ≡ None → IsNoArray disks
+absent_no_log disks absent begins = let both : None ≡ Some begins.bytes = sym absent ∙ begins.there in cc
+
+module _ (asked : Asked) (a : View) (lawful : IsLawful a) where
+  -- disks that a crash on entry might have left
+  unchanged : (p : List ℕ) (x : Contents) (disks : Disks) → IsFaultFront p → MayLeave a x → disks ≡ x.disks → CreateLeaves asked a p disks
+  unchanged p x disks front was same =
+      let left = subst (λ (disks : Disks). CreateLeft disks) (sym same) was.torn.disks in
+      record {
+        broken = λ field is. left;
+        there = λ g d numbers low. left;
+        made = λ g numbers none. inl (absent_no_log disks (ap (λ (disks : Disks). size_of (disks 0)) same ∙ was.torn.disks.sizes 0 ∙ lawful.sized was.told 0 ∙ none 0 (omega arith)));
+        whole = λ g rest numbers none is. absurd (not_created asked.id p rest front is);
+      }
+    where
+      CreateLeft : Disks → Type 0
+      CreateLeft disks = Differs a.unsynced a.now.disks disks
+
+  pub entry_creates : (x : Contents) → MayLeave a x → CreateLeaves asked a [] x.disks
+  entry_creates x was = unchanged [] x x.disks (Done, [], refl) was refl
+
+  -- a refusal that changed nothing
+  refused_steps : (b : View) (from : Stream) (ended : Ended) → Moves a b Same Same
+      → Steps a b (Leaves (command_create asked) a from) (LeavesBefore (last_line ended) (command_create asked) a from)
+  refused_steps b from ended moves = weaken a b (Quiet Same) (Quiet Same) (Leaves (command_create asked) a from) (LeavesBefore (last_line ended) (command_create asked) a from) moves
+      (λ x y was same. record { part = []; said = same.said ∙ sym (append-nil x.said); leaves = unchanged [] x y.disks (Done, [], refl) was same.disks })
+      (λ x y was left same front rest is. record {
+        part = front;
+        said = ap (λ (l : List ℕ). l ++ front) same.said;
+        leaves = unchanged front x y.disks (ended, rest, is) was same.disks;
+      })
+
+  -- A number breaks its limit.
+  pub broken_works : (field : Field) (from : Stream) → first_broken asked ≡ Some field → Works (command_create asked) (BadGeometry field) a a from from
+  broken_works field from is = record {
+    cause = is;
+    first = (λ other broken. let both : Some field ≡ Some other = sym is ∙ broken in cc, λ g d kept numbers low. let both : None ≡ Some field = sym kept ∙ is in absurd (cc both));
+    refused = λ refused. record { sizes = λ e. refl; contents = λ told. refl };
+    stops = λ told. refl;
+    touches = record { tells = refl; sizes = λ e beyond. refl; faults = λ e. omega arith; port_faults = omega arith };
+    others = λ other told e beyond. refl;
+    members = λ session. absurd (cc session);
+    steps = refused_steps a from (BadGeometry field) (nothing_done a (Quiet Same) (Quiet Same) (λ x was. record { disks = refl; said = refl }));
+  }
+
+  module _ (kept : first_broken asked ≡ None) (g : Geometry) (numbers : HasNumbers g asked) (b : View) (from : Stream) where
+    no_field : (ended : Ended) (field : Field) → first_broken asked ≡ Some field → ended ≡ BadGeometry field
+    no_field ended field is = let both : None ≡ Some field = sym kept ∙ is in absurd (cc both)
+
+    -- A disk is there already.
+    pub exists_works : (d : ℕ) → IsLowest g a d → IsUntouched a b → Works (command_create asked) (NotCreated (Exists d)) a b from from
+    exists_works d low untouched = record {
+      cause = (g, numbers, low);
+      first = (
+        no_field (NotCreated (Exists d)),
+        λ h e kept also other. ap (λ (d : ℕ). NotCreated (Exists d))
+            (lowest_same g a d e low (subst (λ (g : Geometry). IsLowest g a e) (numbers_same asked h g also numbers) other)),
+      );
+      refused = λ refused. record { sizes = untouched.sizes; contents = untouched.same };
+      stops = untouched.same;
+      touches = record {
+        tells = untouched.moves.tells;
+        sizes = λ e beyond. untouched.sizes e;
+        faults = untouched.moves.faults;
+        port_faults = untouched.moves.port_faults;
+      };
+      others = λ other told e beyond. ap (λ (c : Contents). c.disks e) (untouched.same told);
+      members = λ session. absurd (cc session);
+      steps = refused_steps b from (NotCreated (Exists d)) untouched.moves;
+    }
+
+    module _ (no_low : (d : ℕ) → IsLowest g a d → ⊥) (sizes : (e : ℕ) → g.members < e → b.sizes e ≡ a.sizes e)
+        (others : IsTrue a.tells → (e : ℕ) → g.members < e → b.now.disks e ≡ a.now.disks e)
+        (contents : NoneIsThere g a → IsTrue a.tells → Quiet (Creates g) a.now b.now) where
+      none : NoneIsThere g a
+      none = none_there g a no_low
+
+      not_there : (ended : Ended) (h : Geometry) (d : ℕ) → first_broken asked ≡ None → HasNumbers h asked → IsLowest h a d → ended ≡ NotCreated (Exists d)
+      not_there ended h d kept also low = absurd (no_low d (subst (λ (g : Geometry). IsLowest g a d) (numbers_same asked h g also numbers) low))
+
+      -- while it is made
+      making : (p : List ℕ) (x y : Contents) → IsFaultFront p → Creates g x.disks y.disks → CreateLeaves asked a p y.disks
+      making p x y front creates = record {
+        broken = λ field is. let both : None ≡ Some field = sym kept ∙ is in absurd (cc both);
+        there = λ h d also low. absurd (no_low d (subst (λ (g : Geometry). IsLowest g a d) (numbers_same asked h g also numbers) low));
+        made = λ h also none. subst (λ (g : Geometry). Creates g a.now.disks y.disks) (numbers_same asked g h numbers also) creates;
+        whole = λ h rest also none is. absurd (not_created asked.id p rest front is);
+      }
+
+      -- and when it is made
+      made : (p : List ℕ) (disks : Disks) → Holds g (fresh g) disks → CreateLeaves asked a p disks
+      made p disks holds = record {
+        broken = λ field is. let both : None ≡ Some field = sym kept ∙ is in absurd (cc both);
+        there = λ h d also low. absurd (no_low d (subst (λ (g : Geometry). IsLowest g a d) (numbers_same asked h g also numbers) low));
+        made = λ h also none. inr (subst (λ (g : Geometry). Holds g (fresh g) disks) (numbers_same asked g h numbers also) holds);
+        whole = λ h rest also none is. subst (λ (g : Geometry). Holds g (fresh g) disks) (numbers_same asked g h numbers also) holds;
+      }
+
+      -- what is touched
+      touched : b.tells ≡ a.tells → ((e : ℕ) → a.faults e ≤ b.faults e) → a.port_faults ≤ b.port_faults → TouchesBelow 17 a b
+      touched tells faults ports = record {
+        tells = tells;
+        sizes = λ e beyond. sizes e (omega (arith, g.within.members_most, beyond));
+        faults = faults;
+        port_faults = ports;
+      }
+
+      -- A disk failed.
+      pub failed_works : (why : CreateFault) → is_create_refusal why ≡ false → CreateFails g why a b
+          → Moves a b (Creates g) (Creates g)
+          → Works (command_create asked) (NotCreated why) a b from from
+      failed_works why fault fails moves = record {
+        cause = (g, numbers, fails);
+        first = (no_field (NotCreated why), not_there (NotCreated why));
+        refused = λ refused. absurd (cc);
+        stops = λ told. unfinished why fault (record {
+          g = g;
+          numbers = numbers;
+          said = (contents none told).said;
+          disks = (contents none told).disks;
+        });
+        touches = touched moves.tells moves.faults moves.port_faults;
+        others = λ other told e beyond. others told e (omega (arith, g.within.members_most, beyond));
+        members = λ session. absurd (cc session);
+        steps = weaken a b (Quiet (Creates g)) (Quiet (Creates g)) (Leaves (command_create asked) a from) (LeavesBefore (last_line (NotCreated why)) (command_create asked) a from) moves
+            (λ x y was step. record { part = []; said = step.said ∙ sym (append-nil x.said); leaves = making [] x y (Done, [], refl) step.disks })
+            (λ x y was left step front rest is. record {
+              part = front;
+              said = ap (λ (l : List ℕ). l ++ front) step.said;
+              leaves = making front x y (NotCreated why, rest, is) step.disks;
+            });
+      }
+        where
+          unfinished : (why : CreateFault) → is_create_refusal why ≡ false → IsUnfinished asked a.now b.now → CreateStopped asked why a.now b.now
+          unfinished (Exists d) fault is = absurd (cc fault)
+          unfinished LogFault fault is = is
+          unfinished (MemberFault first second) fault is = is
+
+      module _ (c : View) (moves : Moves a b (Creates g) (HasCreated g)) {T E : Type 0} (result : Result T E) (says : Says (created_line asked.id) result b c) where
+        told_mid : IsTrue a.tells → IsTrue b.tells
+        told_mid told = subst IsTrue (sym moves.tells) told
+
+        holds_now : IsTrue a.tells → Holds g (fresh g) c.now.disks
+        holds_now told = subst (λ (disks : Disks). Holds g (fresh g) disks) (sym (says.disks (told_mid told)))
+            (moves.now b.now (read_is_left b (told_mid told))).by.disks
+
+        said_before : IsTrue a.tells → b.now.said ≡ a.now.said
+        said_before told = (contents none told).said
+
+        touched_end : TouchesBelow 17 a c
+        touched_end = record {
+          tells = says.goes.tells ∙ moves.tells;
+          sizes = λ e beyond. says.sizes e ∙ sizes e (omega (arith, g.within.members_most, beyond));
+          faults = λ e. omega (arith, moves.faults e, says.goes.faults e);
+          port_faults = omega (arith, moves.port_faults, says.goes.port_faults);
+        }
+
+        others_end : StaysFrom 17 a c
+        others_end told e beyond = ap (λ (disks : Disks). disks e) (says.disks (told_mid told)) ∙ others told e (omega (arith, g.within.members_most, beyond))
+
+        created_steps : (line : List ℕ) → Steps a c (Leaves (command_create asked) a from) (LeavesBefore line (command_create asked) a from)
+        created_steps line = then_ a b c (Quiet (Creates g)) (Quiet (HasCreated g)) (SpokePart (created_line asked.id)) (SpokePart (created_line asked.id))
+            (Leaves (command_create asked) a from) (LeavesBefore line (command_create asked) a from) moves (say_steps result b c (created_line asked.id) says)
+            (λ x y was step. record { part = []; said = step.said ∙ sym (append-nil x.said); leaves = making [] x y (Done, [], refl) step.disks })
+            (λ x y z was step mid spoke. record {
+              part = spoke.says.part;
+              said = spoke.says.said ∙ ap (λ (l : List ℕ). l ++ spoke.says.part) step.said;
+              leaves = made spoke.says.part z.disks (subst (λ (disks : Disks). Holds g (fresh g) disks) (sym spoke.disks) step.disks);
+            })
+            (λ x y z was step mid spoke front rest is. record {
+              part = spoke.says.part ++ front;
+              said = ap (λ (l : List ℕ). l ++ front) (spoke.says.said ∙ ap (λ (l : List ℕ). l ++ spoke.says.part) step.said) ∙ append_assoc x.said spoke.says.part front;
+              leaves = made (spoke.says.part ++ front) z.disks (subst (λ (disks : Disks). Holds g (fresh g) disks) (sym spoke.disks) step.disks);
+            })
+
+        -- The array is made, and its line was said.
+        pub created_works : (IsTrue b.tells → c.now.said ≡ b.now.said ++ created_line asked.id) → Works (command_create asked) Done a c from from
+        created_works whole = record {
+          cause = kept;
+          first = (no_field Done, not_there Done);
+          refused = λ refused. absurd (cc refused);
+          stops = λ told. record {
+            g = g;
+            numbers = numbers;
+            said = whole (told_mid told) ∙ ap (λ (l : List ℕ). l ++ created_line asked.id) (said_before told);
+            holds = holds_now told;
+          };
+          touches = touched_end;
+          others = λ other. others_end;
+          members = λ session. absurd (cc session);
+          steps = created_steps [];
+        }
+
+        -- The port failed in its line.
+        pub unsaid_works : Rose b.port_faults c.port_faults → Works (command_create asked) Port a c from from
+        unsaid_works rose = record {
+          cause = omega (arith, moves.port_faults, rose);
+          first = (no_field Port, not_there Port);
+          refused = λ refused. absurd (cc refused);
+          stops = λ told.
+              let part = says.part (told_mid told) in
+              record {
+                g = g;
+                numbers = numbers;
+                part = record { part = part.part; rest = part.rest; whole = part.whole; said = part.said ∙ ap (λ (l : List ℕ). l ++ part.part) (said_before told) };
+                holds = holds_now told;
+              };
+          touches = touched_end;
+          others = λ other. others_end;
+          members = λ session. absurd (cc session);
+          steps = created_steps [];
+        }
+
+-- What `create` answers when it made no array.
+pub uncreated_works : {T : Type 0} (asked : Asked) (g : Geometry) (a b : View) (from : Stream) (result : Result T CreateFault) (why : CreateFault)
+    → IsLawful a → first_broken asked ≡ None → HasNumbers g asked → result ≡ Err why
+    → ((d : ℕ) → (result ≡ Err (Exists d)) ↔ IsLowest g a d) → ((d : ℕ) → IsLowest g a d → IsUntouched a b)
+    → (result ≡ Err LogFault → Rose (a.faults 0) (b.faults 0))
+    → ((first second : ℕ) → result ≡ Err (MemberFault first second) → (first ≡ second) × (second < g.members) × Rose (a.faults (second + 1)) (b.faults (second + 1)))
+    → ((e : ℕ) → g.members < e → b.sizes e ≡ a.sizes e) → (IsTrue a.tells → (e : ℕ) → g.members < e → b.now.disks e ≡ a.now.disks e)
+    → (NoneIsThere g a → IsTrue a.tells → Quiet (Creates g) a.now b.now)
+    → (NoneIsThere g a → Moves a b (Creates g) (Creates g))
+    → Works (command_create asked) (NotCreated why) a b from from
+uncreated_works asked g a b from result (Exists d) lawful kept numbers is exists untouched log member sizes others contents moves =
+    let low = (exists d).0 is in
+    exists_works asked a lawful kept g numbers b from d low (untouched d low)
+uncreated_works asked g a b from result LogFault lawful kept numbers is exists untouched log member sizes others contents moves =
+    let no_low : (d : ℕ) → IsLowest g a d → ⊥ = λ d low. let both : Err LogFault ≡ Err (Exists d) = sym is ∙ (exists d).1 low in cc in
+    failed_works asked a lawful kept g numbers b from no_low sizes others contents LogFault refl (log is) (moves (none_there g a no_low))
+uncreated_works asked g a b from result (MemberFault first second) lawful kept numbers is exists untouched log member sizes others contents moves =
+    let no_low : (d : ℕ) → IsLowest g a d → ⊥ = λ d low. let both : Err (MemberFault first second) ≡ Err (Exists d) = sym is ∙ (exists d).1 low in cc in
+    let fails = member first second is in
+    failed_works asked a lawful kept g numbers b from no_low sizes others contents (MemberFault first second) refl (fails.0, fails.2) (moves (none_there g a no_low))
+
+-- an array that was made had none of its disks there
+pub none_before : {T : Type 0} (g : Geometry) (a : View) (result : Result T CreateFault) (value : T) → result ≡ Ok value
+    → ((d : ℕ) → (result ≡ Err (Exists d)) ↔ IsLowest g a d) → (d : ℕ) → IsLowest g a d → ⊥
+none_before g a result value is exists d low = let both : Ok value ≡ Err (Exists d) = sym is ∙ (exists d).1 low in cc

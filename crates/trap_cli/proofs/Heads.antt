@@ -1,0 +1,53 @@
+-- The heads by which disks hold states.
+use Rattle.std.proofs.Common.{◌≡◌, inl, inr, ⊎_elim, ℕ, ◌+◌, ◌≤◌, Some, refl, sym, subst, ◌∙◌, arith}
+use Rattle.trap_bank.specs.Disks.{Disks, View}
+use Rattle.trap_format.specs.HeadValue.{head_value}
+use Rattle.trap_format.specs.declared.head.Head.{Head}
+use Rattle.trap_format.proofs.Spellings.{heads_same}
+use Rattle.trap_model.specs.declared.numbers.Geometry.{Geometry}
+use Rattle.trap_model.specs.declared.history.State.{State}
+use Rattle.trap_array.specs.Holding.{Holds, HoldsBy}
+use Rattle.trap_array.specs.Mounting.{Mounts, SameHead, FoundLost}
+use Rattle.trap_array.proofs.Puts.{put_in_cell, fits_put}
+use Rattle.trap_cli.specs.Run.{KeepsMembers}
+use Rattle.trap_cli.proofs.Saying.{rose_later}
+
+-- there is one such head
+pub same_heads : (g : Geometry) (h k : Head) (s t : State) (x : Disks) → HoldsBy g h s x → HoldsBy g k t x → h ≡ k
+same_heads g h k s t x was is = heads_same g h k (head_value h)
+    (record { head = was.fits.head.head; spelled = refl })
+    (record { head = is.fits.head.head; spelled = let both : Some (head_value h) ≡ Some (head_value k) = sym was.value ∙ is.value in cc })
+
+-- A state stays held where only the slot of the head's cell that isn't current differs, and the value is the same.
+pub same_head_holds : (g : Geometry) (s : State) (x y : Disks) → SameHead x y → Holds g s x → Holds g s y
+same_head_holds g s x y same holds = record {
+  head = holds.head;
+  by = record {
+    value = same.value ∙ holds.by.value;
+    fits = fits_put g holds.head s x y (put_in_cell same.cell x y same.place same.differs) holds.by.fits;
+  };
+}
+
+-- and over a mounting
+pub mounted_holds : (g : Geometry) (s : State) (a : View) (y : Disks) → Mounts a a.now.disks y → Holds g s a.now.disks → Holds g s y
+mounted_holds g s a y (inl same) holds = subst (λ (disks : Disks). Holds g s disks) (sym same) holds
+mounted_holds g s a y (inr (inl head)) holds = same_head_holds g s a.now.disks y head holds
+mounted_holds g s a y (inr (inr still)) holds = still g s holds
+
+-- what mounting found of the members is so at the end
+pub keeps_found : (g : Geometry) (h k : Head) (old mid new : View) → FoundLost g h k old mid → ((e : ℕ) → mid.faults e ≤ new.faults e)
+    → KeepsMembers g h k old new
+keeps_found g h k old mid new found later = record {
+  lost = λ m is. ⊎_elim (λ was. inl was) (λ absent. inr absent.1) (found.lost m is);
+  mark = λ m was is lower. ⊎_elim (λ same. absurd (omega (arith, same, lower)))
+      (λ zero. ⊎_elim (λ rose. inl (rose_later (old.faults (m + 1)) (mid.faults (m + 1)) (new.faults (m + 1)) rose (later (m + 1)))) (λ other. inr other) (zero.1 m is))
+      found.mark;
+}
+
+-- of heads that name the same member with the same mark
+pub keeps_like : (g : Geometry) (h k l : Head) (old new : View) → KeepsMembers g h k old new → l.lost ≡ k.lost → l.rebuilt ≡ k.rebuilt
+    → KeepsMembers g h l old new
+keeps_like g h k l old new keeps lost rebuilt = record {
+  lost = λ m is. keeps.lost m (sym lost ∙ is);
+  mark = λ m was is lower. keeps.mark m was (sym lost ∙ is) (omega (arith, lower, rebuilt));
+}

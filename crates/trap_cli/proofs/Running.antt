@@ -1,0 +1,204 @@
+-- A run from its command and its last line.
+use Rattle.std.proofs.Common.{◌≡◌, ◌↔◌, inl, inr, ⊎_elim, ℕ, ◌+◌, ◌≤◌, List, [], ◌++◌, Option, Some, None, true, IsTrue, refl, sym, ap, subst, ◌∙◌, append-nil, arith}
+use Rattle.std.specs.declared.alloc.Global.{Global}
+use Rattle.std.specs.Prelude.{String}
+use Rattle.trap_bank.specs.Disks.{Contents, Disks, View}
+use Rattle.trap_bank.specs.Calls.{MayLeave, IsLawful}
+use Rattle.trap_bank.specs.Stream.{Stream}
+use Rattle.trap_bank.proofs.Moves.{nothing_done}
+use Rattle.trap_array.specs.Holding.{HoldsBy}
+use Rattle.trap_array.specs.Mounting.{MountFails}
+use Rattle.trap_array.specs.declared.fault.CreateFault.TheVariants as creating
+use Rattle.trap_array.specs.declared.fault.MountFault.{MountFault}
+use Rattle.trap_array.specs.declared.fault.MountFault.TheVariants as mounting
+use Rattle.trap_array.specs.declared.fault.Denied.TheVariants as denied
+use Rattle.trap_session.specs.declared.outcome.SessionFault.{SessionFault}
+use Rattle.trap_session.specs.declared.outcome.SessionFault.TheVariants as serving
+use Rattle.trap_cli.specs.declared.command.Command.{Command}
+use Rattle.trap_cli.specs.declared.command.Command.TheVariants.{Create, Session}
+use Rattle.trap_cli.specs.declared.outcome.Ended.{Ended}
+use Rattle.trap_cli.specs.declared.outcome.Ended.TheVariants.{Done, Usage, BadGeometry, NotCreated, NotMounted, Stopped, Port, Memory}
+use Rattle.trap_cli.specs.Command.{IsCommand}
+use Rattle.trap_cli.specs.Ended.{status_of, last_line, is_refused}
+use Rattle.trap_cli.specs.Cause.{CauseOf, SessionCause, CreateCause, StoppedBy}
+use Rattle.trap_cli.specs.Stops.{StopsBefore}
+use Rattle.trap_cli.specs.Crash.{LeftBy, Leaves, LeavesBefore}
+use Rattle.trap_cli.specs.Run.{Works, Runs, Ends, Spoken, Refuses, TouchesBelow, StaysFrom, MembersStay}
+use Rattle.trap_cli.proofs.Words.{one_command}
+use Rattle.trap_cli.proofs.Saying.{rose_later, last_since, run_leaves}
+use Rattle.trap_cli.proofs.Crashing.{no_front, mount_leaves}
+use Rattle.trap_cli.proofs.Creates.{entry_creates}
+
+-- causes stay
+mount_later : (why : MountFault) (old mid new : View) → ((e : ℕ) → mid.faults e ≤ new.faults e) → MountFails why old mid → MountFails why old new
+mount_later mounting.NotAnArray old mid new later fails = tt
+mount_later (mounting.BadVersion version) old mid new later fails = tt
+mount_later (mounting.WrongMember member) old mid new later fails = tt
+mount_later (mounting.TooManyLost first second) old mid new later fails = tt
+mount_later (mounting.Damaged offset) old mid new later fails = tt
+mount_later mounting.LogFault old mid new later fails = rose_later (old.faults 0) (mid.faults 0) (new.faults 0) fails (later 0)
+mount_later (mounting.MemberFault first second) old mid new later fails =
+    (fails.0, fails.1, rose_later (old.faults (second + 1)) (mid.faults (second + 1)) (new.faults (second + 1)) fails.2 (later (second + 1)))
+mount_later mounting.OutOfMemory old mid new later fails = tt
+
+stopped_later : (why : SessionFault) (old mid new : View) (from to : Stream) → ((e : ℕ) → mid.faults e ≤ new.faults e) → mid.port_faults ≤ new.port_faults
+    → StoppedBy why old mid from to → StoppedBy why old new from to
+stopped_later (serving.Array (denied.Refused why)) old mid new from to later port by = absurd by
+stopped_later (serving.Array denied.LogFault) old mid new from to later port by = rose_later (old.faults 0) (mid.faults 0) (new.faults 0) by (later 0)
+stopped_later (serving.Array (denied.MemberFault first second)) old mid new from to later port by =
+    (by.0, rose_later (old.faults (second + 1)) (mid.faults (second + 1)) (new.faults (second + 1)) by.1 (later (second + 1)))
+stopped_later (serving.Array denied.Stopped) old mid new from to later port by = absurd by
+stopped_later serving.ReadFault old mid new from to later port by = by
+stopped_later serving.WriteFault old mid new from to later port by = rose_later old.port_faults mid.port_faults new.port_faults by port
+stopped_later serving.TooLong old mid new from to later port by = by
+
+cause_later : (command : Option Command) (ended : Ended) (old mid new : View) (from to : Stream)
+    → ((e : ℕ) → mid.faults e ≤ new.faults e) → mid.port_faults ≤ new.port_faults
+    → CauseOf command ended old mid from to → CauseOf command ended old new from to
+cause_later None ended old mid new from to later port by = by
+cause_later (Some Session) Done old mid new from to later port by = by
+cause_later (Some Session) Usage old mid new from to later port by = by
+cause_later (Some Session) (BadGeometry field) old mid new from to later port by = by
+cause_later (Some Session) (NotCreated why) old mid new from to later port by = by
+cause_later (Some Session) (NotMounted why) old mid new from to later port by = (by.0, mount_later why old mid new later by.1)
+cause_later (Some Session) (Stopped why) old mid new from to later port by = (by.0, stopped_later why old mid new from to later port by.1)
+cause_later (Some Session) Port old mid new from to later port by = by
+cause_later (Some Session) Memory old mid new from to later port by = by
+cause_later (Some (Create asked)) Done old mid new from to later port by = by
+cause_later (Some (Create asked)) Usage old mid new from to later port by = by
+cause_later (Some (Create asked)) (BadGeometry field) old mid new from to later port by = by
+cause_later (Some (Create asked)) (NotCreated (creating.Exists disk)) old mid new from to later port by = by
+cause_later (Some (Create asked)) (NotCreated creating.LogFault) old mid new from to later port by =
+    (by.0, by.1, rose_later (old.faults 0) (mid.faults 0) (new.faults 0) by.2 (later 0))
+cause_later (Some (Create asked)) (NotCreated (creating.MemberFault first second)) old mid new from to later port by =
+    (by.0, by.1, (by.2.0, rose_later (old.faults (second + 1)) (mid.faults (second + 1)) (new.faults (second + 1)) by.2.1 (later (second + 1))))
+cause_later (Some (Create asked)) (NotMounted why) old mid new from to later port by = by
+cause_later (Some (Create asked)) (Stopped why) old mid new from to later port by = by
+cause_later (Some (Create asked)) Port old mid new from to later port by = rose_later old.port_faults mid.port_faults new.port_faults by port
+cause_later (Some (Create asked)) Memory old mid new from to later port by = by
+
+-- status 2 is that of one ending alone
+not_two : (ended : Ended) → (ended ≡ Usage → ⊥) → status_of ended ≡ 2 → ⊥
+not_two Done other two = cc two
+not_two Usage other two = other refl
+not_two (BadGeometry field) other two = cc two
+not_two (NotCreated (creating.Exists disk)) other two = cc two
+not_two (NotCreated creating.LogFault) other two = cc two
+not_two (NotCreated (creating.MemberFault first second)) other two = cc two
+not_two (NotMounted mounting.NotAnArray) other two = cc two
+not_two (NotMounted (mounting.BadVersion version)) other two = cc two
+not_two (NotMounted (mounting.WrongMember member)) other two = cc two
+not_two (NotMounted (mounting.TooManyLost first second)) other two = cc two
+not_two (NotMounted (mounting.Damaged offset)) other two = cc two
+not_two (NotMounted mounting.LogFault) other two = cc two
+not_two (NotMounted (mounting.MemberFault first second)) other two = cc two
+not_two (NotMounted mounting.OutOfMemory) other two = cc two
+not_two (Stopped (serving.Array (denied.Refused why))) other two = cc two
+not_two (Stopped (serving.Array denied.LogFault)) other two = cc two
+not_two (Stopped (serving.Array (denied.MemberFault first second))) other two = cc two
+not_two (Stopped (serving.Array denied.Stopped)) other two = cc two
+not_two (Stopped serving.ReadFault) other two = cc two
+not_two (Stopped serving.WriteFault) other two = cc two
+not_two (Stopped serving.TooLong) other two = cc two
+not_two Port other two = cc two
+not_two Memory other two = cc two
+
+-- a command isn't refused as none
+no_usage : (command : Command) (ended : Ended) (old new : View) (from to : Stream) → CauseOf (Some command) ended old new from to → ended ≡ Usage → ⊥
+no_usage Session ended old new from to by is = subst (λ (ended : Ended). SessionCause ended old new from to) is by
+no_usage (Create asked) ended old new from to by is = subst (λ (ended : Ended). CreateCause asked ended old new) is by
+
+pub usage_exact : (status : ℕ) (words : List (String Global)) (command : Option Command) (ended : Ended) (old new : View) (from to : Stream) → IsCommand command words
+    → status ≡ status_of ended → CauseOf command ended old new from to → (status ≡ 2) ↔ IsCommand None words
+usage_exact status words None ended old new from to is number by = (λ two. is, λ none. number ∙ ap status_of by)
+usage_exact status words (Some command) ended old new from to is number by =
+    (λ two. absurd (not_two ended (no_usage command ended old new from to by) (sym number ∙ two)), λ none. absurd (some_none command is none))
+  where
+    some_none : (command : Command) → IsCommand (Some command) words → IsCommand None words → ⊥
+    some_none command is none = let both = one_command words (Some command) None is none in cc both
+
+-- what a crash on entry leaves
+pub at_entry : (command : Option Command) (a : View) (from : Stream) → IsLawful a → (x : Contents) → MayLeave a x → LeftBy command a from x.said x
+at_entry None a from lawful x was = record { part = []; said = sym (append-nil x.said); leaves = (no_front, was.torn.disks) }
+at_entry (Some Session) a from lawful x was = λ g s input begins. record {
+  part = [];
+  said = sym (append-nil x.said);
+  leaves = mount_leaves g s input a from begins [] no_front x x was (inl refl);
+}
+at_entry (Some (Create asked)) a from lawful x was = record {
+  part = [];
+  said = sym (append-nil x.said);
+  leaves = entry_creates asked a lawful x was;
+}
+
+-- words that are no command
+pub no_command : (a : View) (from : Stream) → Works None Usage a a from from
+no_command a from = record {
+  cause = refl;
+  first = tt;
+  refused = λ is. record { sizes = λ e. refl; contents = λ told. refl };
+  stops = λ told. refl;
+  touches = record { tells = refl; sizes = λ e beyond. refl; faults = λ e. omega arith; port_faults = omega arith };
+  others = λ other told e beyond. refl;
+  members = λ session. absurd (cc session);
+  steps = nothing_done a (Leaves None a from) (LeavesBefore (last_line Usage) None a from)
+      (λ x was front rest is. record { part = front; said = refl; leaves = ((Usage, rest, is), was.torn.disks) });
+}
+
+module _ (command : Option Command) (ended : Ended) (old mid new : View) (from to : Stream) (works : Works command ended old mid from to)
+    (spoken : Spoken (last_line ended) mid new) where
+  told_mid : IsTrue old.tells → IsTrue mid.tells
+  told_mid told = subst IsTrue (sym works.touches.tells) told
+
+  ends : IsTrue old.tells → Ends command ended old new from to
+  ends told = record {
+    before = mid.now.said;
+    stops = subst (λ (disks : Disks). StopsBefore command ended old (record { disks = disks; said = mid.now.said }) from to)
+        (sym (spoken.disks (told_mid told))) works.stops;
+    last = last_since old mid new works.touches.port_faults (spoken.last (told_mid told));
+  }
+
+  refuses : is_refused ended ≡ true → Refuses (last_line ended) old new
+  refuses is = record {
+    sizes = λ e. spoken.sizes e ∙ (works.refused is).sizes e;
+    disks = λ told. spoken.disks (told_mid told) ∙ ap (λ (c : Contents). c.disks) ((works.refused is).contents told);
+    says = λ told.
+        let same = ap (λ (c : Contents). c.said) ((works.refused is).contents told) in
+        let last = last_since old mid new works.touches.port_faults (spoken.last (told_mid told)) in
+        record { part = last.part; rest = last.rest; whole = last.whole; said = last.said ∙ ap (λ (l : List ℕ). l ++ last.part) same; port = last.port };
+  }
+
+  pub run_members : command ≡ Some Session → MembersStay old new from
+  run_members session g s t input h k begins was is =
+      let keeps = works.members session g s t input h k begins was
+      (subst (λ (disks : Disks). HoldsBy g k t disks) (spoken.disks (told_mid begins.tells)) is) in
+      record {
+        lost = keeps.lost;
+        mark = λ m before after lower. ⊎_elim
+            (λ rose. inl (rose_later (old.faults (m + 1)) (mid.faults (m + 1)) (new.faults (m + 1)) rose (spoken.steps.faults (m + 1)))) (λ other. inr other)
+            (keeps.mark m before after lower);
+      }
+
+  pub run_runs : (status : ℕ) → status ≡ status_of ended → Runs status command old new from to
+  run_runs status is = record {
+    ended = ended;
+    number = is;
+    cause = cause_later command ended old mid new from to spoken.steps.faults spoken.steps.port_faults works.cause;
+    first = works.first;
+    refused = refuses;
+    told = ends;
+  }
+
+  pub run_touches : TouchesBelow 17 old new
+  run_touches = record {
+    tells = spoken.steps.tells ∙ works.touches.tells;
+    sizes = λ e beyond. spoken.sizes e ∙ works.touches.sizes e beyond;
+    faults = λ e. omega (arith, works.touches.faults e, spoken.steps.faults e);
+    port_faults = omega (arith, works.touches.port_faults, spoken.steps.port_faults);
+  }
+
+  pub run_others : (command ≡ Some Session → ⊥) → StaysFrom 17 old new
+  run_others other told e beyond = ap (λ (disks : Disks). disks e) (spoken.disks (told_mid told)) ∙ works.others other told e beyond
+
+  pub run_crash : IsLawful old → (w : Contents) → new.left old.moment w → LeftBy command old from old.now.said w
+  run_crash lawful = run_leaves command old mid new from (last_line ended) lawful (at_entry command old from lawful) works.steps spoken.steps

@@ -1,0 +1,82 @@
+-- What the last line does.
+use Rattle.std.proofs.Common.{◌≡◌, ◌⊎◌, inl, inr, ℕ, ◌≤◌, List, [], ◌++◌, Option, Result, Ok, Err, IsTrue, refl, sym, ap₂, subst, append-nil, arith}
+use Rattle.trap_bank.specs.Faults.{Rose}
+use Rattle.trap_bank.specs.Disks.{Contents, Disks, View}
+use Rattle.trap_bank.specs.Calls.{Says, MayLeave, IsLawful}
+use Rattle.trap_bank.specs.Steps.{Steps, SpokePart}
+use Rattle.trap_bank.specs.Stream.{Stream}
+use Rattle.trap_bank.proofs.Moves.{say_steps, nothing_done, then_, since_entry}
+use Rattle.trap_cli.specs.declared.command.Command.{Command}
+use Rattle.trap_cli.specs.Crash.{LeftBy, Leaves, LeavesBefore}
+use Rattle.trap_cli.specs.Run.{SaysLast, Spoken}
+
+says_last : {T E : Type 0} (result : Result T E) (line : List ℕ) (old new : View) → Says line result old new → IsTrue old.tells
+    → SaysLast line old.now.said old new
+says_last (Ok value) line old new call told = record { part = line; rest = []; whole = append-nil line; said = call.said told; port = inl refl }
+says_last (Err e) line old new call told =
+    let part = call.part told in
+    record { part = part.part; rest = part.rest; whole = part.whole; said = part.said; port = inr call.cause }
+
+pub spoken_by : {T E : Type 0} (result : Result T E) (said line : List ℕ) (old new : View) → said ≡ line → Says said result old new → Spoken line old new
+spoken_by result said line old new is call =
+    let call = subst (λ (line : List ℕ). Says line result old new) is call in
+    record {
+      steps = say_steps result old new line call;
+      sizes = call.sizes;
+      disks = call.disks;
+      last = says_last result line old new call;
+    }
+
+-- no line is said
+pub spoken_nothing : (line : List ℕ) (v : View) → line ≡ [] → Spoken line v v
+spoken_nothing line v none = subst (λ (line : List ℕ). Spoken line v v) (sym none) (record {
+  steps = nothing_done v (SpokePart []) (SpokePart [])
+      (λ x was. record { disks = refl; says = record { part = []; rest = []; whole = refl; said = sym (append-nil x.said) } });
+  sizes = λ e. refl;
+  disks = λ told. refl;
+  last = λ told. record { part = []; rest = []; whole = refl; said = sym (append-nil v.now.said); port = inl refl };
+})
+
+-- a count that rose before a while, or since a while
+pub rose_later : (a b c : ℕ) → Rose a b → b ≤ c → Rose a c
+rose_later a b c rose later = omega (arith, rose, later)
+
+pub rose_since : (a b c : ℕ) → a ≤ b → Rose b c → Rose a c
+rose_since a b c later rose = omega (arith, rose, later)
+
+-- the last line of a run is said by it
+pub last_since : (old mid new : View) → old.port_faults ≤ mid.port_faults → {line before : List ℕ} → SaysLast line before mid new → SaysLast line before old new
+last_since old mid new later last = record {
+  part = last.part;
+  rest = last.rest;
+  whole = last.whole;
+  said = last.said;
+  port = since last.port;
+}
+  where
+    since : {P : Type 0} → P ⊎ Rose mid.port_faults new.port_faults → P ⊎ Rose old.port_faults new.port_faults
+    since (inl p) = inl p
+    since (inr rose) = inr (rose_since old.port_faults mid.port_faults new.port_faults later rose)
+
+-- The last line is said, and this is what a crash at any moment of the run leaves.
+pub run_leaves : (command : Option Command) (a b c : View) (from : Stream) (line : List ℕ) → IsLawful a
+    → ((x : Contents) → MayLeave a x → LeftBy command a from x.said x)
+    → Steps a b (Leaves command a from) (LeavesBefore line command a from) → Steps b c (SpokePart line) (SpokePart line)
+    → (w : Contents) → c.left a.moment w → LeftBy command a from a.now.said w
+run_leaves command a b c from line lawful at_entry worked spoke w left =
+    let came = since_entry a c (Leaves command a from) (Leaves command a from) lawful at_entry both w left in
+    subst (λ (said : List ℕ). LeftBy command a from said w) came.was.torn.said came.by
+  where
+    whole_contents : (z : Contents) (disks : Disks) (said : List ℕ) → z.disks ≡ disks → z.said ≡ said → record { disks = disks; said = said } ≡ z
+    whole_contents z disks said same is = ap₂ (λ (disks : Disks) (said : List ℕ). record { disks = disks; said = said }) (sym same) (sym is)
+
+    said_part : (x y z : Contents) → LeavesBefore line command a from x y → SpokePart line y z → Leaves command a from x z
+    said_part x y z before spoke = subst (λ (z : Contents). LeftBy command a from x.said z)
+        (whole_contents z y.disks (y.said ++ spoke.says.part) spoke.disks spoke.says.said)
+        (before spoke.says.part spoke.says.rest spoke.says.whole)
+
+    both : Steps a c (Leaves command a from) (Leaves command a from)
+    both = then_ a b c (Leaves command a from) (LeavesBefore line command a from) (SpokePart line) (SpokePart line) (Leaves command a from) (Leaves command a from) worked spoke
+        (λ x y was some. some)
+        (λ x y z was before mid spoke. said_part x y z before spoke)
+        (λ x y z was before mid spoke. said_part x y z before spoke)

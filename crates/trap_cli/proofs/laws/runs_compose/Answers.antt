@@ -1,0 +1,10 @@
+use Rattle.trap_cli.proofs.Heads.{same_head_holds}
+use Rattle.trap_cli.proofs.Crashing.{crash_holds}
+use Rattle.trap_cli.proofs.laws.runs_compose.Goals as goal
+
+pub returns-clause-head : goal.returns-clause-head
+returns-clause-head g c = same_head_holds
+
+pub returns-clause-crash : goal.returns-clause-crash
+returns-clause-crash g c array s input p from disks begins always leaves =
+    crash_holds array s input (g.B.Bank.view c.args._bank.now) from begins always p disks leaves

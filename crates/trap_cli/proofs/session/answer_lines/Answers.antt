@@ -1,0 +1,5 @@
+use Rattle.trap_cli.proofs.Sessions.{memory_steps}
+use Rattle.trap_cli.proofs.session.answer_lines.Goals as goal
+
+pub returns-in_default-clause-steps : goal.returns-in_default-clause-steps
+returns-in_default-clause-steps g c = memory_steps c.args.array (g.B.Bank.view c.args.bank.now) (g.S.Source.stream c.args.source.now)

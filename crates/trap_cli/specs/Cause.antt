@@ -1,0 +1,84 @@
+-- Why a run ends so.
+use Rattle.std.specs.Prelude.{◌≡◌, ◌⊎◌, ℕ, ◌+◌, ◌^◌, ◌<◌, Option, Some, None, IsTrue, true, false}
+use Rattle.trap_bank.specs.Faults.{Rose}
+use Rattle.trap_bank.specs.Disks.{Disks, View}
+use Rattle.trap_bank.specs.Stream.{Stream}
+use Rattle.trap_model.specs.declared.asked.Asked.{Asked}
+use Rattle.trap_model.specs.declared.numbers.Geometry.{Geometry}
+use Rattle.trap_format.specs.Checked.{first_broken, HasNumbers}
+use Rattle.trap_format.specs.declared.head.Head.{Head}
+use Rattle.trap_raid.specs.Members.{IsMember, IsOut}
+use Rattle.trap_array.specs.Creating.{IsLowest}
+use Rattle.trap_array.specs.Mounting.{HasMembers, Refuses, MountFails}
+use Rattle.trap_array.specs.declared.fault.CreateFault.{CreateFault}
+use Rattle.trap_array.specs.declared.fault.CreateFault.TheVariants as creating
+use Rattle.trap_array.specs.declared.fault.Denied.TheVariants as denied
+use Rattle.trap_session.specs.Serving.{TookQuit}
+use Rattle.trap_session.specs.declared.outcome.SessionFault.{SessionFault}
+use Rattle.trap_session.specs.declared.outcome.SessionFault.TheVariants as serving
+use Rattle.trap_cli.specs.declared.command.Command.{Command}
+use Rattle.trap_cli.specs.declared.command.Command.TheVariants.{Create, Session}
+use Rattle.trap_cli.specs.declared.outcome.Ended.{Ended}
+use Rattle.trap_cli.specs.declared.outcome.Ended.TheVariants.{Done, Usage, BadGeometry, NotCreated, NotMounted, Stopped, Port, Memory}
+
+-- both numbers are those of a member whose count rose
+abbrev pub MemberRose : ℕ → ℕ → View → View → Type 0
+MemberRose first second old new = (first ≡ second) × Rose (old.faults (second + 1)) (new.faults (second + 1))
+
+-- every step of mounting an array of these numbers passes: nothing on the disks is refused
+pub record Passes (g : Geometry) (disks : Disks) : Type 0 where
+  pub h : Head
+  pub members : HasMembers g h disks
+  pub own : (m : ℕ) → m < g.members → (IsOut h.lost disks m → ⊥) → IsMember g disks m
+
+-- where the bank tells, the disks are those of an array
+abbrev pub IsMountable : View → Type 0
+IsMountable old = IsTrue old.tells → (g : Geometry) × Passes g old.now.disks
+
+-- the source came to its end, or a `Q` was taken, a line of the array that is mounted
+abbrev pub TookAll : View → Stream → Stream → Type 0
+TookAll old from to = (to.ended ≡ true)
+    ⊎ ((g : Geometry) × (IsTrue old.tells → Passes g old.now.disks) × TookQuit g.block from to)
+
+-- why a session stopped so; a refusal and a stopped array end none
+abbrev pub StoppedBy : SessionFault → View → View → Stream → Stream → Type 0
+StoppedBy (serving.Array (denied.Refused why)) old new from to = ⊥
+StoppedBy (serving.Array denied.LogFault) old new from to = Rose (old.faults 0) (new.faults 0)
+StoppedBy (serving.Array (denied.MemberFault first second)) old new from to = MemberRose first second old new
+StoppedBy (serving.Array denied.Stopped) old new from to = ⊥
+StoppedBy serving.ReadFault old new from to = Rose from.faults to.faults
+StoppedBy serving.WriteFault old new from to = Rose old.port_faults new.port_faults
+StoppedBy serving.TooLong old new from to = (to.given ≡ from.given + 2 ^ 40) × (to.ended ≡ false)
+
+-- why no array was made: a disk is there, or one failed
+abbrev pub CreateFails : Geometry → CreateFault → View → View → Type 0
+CreateFails g (creating.Exists disk) old new = IsLowest g old disk
+CreateFails g creating.LogFault old new = Rose (old.faults 0) (new.faults 0)
+CreateFails g (creating.MemberFault first second) old new = MemberRose first second old new
+
+-- Why `session` ends so. What is said of the disks holds where the bank tells.
+abbrev pub SessionCause : Ended → View → View → Stream → Stream → Type 0
+SessionCause Done old new from to = IsMountable old × TookAll old from to
+SessionCause Usage old new from to = ⊥
+SessionCause (BadGeometry field) old new from to = ⊥
+SessionCause (NotCreated why) old new from to = ⊥
+SessionCause (NotMounted why) old new from to = (IsTrue old.tells → Refuses old why) × MountFails why old new
+SessionCause (Stopped why) old new from to = IsMountable old × StoppedBy why old new from to
+SessionCause Port old new from to = ⊥
+SessionCause Memory old new from to = IsMountable old
+
+-- why `create` ends so
+abbrev pub CreateCause : Asked → Ended → View → View → Type 0
+CreateCause asked Done old new = first_broken asked ≡ None
+CreateCause asked Usage old new = ⊥
+CreateCause asked (BadGeometry field) old new = first_broken asked ≡ Some field
+CreateCause asked (NotCreated why) old new = (g : Geometry) × HasNumbers g asked × CreateFails g why old new
+CreateCause asked (NotMounted why) old new = ⊥
+CreateCause asked (Stopped why) old new = ⊥
+CreateCause asked Port old new = Rose old.port_faults new.port_faults
+CreateCause asked Memory old new = ⊥
+
+abbrev pub CauseOf : Option Command → Ended → View → View → Stream → Stream → Type 0
+CauseOf None ended old new from to = ended ≡ Usage
+CauseOf (Some Session) ended old new from to = SessionCause ended old new from to
+CauseOf (Some (Create asked)) ended old new from to = CreateCause asked ended old new

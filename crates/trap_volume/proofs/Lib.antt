@@ -1,4 +1,0 @@
-pub mod ImageLemmas
-pub mod Holding
-pub mod Making
-pub mod Found

@@ -1,4 +1,0 @@
-pub mod Image
-pub mod Volume
-pub mod Opening
-pub mod Faults
