@@ -11,6 +11,7 @@ trap 'rm -rf "$folder"' EXIT
 cc -O2 -o "$folder/same_calls" "$root/benches/same_calls.c"
 cd "$folder"
 awk 'BEGIN { for (i = 0; i < 100000; i++) print "R " i % 8 }' >reads
+"$program" create 7 3 1 16 8 1 2 8 2048 >/dev/null
 printf 'W 1 3 11111111111111111111111111111111\n' | "$program" session >/dev/null
 
 # the best of nine runs, in milliseconds
@@ -28,5 +29,5 @@ PY
 }
 
 ours=$(best "$program" session)
-theirs=$(best ./same_calls log.trap 3)
+theirs=$(best ./same_calls m00.trap 16)
 echo "100,000 R lines: limuvosel $ours ms, C $theirs ms, ratio $(python3 -c "print(f'{$ours / $theirs:.2f}')")"

@@ -1,4 +1,4 @@
-// Makes the system calls that the design asks of a session of `R` lines over a disk of eight blocks of 16 bytes: input in
+// Makes the system calls that the design asks of a session of `R` lines over an array whose blocks have 16 bytes: input in
 // pieces of 64 KiB, and for each line one positioned read and one write. It checks no more than it needs to.
 #include <fcntl.h>
 #include <stdio.h>

@@ -1,6 +1,7 @@
 #!/usr/bin/env bash
-# Runs each examples/NAME.session on the built program, in an empty folder, and compares what it says with
-# NAME.replies and its exit status with NAME.status (0 where there is no such file).
+# Runs each examples/NAME.session on the built program, over a new array in an empty folder, and compares what it says
+# with NAME.replies and its exit status with NAME.status (0 where there is no such file). The array has eight blocks of
+# 16 bytes, or what NAME.create says.
 set -uo pipefail
 root=$(cd "$(dirname "$0")/.." && pwd)
 if ! command -v rt >/dev/null; then
@@ -19,8 +20,10 @@ for session in "$root"/examples/*.session; do
   replies=${session%.session}.replies
   want=0
   [ -e "${session%.session}.status" ] && want=$(cat "${session%.session}.status")
+  array="7 3 1 16 4 1 2 8 2048"
+  [ -e "${session%.session}.create" ] && array=$(cat "${session%.session}.create")
   folder=$(mktemp -d)
-  (cd "$folder" && "$program" session <"$session" >said)
+  (cd "$folder" && "$program" create $array >/dev/null && "$program" session <"$session" >said)
   status=$?
   if [ "$status" = "$want" ] && cmp -s "$folder/said" "$replies"; then
     passed=$((passed + 1))
