@@ -1,6 +1,8 @@
 //! Reads, small writes and drains over the members of an array, of which one may be lost.
 #![tactic(auto)]
 
+#[cfg(test)]
+mod pending_tests;
 mod raid;
 mod reads;
 #[cfg(test)]

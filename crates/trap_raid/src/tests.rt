@@ -15,10 +15,10 @@ use trap_model::Geometry;
 use trap_stage::{Stage, StageFault};
 
 /// Stands for parity in the tables below, which have the rows one after the other.
-const P: u32 = u32::MAX;
+pub(crate) const P: u32 = u32::MAX;
 
 /// A block's contents.
-fn contents(block: u32) -> [u8; 16]
+pub(crate) fn contents(block: u32) -> [u8; 16]
     requires { block < 256 }
 {
     let mut bytes = [0; 16];
@@ -36,7 +36,12 @@ fn add(bytes: &mut [u8; 16], more: &[u8; 16]) {
 }
 
 /// The exclusive-or of a row's blocks, one of which may have other contents.
-fn parity_of_row(rt: &impl Abort, row: &[u32], written: u32, fresh: [u8; 16]) -> [u8; 16] {
+pub(crate) fn parity_of_row(
+    rt: &impl Abort,
+    row: &[u32],
+    written: u32,
+    fresh: [u8; 16],
+) -> [u8; 16] {
     let mut bytes = [0; 16];
     for block in row {
         if *block == written {
@@ -62,7 +67,7 @@ fn place_bytes(rt: &impl Abort, row: &[u32], member: usize) -> [u8; 16]
 }
 
 /// Whether the disk is there and has so many bytes.
-fn is_long<B: Bank>(bank: &B, d: u8, end: u64) -> bool
+pub(crate) fn is_long<B: Bank>(bank: &B, d: u8, end: u64) -> bool
     requires { d ≤ 20 }
     ensures { IsTrue result → Fits (B.view bank.now) d end }
 {
@@ -81,7 +86,7 @@ fn is_member_long<B: Bank>(bank: &B, lost: Option<u8>, member: u8, end: u64) -> 
 }
 
 /// Whether the disk of each member but the lost one has all rows.
-fn members_fit<B: Bank>(g: &Geometry, lost: Option<u8>, bank: &B) -> bool
+pub(crate) fn members_fit<B: Bank>(g: &Geometry, lost: Option<u8>, bank: &B) -> bool
     ensures { IsTrue result → MembersFit g.now lost 0 (B.view bank.now) }
 {
     let end = 16 + u64::from(g.rows) * u64::from(g.block);
@@ -94,7 +99,7 @@ fn members_fit<B: Bank>(g: &Geometry, lost: Option<u8>, bank: &B) -> bool
 }
 
 /// Whether there is such a block.
-fn is_block(g: &Geometry, block: u32) -> bool
+pub(crate) fn is_block(g: &Geometry, block: u32) -> bool
     ensures { IsTrue result → block < volume g.now }
 {
     block < g.rows * (u32::from(g.members) - 1)
@@ -124,14 +129,14 @@ fn make_member<B: Bank>(
 }
 
 /// Where the slots end.
-fn ring_start(g: &Geometry) -> u64
+pub(crate) fn ring_start(g: &Geometry) -> u64
     ensures { result ≡ ring_at g.now }
 {
     192 + u64::from(g.slots) * (12 + 2 * u64::from(g.block))
 }
 
 /// Mounts the slots of numbers that are all drained: nothing is pending.
-fn mount_empty<B: Bank>(
+pub(crate) fn mount_empty<B: Bank>(
     rt: &impl Abort,
     alloc: Global,
     bank: &mut B,
@@ -144,7 +149,7 @@ fn mount_empty<B: Bank>(
 }
 
 /// Makes a log's disk, whose slots are all zero, and the disks of all members but the lost one.
-fn make_disks<B: Bank>(
+pub(crate) fn make_disks<B: Bank>(
     rt: &impl Abort,
     bank: &mut B,
     g: &Geometry,
@@ -255,7 +260,7 @@ fn try_all(
 }
 
 /// Three members, chunks of one block, four rows.
-fn three_members() -> Geometry
+pub(crate) fn three_members() -> Geometry
     ensures members { result.members ≡ 3 }
     ensures block { result.block ≡ 16 }
     ensures rows { result.rows ≡ 4 }
@@ -275,7 +280,7 @@ fn three_members() -> Geometry
 }
 
 /// The rows of three members.
-const THREE: [u32; 12] = [0, 1, P, 3, P, 2, P, 4, 5, 6, 7, P];
+pub(crate) const THREE: [u32; 12] = [0, 1, P, 3, P, 2, P, 4, 5, 6, 7, P];
 
 #[test]
 fn every_place_of_three_members_with_each_lost(rt: HostRuntime) -> Result<(), Fail> {
@@ -331,79 +336,5 @@ fn a_member_that_fails_is_named(rt: HostRuntime) -> Result<(), Fail> {
     bank.fail_at(13);
     let answer = read_all(&rt, &mut bank, &stage, &g, Some(0), &THREE);
     assert_eq!(rt; answer, Err(MemberFailed { member: 2 }));
-    Ok(())
-}
-
-/// Reads the places of a row, and compares them.
-fn read_row<B: Bank>(
-    rt: &impl Abort,
-    bank: &mut B,
-    stage: &Stage,
-    g: &Geometry,
-    lost: Option<u8>,
-    row: u32,
-    wanted: &[[u8; 16]],
-) -> Result<(), MemberFailed>
-    requires stage { stage.now.g ≡ g.now }
-    requires lost { ForSome lost (λ member. member < g.now.members) }
-    requires block { g.now.block ≡ 16 }
-    requires row { row < g.now.rows }
-{
-    let raid = Raid::new(*g, lost, 0);
-    let mut into = [0; 16];
-    let mut scratch = [0; 16];
-    for member in 0..g.members {
-        assert!(rt; members_fit(g, lost, bank));
-        raid.read_place(bank, stage, Place { member, row }, &mut into, &mut scratch)?;
-        assert!(rt; usize::from(member) < wanted.len());
-        assert_eq!(rt;
-            into,
-            wanted[usize::from(member)],
-            "member {member}, lost {:?}",
-            lost
-        );
-    }
-    Ok(())
-}
-
-/// Drains the pending writes up to a number.
-fn drain_to<B: Bank>(
-    rt: &impl Abort,
-    bank: &mut B,
-    stage: &Stage,
-    g: &Geometry,
-    upto: u64,
-) -> Result<(), MemberFailed>
-    requires { stage.now.g ≡ g.now }
-{
-    assert!(rt; stage.drained() <= upto && upto <= stage.last());
-    assert!(rt; members_fit(g, None, bank));
-    Raid::new(*g, None, 0).drain(bank, stage, upto)
-}
-
-#[test]
-fn a_pending_write_is_read_and_then_drained(rt: HostRuntime) -> Result<(), Fail> {
-    let g = three_members();
-    let mut bank = MemoryBank::new(rt.alloc())?;
-    make_disks(&rt, &mut bank, &g, None, &THREE)?;
-    let mut stage = mount_empty(&rt, rt.alloc(), &mut bank, &g)?;
-    // Row 1 has block 3, parity, and block 2, which is written.
-    let fresh = contents(102);
-    let parity = parity_of_row(&rt, &[3, P, 2], 2, fresh);
-    let wanted = [contents(3), parity, fresh];
-    assert!(rt; is_long(&bank, 0, ring_start(&g)));
-    assert!(rt; is_block(&g, 2));
-    stage.fill(&mut bank, 1, 2, &fresh, &parity)?;
-    read_row(&rt, &mut bank, &stage, &g, None, 1, &wanted)?;
-    read_row(&rt, &mut bank, &stage, &g, Some(0), 1, &wanted)?;
-    read_row(&rt, &mut bank, &stage, &g, Some(1), 1, &wanted)?;
-    read_row(&rt, &mut bank, &stage, &g, Some(2), 1, &wanted)?;
-    drain_to(&rt, &mut bank, &stage, &g, 1)?;
-    stage.forget_to(1);
-    assert_eq!(rt; stage.last(), stage.drained());
-    read_row(&rt, &mut bank, &stage, &g, None, 1, &wanted)?;
-    read_row(&rt, &mut bank, &stage, &g, Some(0), 1, &wanted)?;
-    read_row(&rt, &mut bank, &stage, &g, Some(1), 1, &wanted)?;
-    read_row(&rt, &mut bank, &stage, &g, Some(2), 1, &wanted)?;
     Ok(())
 }

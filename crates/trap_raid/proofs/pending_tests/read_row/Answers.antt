@@ -2,7 +2,7 @@ use Rattle.std.proofs.Common.{IsTrue, sym, subst, rules, arith}
 use Rattle.trap_raid.specs.Condition.{Condition}
 use Rattle.trap_raid.specs.Members.{PlaceFits, MembersFit}
 use Rattle.trap_raid.proofs.FitLemmas.{place_fits}
-use Rattle.trap_raid.proofs.tests.read_row.Goals as goal
+use Rattle.trap_raid.proofs.pending_tests.read_row.Goals as goal
 
 -- the disks were seen to have all rows
 pub read_place-requires-clause-disks : goal.read_place-requires-clause-disks

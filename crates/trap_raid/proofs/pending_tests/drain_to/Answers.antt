@@ -1,7 +1,7 @@
 use Rattle.std.proofs.Common.{IsTrue, None, sym, subst, rules}
 use Rattle.trap_raid.specs.Condition.{Condition}
 use Rattle.trap_raid.specs.Members.{MembersFit}
-use Rattle.trap_raid.proofs.tests.drain_to.Goals as goal
+use Rattle.trap_raid.proofs.pending_tests.drain_to.Goals as goal
 
 -- the disks were seen to have all rows
 pub drain-requires-clause-disks : goal.drain-requires-clause-disks

@@ -1,0 +1,90 @@
+//! A pending write, read and then drained.
+
+ghost use Rattle.std.specs.Prelude.{◌≡◌, ◌<◌};
+ghost use Rattle.std.specs.Option.{ForSome};
+
+use crate::tests::{
+    P, THREE, contents, is_block, is_long, make_disks, members_fit, mount_empty, parity_of_row,
+    ring_start, three_members,
+};
+use crate::{MemberFailed, Raid};
+use std::process::Abort;
+use std::test::Fail;
+use trap_bank::{Bank, MemoryBank};
+use trap_map::Place;
+use trap_model::Geometry;
+use trap_stage::Stage;
+
+/// Reads the places of a row, and compares them.
+fn read_row<B: Bank>(
+    rt: &impl Abort,
+    bank: &mut B,
+    stage: &Stage,
+    g: &Geometry,
+    lost: Option<u8>,
+    row: u32,
+    wanted: &[[u8; 16]],
+) -> Result<(), MemberFailed>
+    requires stage { stage.now.g ≡ g.now }
+    requires lost { ForSome lost (λ member. member < g.now.members) }
+    requires block { g.now.block ≡ 16 }
+    requires row { row < g.now.rows }
+{
+    let raid = Raid::new(*g, lost, 0);
+    let mut into = [0; 16];
+    let mut scratch = [0; 16];
+    for member in 0..g.members {
+        assert!(rt; members_fit(g, lost, bank));
+        raid.read_place(bank, stage, Place { member, row }, &mut into, &mut scratch)?;
+        assert!(rt; usize::from(member) < wanted.len());
+        assert_eq!(rt;
+            into,
+            wanted[usize::from(member)],
+            "member {member}, lost {:?}",
+            lost
+        );
+    }
+    Ok(())
+}
+
+/// Drains the pending writes up to a number.
+fn drain_to<B: Bank>(
+    rt: &impl Abort,
+    bank: &mut B,
+    stage: &Stage,
+    g: &Geometry,
+    upto: u64,
+) -> Result<(), MemberFailed>
+    requires { stage.now.g ≡ g.now }
+{
+    assert!(rt; stage.drained() <= upto && upto <= stage.last());
+    assert!(rt; members_fit(g, None, bank));
+    Raid::new(*g, None, 0).drain(bank, stage, upto)
+}
+
+#[test]
+fn a_pending_write_is_read_and_then_drained(rt: HostRuntime) -> Result<(), Fail> {
+    let g = three_members();
+    let mut bank = MemoryBank::new(rt.alloc())?;
+    make_disks(&rt, &mut bank, &g, None, &THREE)?;
+    let mut stage = mount_empty(&rt, rt.alloc(), &mut bank, &g)?;
+    // Row 1 has block 3, parity, and block 2, which is written.
+    let fresh = contents(102);
+    let parity = parity_of_row(&rt, &[3, P, 2], 2, fresh);
+    let wanted = [contents(3), parity, fresh];
+    assert!(rt; is_long(&bank, 0, ring_start(&g)));
+    assert!(rt; is_block(&g, 2));
+    stage.fill(&mut bank, 1, 2, &fresh, &parity)?;
+    read_row(&rt, &mut bank, &stage, &g, None, 1, &wanted)?;
+    read_row(&rt, &mut bank, &stage, &g, Some(0), 1, &wanted)?;
+    read_row(&rt, &mut bank, &stage, &g, Some(1), 1, &wanted)?;
+    read_row(&rt, &mut bank, &stage, &g, Some(2), 1, &wanted)?;
+    drain_to(&rt, &mut bank, &stage, &g, 1)?;
+    stage.forget_to(1);
+    assert_eq!(rt; stage.last(), stage.drained());
+    read_row(&rt, &mut bank, &stage, &g, None, 1, &wanted)?;
+    read_row(&rt, &mut bank, &stage, &g, Some(0), 1, &wanted)?;
+    read_row(&rt, &mut bank, &stage, &g, Some(1), 1, &wanted)?;
+    read_row(&rt, &mut bank, &stage, &g, Some(2), 1, &wanted)?;
+    Ok(())
+}
