@@ -192,7 +192,7 @@ Reads-one size bytes (Bad at) Short small x y = absurd (short-bad size bytes at 
 Reads-one size bytes (Bad a) (Bad b) small x y = ap Bad (bad-bad size bytes a b small x y)
 
 -- what was written reads whole, whatever follows it
-written-whole : (size : ℕ) (r : LogRec) (p s x more : List ℕ) → LogRecord size r p s x → IsWhole size r (length x) (x ++ more)
+pub written-whole : (size : ℕ) (r : LogRec) (p s x more : List ℕ) → LogRecord size r p s x → IsWhole size r (length x) (x ++ more)
 written-whole size r p s x more is = record {
   len = (let same : length x ≡ length (header r ++ (p ++ s)) = ap length is.spelled in
       let all = length-append (header r) (p ++ s) in

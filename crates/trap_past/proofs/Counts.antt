@@ -1,0 +1,45 @@
+-- What calls of a source's methods change.
+use Rattle.std.proofs.Common.{ℕ, ◌+◌, ◌≤◌, ◌∙◌, arith}
+use Rattle.trap_past.specs.Past.{Past, Remains, GivesPresent, GivesParity, Undoes, UndoesAtMost}
+
+-- it remains over two runs
+pub remains_again : (old mid new : Past) → Remains old mid → Remains mid new → Remains old new
+remains_again old mid new before here = record {
+  has = here.has ∙ before.has;
+  stands = λ s stood. here.stands s (before.stands s stood);
+}
+
+-- one parity more
+pub undoes_more : (turns : ℕ) (old mid new : Past) → Undoes turns old mid → GivesParity mid new → Undoes (turns + 1) old new
+undoes_more turns old mid new before here =
+    let one = before.parities in
+    let two = here.parities in
+    record {
+      remains = remains_again old mid new before.remains here.remains;
+      presents = here.presents ∙ before.presents;
+      parities = omega arith;
+      snapshots = here.snapshots ∙ before.snapshots;
+    }
+
+-- the present alone
+pub undoes_none : (old new : Past) → GivesPresent old new → Undoes 0 old new
+undoes_none old new call =
+    let one = call.parities in
+    record {
+      remains = call.remains;
+      presents = call.presents;
+      parities = omega arith;
+      snapshots = call.snapshots;
+    }
+
+-- so many are no more than so many
+pub undoes_at_most : (turns most : ℕ) (old new : Past) → Undoes turns old new → turns ≤ most → UndoesAtMost most old new
+undoes_at_most turns most old new call few =
+    let one = call.presents in
+    let two = call.parities in
+    record {
+      remains = call.remains;
+      presents = omega arith;
+      parities = omega arith;
+      snapshots = call.snapshots;
+    }

@@ -1,0 +1,6 @@
+pub mod Undoing
+pub mod Standing
+pub mod Counts
+pub mod Tracing
+pub mod Remembering
+pub mod Telling

@@ -1,0 +1,4 @@
+pub mod Undo
+pub mod Past
+pub mod Memory
+pub mod MemoryFields

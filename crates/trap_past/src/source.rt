@@ -1,0 +1,62 @@
+//! Where the present and the write parities come from.
+
+ghost use Rattle.std.specs.Prelude.{◌≡◌, ◌^◌, ◌<◌, length, IsTrue, OnOk};
+ghost use Rattle.trap_model.specs.Image.{block_of};
+ghost use Rattle.trap_model.specs.Records.{entry_at};
+ghost use Rattle.trap_model.specs.State.{image};
+ghost use Rattle.trap_model.specs.declared.history.State.{State};
+ghost use Rattle.trap_past.specs.Past.{Past, IsOf, IsRetained, HasBlame, GivesPresent, GivesParity, GivesSnapshot};
+ghost use Rattle.trap_past.specs.Undo.{parity_at};
+
+/// A source of present blocks. A method fills `into`, and after a fault `into` holds any bytes.
+pub trait Present {
+    /// Why a method gave nothing.
+    type Fault;
+
+    ghost view: { Self → Past };
+
+    ghost caused: { Self → Self.Fault → Type 0 };
+
+    /// Gives the block's present contents. It may use `scratch`, which then holds any bytes.
+    fn present(
+        &mut self,
+        block: u32,
+        into: &mut [u8],
+        scratch: &mut [u8],
+    ) -> Result<(), Self::Fault>
+        requires block { block < (view self.old).has.volume }
+        requires into { length into.old ≡ (view self.old).has.size }
+        requires scratch { length scratch.old ≡ (view self.old).has.size }
+        requires few { (view self.old).presents < 2 ^ 63 }
+        ensures present { (s : State) → (view self.old).stands s
+            → OnOk result (into.new ≡ block_of (image s) block) }
+        ensures call { GivesPresent (view self.old) (view self.new) }
+        ensures blame { HasBlame view caused result self.old self.new }
+
+        // The states that a source stands for are such that its numbers and items describe.
+        ensures told { (s : State) → (view self.old).stands s → IsOf (view self.old).has s };
+}
+
+/// A source of the retained entries too.
+pub trait Parities: Present {
+    /// Gives an entry's write parity: its block's old contents xor its new ones.
+    fn parity(&mut self, seq: u64, into: &mut [u8]) -> Result<(), Self::Fault>
+        requires retained { IsRetained (Self.view self.old).has seq }
+        requires into { length into.old ≡ (Self.view self.old).has.size }
+        requires few { (Self.view self.old).parities < 2 ^ 63 }
+        ensures parity { (s : State) → (Self.view self.old).stands s
+            → OnOk result (into.new ≡ parity_at s seq) }
+        ensures call { GivesParity (Self.view self.old) (Self.view self.new) }
+        ensures blame { HasBlame Self.view Self.caused result self.old self.new };
+
+    /// Gives the contents that a marked entry writes.
+    fn snapshot(&mut self, seq: u64, into: &mut [u8]) -> Result<(), Self::Fault>
+        requires retained { IsRetained (Self.view self.old).has seq }
+        requires marked { IsTrue ((Self.view self.old).has.item seq).snap }
+        requires into { length into.old ≡ (Self.view self.old).has.size }
+        requires few { (Self.view self.old).snapshots < 2 ^ 63 }
+        ensures snapshot { (s : State) → (Self.view self.old).stands s
+            → OnOk result (into.new ≡ (entry_at s seq).bytes) }
+        ensures call { GivesSnapshot (Self.view self.old) (Self.view self.new) }
+        ensures blame { HasBlame Self.view Self.caused result self.old self.new };
+}

@@ -1,0 +1,58 @@
+//! Undoing a block's writes, the newest first.
+
+ghost use Rattle.std.specs.Prelude.{◌≡◌, ◌<◌, ◌≤◌, length, OnOk};
+ghost use Rattle.trap_index.specs.Indexed.{last_seq, item_at, path_to};
+ghost use Rattle.trap_model.specs.Image.{block_of};
+ghost use Rattle.trap_model.specs.State.{image_at};
+ghost use Rattle.trap_model.specs.declared.history.State.{State};
+ghost use Rattle.trap_past.specs.Past.{IsIndexOf, IsInstant, HasFewCalls, HasBlame, Undoes, UndoesAtMost};
+
+use crate::{Parities, Present};
+use trap_block::xor_into;
+use trap_index::Index;
+
+/// Gives a block's contents after the entry with this number: the present ones, with the parities of the block's
+/// later entries taken back. It uses `scratch`, and after a fault both hold any bytes.
+pub fn block_at<P: Parities>(
+    source: &mut P,
+    index: &Index,
+    block: u32,
+    seq: u64,
+    into: &mut [u8],
+    scratch: &mut [u8],
+) -> Result<(), P::Fault>
+    requires index { IsIndexOf index.now (P.view source.old).has }
+    requires instant { IsInstant (P.view source.old).has block seq }
+    requires into { length into.old ≡ (P.view source.old).has.size }
+    requires scratch { length scratch.old ≡ (P.view source.old).has.size }
+    requires few { HasFewCalls (P.view source.old) }
+    ensures contents { (s : State) → (P.view source.old).stands s
+        → OnOk result (into.new ≡ block_of (image_at s seq) block) }
+
+    // It asks for the present and the path's parities, and for no more whatever it answers.
+    ensures turns { OnOk result
+        (Undoes (path_to index.now block seq).turns (P.view source.old) (P.view source.new)) }
+    ensures at_most { UndoesAtMost (path_to index.now block seq).turns (P.view source.old) (P.view source.new) }
+    ensures blame { HasBlame P.view P.caused result source.old source.new }
+{
+    source.present(block, into, scratch)?;
+    let mut number = index.newest(block);
+    while seq < number {
+        source.parity(number, scratch)?;
+        xor_into(into, scratch);
+        number = previous(index, number);
+    }
+    Ok(())
+}
+
+/// The number of the previous entry of the block that this entry writes, or 0 where none is retained.
+fn previous(index: &Index, seq: u64) -> u64
+    requires low { index.now.first < seq }
+    requires high { seq ≤ last_seq index.now }
+    ensures { result ≡ (item_at index.now seq).prev }
+{
+    match index.item(seq) {
+        Some(item) => item.prev,
+        None => unreachable!(),
+    }
+}
