@@ -1,5 +1,5 @@
 -- The steps of a commit, one after the other.
-use Rattle.std.proofs.Common.{◌≡◌, ℕ, ◌+◌, List, ◌∷◌, length, Some, Ok, IsTrue, refl, sym, ap, subst, ◌∙◌, arith}
+use Rattle.std.proofs.Common.{◌≡◌, ℕ, ◌+◌, List, ◌∷◌, length, Some, Ok, false, IsTrue, refl, sym, ap, subst, ◌∙◌, arith}
 use Rattle.trap_bank.specs.Disks.{Disks, Contents, View, Differs, Torn, byte}
 use Rattle.trap_bank.specs.Calls.{MayLeave, Syncs, Fits as FitsIn}
 use Rattle.trap_bank.specs.Steps.{Moves, Same, Always}
@@ -9,6 +9,7 @@ use Rattle.trap_cell.specs.Slots.{Place, Slots, Stands, cell_len}
 use Rattle.trap_cell.specs.Steps.{PutsIn, IsPut}
 use Rattle.trap_format.specs.HeadValue.{IsHead, head_value}
 use Rattle.trap_format.specs.LogDisk.{log_size, ring_at, slot_len}
+use Rattle.trap_index.specs.Indexed.{Indexed, with_record}
 use Rattle.trap_model.specs.ArrayStep.{added}
 use Rattle.trap_model.specs.Records.{next_record}
 use Rattle.trap_model.specs.State.{image}
@@ -27,6 +28,7 @@ use Rattle.trap_array.specs.Log.{Log}
 use Rattle.trap_array.specs.NextHead.{committed, IsPlanned}
 use Rattle.trap_array.specs.Ready.{CanCommit}
 use Rattle.trap_array.proofs.Frames.{ring_stays, cell_stands}
+use Rattle.trap_array.proofs.IndexSteps.{rec_for, further_told}
 use Rattle.trap_array.proofs.Commits.{record_outside, slot_outside, next_fits}
 use Rattle.trap_array.proofs.Turns.{StillIf, still_beside, still_same, still_then_still, still_may, still_then_may, still_then_has, asked_may, asked_has, put_may, put_has}
 
@@ -50,7 +52,7 @@ abbrev staged_with : ℕ → List ℕ → List ℕ → Staged
 staged_with block bytes parity = record { block = block; bytes = bytes; parity = parity }
 
 module _ (log : Log) (is_head : log.cell.place ≡ head_place) (same : log.stage.g ≡ log.g) (v : View) (entry : Entry) (parity spelled : List ℕ)
-    (can : CanCommit log v entry parity spelled) (r : RingPlace) (is_ring : r ≡ log_ring log.g) where
+    (can : CanCommit log v entry parity spelled) (unmarked : entry.snap ≡ false) (r : RingPlace) (is_ring : r ≡ log_ring log.g) where
   abbrev asks : State → Type 0
   asks s = IsPlanned log.g s entry parity spelled
 
@@ -156,19 +158,22 @@ module _ (log : Log) (is_head : log.cell.place ≡ head_place) (same : log.stage
                 (put_may here asks next (committed log.head entry.time (length spelled)) v3 v4 is_head refl refl fits_then
                 (subst (λ (b : List ℕ). Moves v3 v4 (PutsIn log.cell b) (PutsIn log.cell b)) is_value moves)))
 
-            pub put_ok : (cell : Slots) (stage : Stage) → stage ≡ record log.stage { pending = staged_with entry.block entry.bytes parity ∷ log.stage.pending }
+            pub put_ok : (cell : Slots) (stage : Stage) (index : Indexed) → index ≡ with_record log.index (rec_for log.head entry (length spelled)) → stage ≡ record log.stage { pending = staged_with entry.block entry.bytes parity ∷ log.stage.pending }
                 → Moves v3 v4 (PutsIn log.cell bytes) (IsPut v4 log.cell cell bytes)
-                → Moves v v4 (MayTurn here v next) (HasTurned here (going (record { g = log.g; head = committed log.head entry.time (length spelled); cell = cell; stage = stage })) v next)
-            put_ok cell stage more moves =
-                asked_has here asks next (going (record { g = log.g; head = committed log.head entry.time (length spelled); cell = cell; stage = stage })) v v4 can.planned
-                (still_then_has here asks next (going (record { g = log.g; head = committed log.head entry.time (length spelled); cell = cell; stage = stage })) v v3 v4 all_still
-                (put_has here asks next (committed log.head entry.time (length spelled)) v3 v4 is_head refl refl fits_then cell stage.pending
+                → Moves v v4 (MayTurn here v next) (HasTurned here (going (record { g = log.g; head = committed log.head entry.time (length spelled); cell = cell; stage = stage; index = index })) v next)
+            put_ok cell stage index known more moves =
+                asked_has here asks next (going (record { g = log.g; head = committed log.head entry.time (length spelled); cell = cell; stage = stage; index = index })) v v4 can.planned
+                (still_then_has here asks next (going (record { g = log.g; head = committed log.head entry.time (length spelled); cell = cell; stage = stage; index = index })) v v3 v4 all_still
+                (put_has here asks next (committed log.head entry.time (length spelled)) v3 v4 is_head refl refl fits_then cell stage.pending index
                 (λ s x left stands planned.
                 let fits = stands.by.fits in
                 ap (λ (t : Stage). t.pending) more
                 ∙ ap (λ (staged : Staged). staged ∷ log.stage.pending) (staged_same s planned)
                 ∙ ap (λ (writes : List Staged). staged_in log.g (image (added s entry)) entry ∷ writes) stands.pending
                 ∙ sym (pending-added log.g s entry log.head.drained (omega (arith, fits.head.first, fits.head.head.numbers.dropped)) (omega (arith, fits.head.last, fits.head.head.numbers.drained))))
+                (λ s x left stands planned.
+                let R : List ℕ → Type 0 = λ (bytes : List ℕ). index ≡ with_record log.index (rec_for log.head entry (length bytes)) in
+                further_told log.head s entry log.index index stands.index stands.by.fits.head.last unmarked (subst R planned.spelled_is known))
                 (subst (λ (b : List ℕ). Moves v3 v4 (PutsIn log.cell b) (IsPut v4 log.cell cell b)) is_value moves)))
 
 -- of disk 0 every crash leaves what a read gives, once it is synced

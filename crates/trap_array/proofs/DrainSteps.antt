@@ -23,7 +23,7 @@ use Rattle.trap_array.proofs.CommitSteps.{stands_apart}
 use Rattle.trap_array.proofs.Drains.{covered_outside, drained_fits}
 use Rattle.trap_array.proofs.Turns.{StillIf, Whatever, still_beside, still_may, still_then_may, still_then_has, asked_may, asked_has, put_may, put_has}
 
-module _ (log : Log) (is_head : log.cell.place ≡ head_place) (numbers : IsHead log.g log.head) (in_step : AreInStep log.head log.stage) (v : View)
+module _ (log : Log) (is_head : log.cell.place ≡ head_place) (numbers : IsHead log.g log.head) (in_step : AreInStep log.head log.stage log.index) (v : View)
     (k : Condition) (is_raid : k ≡ record { g = log.g; lost = log.head.lost; rebuilt = log.head.rebuilt }) where
   abbrev here : Mounted
   here = going log
@@ -75,14 +75,15 @@ module _ (log : Log) (is_head : log.cell.place ≡ head_place) (numbers : IsHead
 
         pub put_ok : (cell : Slots) (stage : Stage) → stage.pending ≡ take (last_of log.stage - log.head.last) log.stage.pending
             → Moves v1 v2 (PutsIn log.cell bytes) (IsPut v2 log.cell cell bytes)
-            → Moves v v2 (MayTurn here v same) (HasTurned here (going (record { g = log.g; head = drained_to log.head log.head.last; cell = cell; stage = stage })) v same)
+            → Moves v v2 (MayTurn here v same) (HasTurned here (going (record { g = log.g; head = drained_to log.head log.head.last; cell = cell; stage = stage; index = log.index })) v same)
         put_ok cell stage rest moves =
-            asked_has here Whatever same (going (record { g = log.g; head = drained_to log.head log.head.last; cell = cell; stage = stage })) v v2 (λ s told always. tt)
-            (still_then_has here Whatever same (going (record { g = log.g; head = drained_to log.head log.head.last; cell = cell; stage = stage })) v v1 v2 (still v1 drain)
-            (put_has here Whatever same (drained_to log.head log.head.last) v1 v2 is_head refl refl fits_then cell stage.pending
+            asked_has here Whatever same (going (record { g = log.g; head = drained_to log.head log.head.last; cell = cell; stage = stage; index = log.index })) v v2 (λ s told always. tt)
+            (still_then_has here Whatever same (going (record { g = log.g; head = drained_to log.head log.head.last; cell = cell; stage = stage; index = log.index })) v v1 v2 (still v1 drain)
+            (put_has here Whatever same (drained_to log.head log.head.last) v1 v2 is_head refl refl fits_then cell stage.pending log.index
             (λ s x left stands none.
             rest
             ∙ ap (λ (n : ℕ). take (n - log.head.last) log.stage.pending) (in_step.last ∙ stands.by.fits.head.last)
             ∙ ap (λ (writes : List Staged). take (last s - log.head.last) writes) stands.pending
             ∙ pending-take log.g s log.head.drained log.head.last numbers.numbers.drained (omega (arith, stands.by.fits.head.last)))
+            (λ s x left stands none. stands.index)
             (subst (λ (b : List ℕ). Moves v1 v2 (PutsIn log.cell b) (IsPut v2 log.cell cell b)) is_value moves)))

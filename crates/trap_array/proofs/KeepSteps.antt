@@ -118,7 +118,7 @@ module _ (a : Log) (v w : View) (time block size : ℕ) (bytes delta parity spel
     (is_head : IsHead a.g a.head) (can : CanDrain a v) (reads : OnlyReads v w)
     (free : a.head.last < a.head.drained + a.g.slots) (later : a.head.last_time ≤ time) (not_worn : a.head.last < 2 ^ 40) (fits : time < 2 ^ 64)
     (inside : block < volume a.g) (whole : length bytes ≡ a.g.block) (parity_size : length parity ≡ a.g.block)
-    (long : length spelled ≡ size) (short : size ≤ greatest_record a.g.block)
+    (long : length spelled ≡ size) (short : size ≤ greatest_record a.g.block) (code : (30 ≤ size) × (size ≤ a.g.block + 33))
     (plan : IsTrue v.tells → (s : State) → StandsFor (going a) s v.now.disks → IsPlan a.g (image s) block bytes delta parity)
     (record_is : (old fresh : List ℕ) → delta ≡ xor old fresh → spelled ≡ record_of (a.head.last + 1) old (entry_for time block fresh)) where
   planned_at : (s : State) → IsTrue v.tells → StandsFor (going a) s v.now.disks → IsPlanned a.g s (entry_for time block bytes) parity spelled
@@ -146,6 +146,7 @@ module _ (a : Log) (v w : View) (time block size : ℕ) (bytes delta parity spel
         later = later;
         is_entry = record { block = inside; size = whole };
         parity_size = parity_size;
+        code = (omega (arith, long, code.0), omega (arith, long, code.1));
         planned = λ s told always.
             let before = subst (λ t. IsTrue t) reads.moves.tells told in
             planned_at s before (subst (λ (now : Contents). StandsFor (going a) s now.disks) (reads.same before) (always w.now (read_is_left w told)));

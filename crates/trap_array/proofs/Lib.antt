@@ -4,6 +4,7 @@ pub mod NextHeads
 pub mod Commits
 pub mod Drains
 pub mod Turns
+pub mod IndexSteps
 pub mod CommitSteps
 pub mod DrainSteps
 pub mod Reading
@@ -17,9 +18,12 @@ pub mod LogGate
 pub mod MemberDisks
 pub mod MountHistory
 pub mod MountMembers
+pub mod MountRecords
 pub mod MountPuts
 pub mod MountReads
 pub mod MountRefusals
 pub mod MountStands
 pub mod OneRefusal
 pub mod Zeros
+pub mod Sources
+pub mod LookingBack

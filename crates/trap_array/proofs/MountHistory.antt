@@ -5,6 +5,7 @@ use Rattle.trap_bank.proofs.Moves.{always_same}
 use Rattle.trap_cell.specs.Slots.{Slots, Stands, cell_value}
 use Rattle.trap_format.specs.HeadValue.{IsHead, IsHeadValue, head_value}
 use Rattle.trap_format.specs.declared.head.Head.{Head}
+use Rattle.trap_index.specs.Indexed.{Indexed, nothing_indexed}
 use Rattle.trap_model.specs.Image.{volume}
 use Rattle.trap_model.specs.declared.numbers.Geometry.{Geometry}
 use Rattle.trap_raid.specs.Reads.{OnlyReads}
@@ -21,6 +22,7 @@ use Rattle.trap_stage.proofs.OneAnswer.{each_is_slot}
 use Rattle.trap_array.specs.Holding.{head_place, log_ring}
 use Rattle.trap_array.specs.Mounting.{HasHeader, HasHead, HasSlots, HasRecords, IsDamage, Refuses, history_of}
 use Rattle.trap_array.specs.MountSteps.{ReadsHeader, ReadsHead, ReadsStage, ReadsLog}
+use Rattle.trap_array.specs.Reading.{AreRead, HasTaken, ReadsIndex}
 use Rattle.trap_array.specs.declared.fault.MountFault.{MountFault}
 use Rattle.trap_array.proofs.MountReads.{reads_then, told_after, disks_same, stable_reads, refused_before}
 
@@ -135,6 +137,36 @@ module _ (g : Geometry) (h : Head) (e : Expected) (r : RingPlace) (disks : Disks
 
       here : (bytes : List ℕ) → IsWindow (log_ring g) h.first_off h.end_off bytes disks → BreaksAt (asked g h) bytes at
       here = subst (λ (x : Expected). (bytes : List ℕ) → IsWindow (log_ring g) x.first_off x.end_off bytes disks → BreaksAt x bytes at) (asked_is g h e asks) by_ring
+
+-- the index of the records that were read is that of the head's
+pub index_read : (g : Geometry) (h : Head) (e : Expected) (r : RingPlace) (i j : Indexed) (v : View) → AsksFor g h e → r ≡ log_ring g
+    → i ≡ nothing_indexed g h.first h.base_time h.first_off → HasTaken i j e.last e.last_time
+    → (IsTrue v.tells → (bytes : List ℕ) → IsWindow r e.first_off e.end_off bytes v.now.disks → AreRead i.g.block j.recs bytes) → ReadsIndex g h j v
+index_read g h e r i j v asks ring none taken read = record {
+  of = ap (λ (k : Indexed). k.g) taken.same ∙ ap (λ (k : Indexed). k.g) none;
+  first = ap (λ (k : Indexed). k.first) taken.same ∙ ap (λ (k : Indexed). k.first) none;
+  base_time = ap (λ (k : Indexed). k.base_time) taken.same ∙ ap (λ (k : Indexed). k.base_time) none;
+  offset = ap (λ (k : Indexed). k.first_off) taken.same ∙ ap (λ (k : Indexed). k.first_off) none;
+  end = taken.end ∙ asks.last;
+  time = taken.time_ ∙ asks.last_time;
+  read = λ told bytes window.
+      let P : RingPlace → Type 0 = λ (q : RingPlace). IsWindow q e.first_off e.end_off bytes v.now.disks in
+      let Q : Expected → Type 0 = λ (x : Expected). IsWindow (log_ring g) x.first_off x.end_off bytes v.now.disks in
+      subst (λ (k : Indexed). AreRead k.g.block j.recs bytes) none (read told bytes (subst P (sym ring) (subst Q (sym (asked_is g h e asks)) window)));
+}
+
+-- read over the disks as they were before
+pub index_before : (g : Geometry) (h : Head) (i : Indexed) (a b : View) → OnlyReads a b → ReadsIndex g h i b → ReadsIndex g h i a
+index_before g h i a b reads known = record {
+  of = known.of;
+  first = known.first;
+  base_time = known.base_time;
+  offset = known.offset;
+  end = known.end;
+  time = known.time;
+  read = λ told bytes window. known.read (told_after a b reads told) bytes
+      (subst (λ (x : Disks). IsWindow (log_ring g) h.first_off h.end_off bytes x) (sym (disks_same a b reads told)) window);
+}
 
 -- ---- all that stands on the log's disk
 

@@ -12,6 +12,7 @@ use Rattle.trap_format.specs.LogDisk.{log_size}
 use Rattle.trap_format.specs.HeadValue.{IsHead, head_value}
 use Rattle.trap_format.specs.declared.head.Head.{Head}
 use Rattle.trap_format.proofs.Spellings.{heads_same}
+use Rattle.trap_index.specs.Indexed.{Indexed}
 use Rattle.trap_model.specs.State.{last}
 use Rattle.trap_model.specs.declared.numbers.Geometry.{Geometry}
 use Rattle.trap_model.specs.declared.history.State.{State}
@@ -25,8 +26,10 @@ use Rattle.trap_array.specs.Holding.{head_place, Fits, Holds, HoldsBy}
 use Rattle.trap_array.specs.Calls.{Mounted, StandsFor, IsReady}
 use Rattle.trap_array.specs.Mounting.{HoldsStill, Mounts, HasRecords, HasMembers, FoundLost, HasFound, Refuses, MountFails}
 use Rattle.trap_array.specs.MountSteps.{ReadsLog, ReadsMember, FindsMembers, MayPut, HasPut}
+use Rattle.trap_array.specs.Reading.{ReadsIndex}
 use Rattle.trap_array.specs.declared.fault.MountFault.{MountFault}
 use Rattle.trap_array.specs.declared.fault.MountFault.TheVariants.{LogFault}
+use Rattle.trap_array.proofs.MountRecords.{read_described}
 use Rattle.trap_array.proofs.Puts.{put_in_cell, fits_put, held_by_read}
 use Rattle.trap_array.proofs.MountReads.{reads_then, told_before, told_after, disks_same, stable_reads, rose_later, rose_before, refused_before}
 use Rattle.trap_array.proofs.MountMembers.{absent_disk, is_some_or_not, finds_only, finds_one}
@@ -90,8 +93,8 @@ puts_of : (v : View) (cell after : Slots) (h k : Head) (x y : Disks) → HasPut 
 puts_of v cell after h k x y put = ⊎_elim (λ none. inl none.0) (λ done. inr (record { differs = done.differs; either = inr done.value })) put
 
 -- the array that was mounted
-abbrev pub mounted_by : Geometry → Head → Slots → Stage → Mounted
-mounted_by g k after stage = record { g = g; head = k; cell = after; pending = stage.pending; is_stopped = false }
+abbrev pub mounted_by : Geometry → Head → Slots → Stage → Indexed → Mounted
+mounted_by g k after stage index = record { g = g; head = k; cell = after; pending = stage.pending; index = index; is_stopped = false }
 
 module _ (g : Geometry) (h k : Head) (cell : Slots) (stage : Stage) (a b c : View) (to_b : OnlyReads a b) (to_c : OnlyReads b c) (lawful : IsLawful b)
     (log : ReadsLog g h cell stage a b) (members : FindsMembers g h k b c) where
@@ -229,14 +232,14 @@ module _ (g : Geometry) (h k : Head) (cell : Slots) (stage : Stage) (a b c : Vie
               mark = ⊎_elim inl (λ rest. inr (rest.0, λ m is. ⊎_elim (λ rose. inl (rose_before _ _ _ (later (m + 1)) rose)) inr (rest.1 m is))) found.mark;
             })))
 
-    module _ (after : Slots) (put : Moves c d (MayPut cell k) (HasPut d cell after h k)) (sizes : (e : ℕ) → d.sizes e ≡ c.sizes e) where
+    module _ (after : Slots) (index : Indexed) (known : ReadsIndex g h index a) (put : Moves c d (MayPut cell k) (HasPut d cell after h k)) (sizes : (e : ℕ) → d.sizes e ≡ c.sizes e) where
       cell_after : Always d (Stands after)
       cell_after w left =
           let from = put.now w left in
           ⊎_elim (λ none. subst (λ (q : Disks). Stands after q) (sym none.0) (subst (λ (t : Slots). Stands t from.origin.disks) (sym none.2) (stands_still from.origin from.was)))
           (λ done. done.stands) from.by.disks
 
-      pub mount_ready : IsReady (mounted_by g k after stage) d
+      pub mount_ready : IsReady (mounted_by g k after stage index) d
       mount_ready = record {
         sizes = record {
           log = sizes 0 ∙ reads.sizes 0 ∙ log.header.size;
@@ -261,7 +264,7 @@ module _ (g : Geometry) (h k : Head) (cell : Slots) (stage : Stage) (a b c : Vie
           high : h.last ≡ last s → h.drained ≤ h.last → h.drained ≤ last s
           high end drained = omega arith
 
-      pub mount_stands : (g' : Geometry) (s : State) → IsTrue a.tells → Holds g' s a.now.disks → (g ≡ g') × Always d (StandsFor (mounted_by g k after stage) s)
+      pub mount_stands : (g' : Geometry) (s : State) → IsTrue a.tells → Holds g' s a.now.disks → (g ≡ g') × Always d (StandsFor (mounted_by g k after stage index) s)
       mount_stands g' s told holds =
           let one = header_entry told g' s holds in
           let here = subst (λ (n : Geometry). Holds n s a.now.disks) one holds in (
@@ -283,10 +286,11 @@ module _ (g : Geometry) (h k : Head) (cell : Slots) (stage : Stage) (a b c : Vie
                       from.by.disks;
                   cell = cell_after w left;
                   pending = pending_is told s here;
+                  index = read_described g h s index a (held_by_read g h s a.now.disks here (log.head.value told) log.head.head) known told;
                 },
           )
 
-      pub mount_found : HasFound (mounted_by g k after stage) a d
+      pub mount_found : HasFound (mounted_by g k after stage index) a d
       mount_found = record {
         passed = λ told.
             let later = told_after a b to_b told in

@@ -1,6 +1,5 @@
 -- Disks are refused for one thing at most: each refusal says how far mounting comes, and that it comes no further.
-use Rattle.std.proofs.Common.{◌≡◌, ◌≢◌, ◌⊎◌, ℕ, zero, suc, ◌+◌, ◌-◌, ◌^◌, ◌<◌, ◌≤◌, List, length, slice_index, Option, Some, None, Bool, true, false, inl, inr, ⊎_elim, refl, sym, ap, ap₂, subst, ◌∙◌, arith}
-use Rattle.std.proofs.lemmas.Bool.{cases_eq}
+use Rattle.std.proofs.Common.{◌≡◌, ◌≢◌, ◌⊎◌, ℕ, zero, suc, ◌+◌, ◌-◌, ◌<◌, ◌≤◌, List, slice_index, Some, None, Bool, true, false, inl, inr, ⊎_elim, refl, sym, ap, ap₂, subst, ◌∙◌, arith}
 use Rattle.trap_bank.specs.Disks.{Disks, region}
 use Rattle.trap_cell.specs.Slots.{cell_value}
 use Rattle.trap_format.specs.HeadValue.{lost_byte, IsHead, IsHeadValue, head_value}
@@ -9,7 +8,7 @@ use Rattle.trap_format.proofs.Spellings.{logs_same, heads_same}
 use Rattle.trap_model.specs.declared.numbers.Geometry.{Geometry}
 use Rattle.trap_raid.specs.Members.{IsMember, IsOut}
 use Rattle.trap_ring.specs.Ring.{ring_pos}
-use Rattle.trap_scan.specs.Chain.{AreRecords, IsBroken}
+use Rattle.trap_scan.specs.Chain.{IsBroken}
 use Rattle.trap_scan.specs.Window.{IsWindow}
 use Rattle.trap_scan.proofs.ChainLaws.{one_broken, right_unbroken}
 use Rattle.trap_scan.proofs.Windows.{window_one}

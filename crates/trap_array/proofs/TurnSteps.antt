@@ -33,7 +33,7 @@ use Rattle.trap_array.specs.Log.{Log, AreInStep}
 use Rattle.trap_array.specs.NextHead.{entry_for, IsPlanned}
 use Rattle.trap_array.specs.Turning.{IsFaultOf, Denies, Turns, IsFull}
 use Rattle.trap_array.specs.declared.fault.Denied.{Denied}
-use Rattle.trap_array.specs.declared.fault.Denied.TheVariants.{Refused, LogFault, MemberFault, Stopped}
+use Rattle.trap_array.specs.declared.fault.Denied.TheVariants.{Refused, LogFault, MemberFault, Damaged, Stopped}
 use Rattle.trap_array.proofs.Turns.{holds_still, turned_may, always_turned, keep_then_may, keep_then_has}
 
 pub goes_still : (a : Mounted) → GoesOn a a
@@ -47,18 +47,21 @@ fault_denies : (a : Mounted) (v w : View) (e : Denied) → IsFaultOf a v w e →
 fault_denies a v w (Refused why) fault = absurd fault
 fault_denies a v w LogFault fault = fault
 fault_denies a v w (MemberFault first second) fault = fault
+fault_denies a v w (Damaged offset) fault = fault
 fault_denies a v w Stopped fault = fault
 
 fault_not_done : (a : Mounted) (v w : View) (e : Denied) → IsFaultOf a v w e → IsTrue (is_done {T = ℕ} (Err e)) → ⊥
 fault_not_done a v w (Refused why) fault done = fault
 fault_not_done a v w LogFault fault done = cc
 fault_not_done a v w (MemberFault first second) fault done = cc
+fault_not_done a v w (Damaged offset) fault done = fault
 fault_not_done a v w Stopped fault done = fault
 
 fault_replies : (a : Mounted) (v w : View) (e : Denied) → IsFaultOf a v w e → (reply : Reply) → WriteReplies (Err e) reply
 fault_replies a v w (Refused why) fault reply = absurd fault
 fault_replies a v w LogFault fault reply = tt
 fault_replies a v w (MemberFault first second) fault reply = tt
+fault_replies a v w (Damaged offset) fault reply = tt
 fault_replies a v w Stopped fault reply = tt
 
 -- a count that rose after a first call has risen since before it
@@ -77,12 +80,14 @@ denies_since : (a b : Mounted) (u v w : View) → GoesOn a b → ((e : ℕ) → 
 denies_since a b u v w on le (Refused why) denies = denies
 denies_since a b u v w on le LogFault denies = rose_since (u.faults 0) (v.faults 0) (w.faults 0) (le 0) denies
 denies_since a b u v w on le (MemberFault first second) denies = member_since a b u v w first second on le denies
+denies_since a b u v w on le (Damaged offset) denies = denies
 denies_since a b u v w on le Stopped denies = denies
 
 pub fault_since : (a b : Mounted) (u v w : View) → GoesOn a b → ((e : ℕ) → u.faults e ≤ v.faults e) → (e : Denied) → IsFaultOf b v w e → IsFaultOf a u w e
 fault_since a b u v w on le (Refused why) fault = fault
 fault_since a b u v w on le LogFault fault = rose_since (u.faults 0) (v.faults 0) (w.faults 0) (le 0) fault
 fault_since a b u v w on le (MemberFault first second) fault = member_since a b u v w first second on le fault
+fault_since a b u v w on le (Damaged offset) fault = fault
 fault_since a b u v w on le Stopped fault = fault
 
 if_err_since : (result : Result ℕ Denied) (P Q : Denied → Type 0) → ((e : Denied) → P e → Q e) → IfErr result P → IfErr result Q
@@ -105,7 +110,7 @@ module _ (a b : Log) (next : State → State) (replies : State → Reply) where
   }
 
   pub turns_done : (seq : ℕ) (v w : View) → (IsTrue v.tells → (s : State) → Always v (StandsFor (going a) s) → replies s ≡ Kept seq)
-      → Moves v w (MayTurn (going a) v next) (HasTurned (going a) (going b) v next) → AreInStep b.head b.stage → Always w (Stands b.cell) → GoesOn (going a) (going b) → ((d : ℕ) → w.sizes d ≡ v.sizes d)
+      → Moves v w (MayTurn (going a) v next) (HasTurned (going a) (going b) v next) → AreInStep b.head b.stage b.index → Always w (Stands b.cell) → GoesOn (going a) (going b) → ((d : ℕ) → w.sizes d ≡ v.sizes d)
       → Turns a b next replies (Ok seq) v w
   turns_done seq v w kept moves in_step stands on sizes = record {
     reply = kept;
@@ -155,7 +160,7 @@ module _ (a b : Log) (next : State → State) (replies : State → Reply) where
       may_too s y told stands either = ⊎_elim inl (λ new. inr (subst (λ (t : State). HoldsLike a.g a.head t y) (same s told stands).0 new)) either
 
 -- a refusal after calls that change nothing
-pub turns_refused : (a : Log) (next : State → State) (replies : State → Reply) (why : Refusal) (v w : View) → why ≢ NoBlock → Moves v w Same Same → ((d : ℕ) → w.sizes d ≡ v.sizes d) → AreInStep a.head a.stage → Always w (Stands a.cell)
+pub turns_refused : (a : Log) (next : State → State) (replies : State → Reply) (why : Refusal) (v w : View) → why ≢ NoBlock → Moves v w Same Same → ((d : ℕ) → w.sizes d ≡ v.sizes d) → AreInStep a.head a.stage a.index → Always w (Stands a.cell)
     → ((s : State) → IsTrue v.tells → StandsFor (going a) s v.now.disks → (next s ≡ s) × (replies s ≡ No why)) → Turns a a next replies (Err (Refused why)) v w
 turns_refused a next replies why v w other moves sizes in_step stands refused = record {
   reply = λ told s always. (refused s told (always v.now (read_is_left v told))).1;

@@ -9,6 +9,8 @@ use Rattle.trap_cell.specs.Slots.{Slots}
 use Rattle.trap_cell.specs.Steps.{PutsIn, IsPut}
 use Rattle.trap_format.specs.HeadValue.{head_value}
 use Rattle.trap_format.specs.declared.head.Head.{Head}
+use Rattle.trap_index.specs.Indexed.{Indexed}
+use Rattle.trap_index.specs.Describes.{Describes}
 use Rattle.trap_model.specs.declared.history.State.{State}
 use Rattle.trap_model.specs.declared.numbers.Geometry.{Geometry}
 use Rattle.trap_stage.specs.Pending.{pending}
@@ -73,6 +75,7 @@ module _ (a : Mounted) where
               by = holds_outside a.g a.head s x y stands.by out;
               cell = cell_stands (Outside a.g a.head s) x y out (λ e i inside beside. beside.cell inside) a.cell is_head stands.cell;
               pending = stands.pending;
+              index = stands.index;
             }
 
     pub still_same : (v w : View) → Moves v w Same Same → Moves v w (StillIf a v asks) (StillIf a v asks)
@@ -141,18 +144,20 @@ module _ (a : Mounted) where
             (λ x y was puts s always asked. put_may_at s x y was (always x was) asked puts)
             (λ x y was left puts s always asked. put_may_at s x y was (always x was) asked puts)
 
-        pub put_has : (cell : Slots) (writes : List Staged)
+        pub put_has : (cell : Slots) (writes : List Staged) (index : Indexed)
             → ((s : State) (x : Contents) → MayLeave v x → StandsFor a s x.disks → asks s → writes ≡ pending a.g (next s) t.drained)
+            → ((s : State) (x : Contents) → MayLeave v x → StandsFor a s x.disks → asks s → Describes index (next s))
             → Moves v w (PutsIn a.cell (head_value t)) (IsPut w a.cell cell (head_value t))
-            → Moves v w (MayTurnIf a v asks next) (HasTurnedIf a (record { g = a.g; head = t; cell = cell; pending = writes; is_stopped = false }) v asks next)
-        put_has cell writes are moves =
+            → Moves v w (MayTurnIf a v asks next) (HasTurnedIf a (record { g = a.g; head = t; cell = cell; pending = writes; index = index; is_stopped = false }) v asks next)
+        put_has cell writes index are told moves =
             moves_weaken v w (PutsIn a.cell (head_value t)) (IsPut w a.cell cell (head_value t)) (MayTurnIf a v asks next)
-            (HasTurnedIf a (record { g = a.g; head = t; cell = cell; pending = writes; is_stopped = false }) v asks next) moves
+            (HasTurnedIf a (record { g = a.g; head = t; cell = cell; pending = writes; index = index; is_stopped = false }) v asks next) moves
             (λ x y was puts s always asked. put_may_at s x y was (always x was) asked puts)
             (λ x y was left put s always asked. record {
               by = put_held a.g a.head t s (next s) a.cell is_head x.disks y.disks (always x was).by (fits s x was (always x was) asked) w cell put;
               cell = put.stands;
               pending = are s x was (always x was) asked;
+              index = told s x was (always x was) asked;
             })
 
 -- ---- one call after another

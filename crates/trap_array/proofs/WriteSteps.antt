@@ -15,21 +15,21 @@ use Rattle.trap_array.specs.Calls.{Mounted, StandsFor, HasSizes, IsReady, GoesOn
 use Rattle.trap_array.specs.Log.{Log}
 use Rattle.trap_array.specs.Turning.{Denies, Turns}
 use Rattle.trap_array.specs.declared.fault.Denied.{Denied}
-use Rattle.trap_array.specs.declared.fault.Denied.TheVariants.{Refused, LogFault, MemberFault, Stopped}
+use Rattle.trap_array.specs.declared.fault.Denied.TheVariants.{Refused, LogFault, MemberFault, Damaged, Stopped}
 use Rattle.trap_array.proofs.KeepSteps.{next_of}
 use Rattle.trap_array.proofs.TurnSteps.{none_moves}
 use Rattle.trap_array.proofs.Turns.{holds_still}
 
 -- the array with that log
 abbrev pub mounted : Log → Bool → Mounted
-mounted log is_stopped = record { g = log.g; head = log.head; cell = log.cell; pending = log.stage.pending; is_stopped = is_stopped }
+mounted log is_stopped = record { g = log.g; head = log.head; cell = log.cell; pending = log.stage.pending; index = log.index; is_stopped = is_stopped }
 
 -- whether it is stopped says nothing of the disks
 pub as_going : (log : Log) (stopped : Bool) (s : State) (x : Disks) → StandsFor (mounted log stopped) s x → StandsFor (going log) s x
-as_going log stopped s x stands = record { by = stands.by; cell = stands.cell; pending = stands.pending }
+as_going log stopped s x stands = record { by = stands.by; cell = stands.cell; pending = stands.pending; index = stands.index }
 
 pub as_mounted : (log : Log) (stopped : Bool) (s : State) (x : Disks) → StandsFor (going log) s x → StandsFor (mounted log stopped) s x
-as_mounted log stopped s x stands = record { by = stands.by; cell = stands.cell; pending = stands.pending }
+as_mounted log stopped s x stands = record { by = stands.by; cell = stands.cell; pending = stands.pending; index = stands.index }
 
 module _ (a : Log) (stopped : Bool) (v w : View) (next : State → State) where
   pub may_mounted : Moves v w (MayTurn (going a) v next) (MayTurn (going a) v next) → Moves v w (MayTurn (mounted a stopped) v next) (MayTurn (mounted a stopped) v next)
@@ -70,6 +70,7 @@ not_failed a v w (Ok value) cause none = refl
 not_failed a v w (Err (Refused why)) cause none = refl
 not_failed a v w (Err LogFault) cause none = cc
 not_failed a v w (Err (MemberFault first second)) cause none = cc
+not_failed a v w (Err (Damaged offset)) cause none = absurd cause
 not_failed a v w (Err Stopped) cause none = absurd cause
 
 -- the sizes of an array that goes on

@@ -7,36 +7,40 @@ use Rattle.trap_cell.specs.Slots.{Slots, Stands}
 use Rattle.trap_format.specs.LogDisk.{log_size}
 use Rattle.trap_format.specs.MemberDisk.{member_size}
 use Rattle.trap_format.specs.declared.head.Head.{Head}
+use Rattle.trap_index.specs.Indexed.{Indexed}
+use Rattle.trap_index.specs.Describes.{Describes}
 use Rattle.trap_model.specs.declared.numbers.Geometry.{Geometry}
 use Rattle.trap_model.specs.declared.history.State.{State}
 use Rattle.trap_model.specs.declared.request.Reply.{Reply}
-use Rattle.trap_model.specs.declared.request.Reply.TheVariants.{Kept, Is, No}
+use Rattle.trap_model.specs.declared.request.Reply.TheVariants.{Kept, Is, At, No}
 use Rattle.trap_raid.specs.Members.{Counts}
 use Rattle.trap_stage.specs.Staged.{Staged}
 use Rattle.trap_stage.specs.Pending.{pending}
 use Rattle.trap_array.specs.Holding.{HoldsBy}
 use Rattle.trap_array.specs.Log.{Log}
 use Rattle.trap_array.specs.declared.fault.Denied.{Denied}
-use Rattle.trap_array.specs.declared.fault.Denied.TheVariants.{Refused, LogFault, MemberFault, Stopped}
+use Rattle.trap_array.specs.declared.fault.Denied.TheVariants.{Refused, LogFault, MemberFault, Damaged, Stopped}
 
 -- what contracts see of a mounted array: its numbers, the head that was put last, the head's cell, the pending writes
--- with the newest first, and whether a fault has stopped it
+-- with the newest first, the index of the retained records, and whether a fault has stopped it
 pub record Mounted : Type 0 where
   pub g : Geometry
   pub head : Head
   pub cell : Slots
   pub pending : List Staged
+  pub index : Indexed
   pub is_stopped : Bool
 
 -- an array that isn't stopped, by what it knows of its log
 abbrev pub going : Log → Mounted
-going log = record { g = log.g; head = log.head; cell = log.cell; pending = log.stage.pending; is_stopped = false }
+going log = record { g = log.g; head = log.head; cell = log.cell; pending = log.stage.pending; index = log.index; is_stopped = false }
 
--- the disks hold the state by the array's head, and the array knows their cell and their pending writes
+-- the disks hold the state by the array's head, and the array knows their cell, their pending writes and their records
 pub record StandsFor (a : Mounted) (s : State) (disks : Disks) : Type 0 where
   pub by : HoldsBy a.g a.head s disks
   pub cell : Stands a.cell disks
   pub pending : a.pending ≡ pending a.g s a.head.drained
+  pub index : Describes a.index s
 
 -- the log's disk, and each member's of which some row counts, have their sizes
 pub record HasSizes (g : Geometry) (lost : Option ℕ) (rebuilt : ℕ) (v : View) : Type 0 where
@@ -84,6 +88,7 @@ is_fault (Ok value) = false
 is_fault (Err (Refused why)) = false
 is_fault (Err LogFault) = true
 is_fault (Err (MemberFault first second)) = true
+is_fault (Err (Damaged offset)) = false
 is_fault (Err Stopped) = false
 
 -- the call did nothing, since the array was stopped, or a fault came
@@ -92,6 +97,7 @@ is_done (Ok value) = true
 is_done (Err (Refused why)) = true
 is_done (Err LogFault) = false
 is_done (Err (MemberFault first second)) = false
+is_done (Err (Damaged offset)) = true
 is_done (Err Stopped) = false
 
 -- the answer to a write is this reply
@@ -100,6 +106,7 @@ WriteReplies (Ok seq) reply = reply ≡ Kept seq
 WriteReplies (Err (Refused why)) reply = reply ≡ No why
 WriteReplies (Err LogFault) reply = Unit {0}
 WriteReplies (Err (MemberFault first second)) reply = Unit {0}
+WriteReplies (Err (Damaged offset)) reply = Unit {0}
 WriteReplies (Err Stopped) reply = Unit {0}
 
 -- the answer to a read, with the bytes that it filled in, is this reply
@@ -108,4 +115,14 @@ ReadReplies (Ok value) bytes reply = reply ≡ Is bytes
 ReadReplies (Err (Refused why)) bytes reply = reply ≡ No why
 ReadReplies (Err LogFault) bytes reply = Unit {0}
 ReadReplies (Err (MemberFault first second)) bytes reply = Unit {0}
+ReadReplies (Err (Damaged offset)) bytes reply = Unit {0}
 ReadReplies (Err Stopped) bytes reply = Unit {0}
+
+-- the answer to a read of an earlier instant, likewise
+abbrev pub AtReplies : {T : Type 0} → Result T Denied → List ℕ → Reply → Type 0
+AtReplies (Ok value) bytes reply = reply ≡ At bytes
+AtReplies (Err (Refused why)) bytes reply = reply ≡ No why
+AtReplies (Err LogFault) bytes reply = Unit {0}
+AtReplies (Err (MemberFault first second)) bytes reply = Unit {0}
+AtReplies (Err (Damaged offset)) bytes reply = Unit {0}
+AtReplies (Err Stopped) bytes reply = Unit {0}

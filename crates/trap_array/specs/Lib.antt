@@ -9,3 +9,5 @@ pub mod OnDisks
 pub mod Mounting
 pub mod Creating
 pub mod MountSteps
+pub mod Reading
+pub mod Instants

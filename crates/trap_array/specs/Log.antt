@@ -3,29 +3,38 @@ use Rattle.std.specs.Prelude.{◌≡◌, ℕ, ◌+◌, List, length, Bool, false
 use Rattle.trap_cell.specs.Slots.{Slots}
 use Rattle.trap_format.specs.HeadValue.{IsHead}
 use Rattle.trap_format.specs.declared.head.Head.{Head}
+use Rattle.trap_index.specs.Indexed.{Indexed, last_seq, last_time}
 use Rattle.trap_model.specs.Limits.{greatest_record}
 use Rattle.trap_model.specs.declared.numbers.Geometry.{Geometry}
 use Rattle.trap_stage.specs.Slots.{Stage, last_of}
 use Rattle.trap_array.specs.Holding.{head_place}
 
--- the log's disk as an array knows it: its numbers, the head that was put last, the head's cell, the pending writes
+-- the log's disk as an array knows it: its numbers, the head that was put last, the head's cell, the pending writes, and
+-- an index of the retained records
 pub record Log : Type 0 where
   pub g : Geometry
   pub head : Head
   pub cell : Slots
   pub stage : Stage
+  pub index : Indexed
 
--- the head is one of such an array, and cell and stage are the array's; an array has one staging slot
-pub record IsLog (g : Geometry) (head : Head) (cell : Slots) (stage : Stage) : Type 0 where
+-- the head is one of such an array, and cell, stage and index are the array's; an array has one staging slot
+pub record IsLog (g : Geometry) (head : Head) (cell : Slots) (stage : Stage) (index : Indexed) : Type 0 where
   pub is_head : IsHead g head
   pub one_slot : g.slots ≡ 1
   pub place : cell.place ≡ head_place
   pub same : stage.g ≡ g
+  pub indexed : index.g ≡ g
 
--- the pending writes are those between the head's numbers
-pub record AreInStep (head : Head) (stage : Stage) : Type 0 where
+-- the pending writes are those between the head's numbers, and the index has its first and last number, its first offset and its
+-- last time
+pub record AreInStep (head : Head) (stage : Stage) (index : Indexed) : Type 0 where
   pub drained : stage.drained ≡ head.drained
   pub last : last_of stage ≡ head.last
+  pub first : index.first ≡ head.first
+  pub offset : index.first_off ≡ head.first_off
+  pub end : last_seq index ≡ head.last
+  pub time : last_time index ≡ head.last_time
 
 -- the memory that the calls of an array need
 pub record Buffers : Type 0 where
@@ -45,7 +54,7 @@ pub record AreFor (block : ℕ) (room : Buffers) : Type 0 where
   pub code : length room.code ≡ block + 7
   pub spelled : length room.spelled ≡ greatest_record block
 
--- what holds of a mounted array: unless a fault has stopped it, its pending writes are those of its head
+-- what holds of a mounted array: unless a fault has stopped it, its pending writes and its index are those of its head
 pub record IsArray (log : Log) (buffers : Buffers) (is_stopped : Bool) : Type 0 where
   pub room : AreFor log.g.block buffers
-  pub in_step : is_stopped ≡ false → AreInStep log.head log.stage
+  pub in_step : is_stopped ≡ false → AreInStep log.head log.stage log.index

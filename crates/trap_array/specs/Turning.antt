@@ -13,13 +13,14 @@ use Rattle.trap_model.specs.declared.request.Reply.{Reply}
 use Rattle.trap_array.specs.Calls.{Mounted, StandsFor, GoesOn, MayTurn, HasTurned, MemberFails, WriteReplies, is_done, going}
 use Rattle.trap_array.specs.Log.{Log, AreInStep}
 use Rattle.trap_array.specs.declared.fault.Denied.{Denied}
-use Rattle.trap_array.specs.declared.fault.Denied.TheVariants.{Refused, LogFault, MemberFault, Stopped}
+use Rattle.trap_array.specs.declared.fault.Denied.TheVariants.{Refused, LogFault, MemberFault, Damaged, Stopped}
 
 -- what failed has a count of faults that rose
 abbrev pub IsFaultOf : Mounted → View → View → Denied → Type 0
 IsFaultOf a old new (Refused why) = ⊥
 IsFaultOf a old new LogFault = Rose (old.faults 0) (new.faults 0)
 IsFaultOf a old new (MemberFault first second) = MemberFails a first second old new
+IsFaultOf a old new (Damaged offset) = ⊥
 IsFaultOf a old new Stopped = ⊥
 
 -- the same, or a block that is there is refused
@@ -27,13 +28,14 @@ abbrev pub Denies : Mounted → View → View → Denied → Type 0
 Denies a old new (Refused why) = why ≢ NoBlock
 Denies a old new LogFault = Rose (old.faults 0) (new.faults 0)
 Denies a old new (MemberFault first second) = MemberFails a first second old new
+Denies a old new (Damaged offset) = ⊥
 Denies a old new Stopped = ⊥
 
 -- the answer is this reply to the state, and the array stands for the next one, or at a fault for one of the two
 pub record Turns (a b : Log) (next : State → State) (replies : State → Reply) (result : Result ℕ Denied) (old new : View) : Type 0 where
   pub reply : IsTrue old.tells → (s : State) → Always old (StandsFor (going a) s) → WriteReplies result (replies s)
   pub turned : IsTrue (is_done result) → Moves old new (MayTurn (going a) old next) (HasTurned (going a) (going b) old next)
-  pub in_step : IsTrue (is_done result) → AreInStep b.head b.stage
+  pub in_step : IsTrue (is_done result) → AreInStep b.head b.stage b.index
   pub stands : IsTrue (is_done result) → Always new (Stands b.cell)
   pub goes_on : GoesOn (going a) (going b)
   pub sizes : (e : ℕ) → new.sizes e ≡ old.sizes e

@@ -2,6 +2,7 @@
 
 ghost use Rattle.std.specs.Prelude.{◌≡◌, false};
 ghost use Rattle.trap_format.specs.HeadValue.{IsHead};
+ghost use Rattle.trap_index.specs.Indexed.{last_seq, last_time};
 ghost use Rattle.trap_stage.specs.Slots.{last_of};
 ghost use Rattle.trap_array.specs.Holding.{head_place};
 ghost use Rattle.trap_array.specs.Log.{AreFor};
@@ -11,10 +12,11 @@ use crate::log::Log;
 use std::marker::Model;
 use trap_cell::Cell;
 use trap_format::Head;
+use trap_index::Index;
 use trap_model::Geometry;
 use trap_stage::Stage;
 
-/// An array that is mounted: what its log's head says, and its pending writes. After a fault it is stopped, and is of
+/// An array that is mounted: what its log's head says, its pending writes, and the index of its records. After a fault it is stopped, and is of
 /// no further use: mount it again. Its memory was taken at mounting: no call takes more.
 #[derive(Drop)]
 pub struct Array {
@@ -34,6 +36,7 @@ impl Model for Array {
       head = a.log.head;
       cell = a.log.cell;
       pending = a.log.stage.pending;
+      index = a.log.index;
       is_stopped = a.is_stopped;
     } };
 
@@ -47,6 +50,7 @@ impl Array {
         head: Head,
         cell: Cell,
         stage: Stage,
+        index: Index,
         buffers: Buffers,
     ) -> Array
         requires head { IsHead g head }
@@ -55,8 +59,13 @@ impl Array {
         requires same { stage.g ≡ g }
         requires drained { stage.drained ≡ head.drained }
         requires last { last_of stage ≡ head.last }
+        requires indexed { index.g ≡ g }
+        requires first { index.first ≡ head.first }
+        requires offset { index.first_off ≡ head.first_off }
+        requires end { last_seq index ≡ head.last }
+        requires time { last_time index ≡ head.last_time }
         requires buffers { AreFor g.block buffers }
-        ensures { result ≡ record { g = g; head = head; cell = cell; pending = stage.pending; is_stopped = false } }
+        ensures { result ≡ record { g = g; head = head; cell = cell; pending = stage.pending; index = index; is_stopped = false } }
     {
         Array {
             log: Log {
@@ -64,6 +73,7 @@ impl Array {
                 head,
                 cell,
                 stage,
+                index,
             },
             buffers,
             is_stopped: false,

@@ -13,6 +13,10 @@ ghost use Rattle.trap_array.specs.Ready.{CanCommit};
 use crate::log::{Log, ring_of, value_of};
 use trap_bank::{Bank, DiskFault};
 use trap_format::Head;
+use trap_model::LogRec;
+
+/// The bytes of a record's header.
+const HEADER_BYTES: usize = 26;
 
 impl Log {
     /// Commits the next entry. The caller knows that there is room for it, and has its record and the parity of its row.
@@ -30,7 +34,7 @@ impl Log {
             (MayTurn (going self.old) (B.view bank.old) (λ s. added s (entry_for time block bytes.now)))
             (HasTurned (going self.old) (going self.new) (B.view bank.old) (λ s. added s (entry_for time block bytes.now)))) }
         ensures head { OnOk result (self.new.head ≡ committed self.old.head time (length spelled.now)) }
-        ensures in_step { OnOk result (AreInStep self.new.head self.new.stage) }
+        ensures in_step { OnOk result (AreInStep self.new.head self.new.stage self.new.index) }
         ensures stands { OnOk result (Always (B.view bank.new) (Stands self.new.cell)) }
         ensures goes_on { GoesOn (going self.old) (going self.new) }
         ensures sizes { (e : ℕ) → (B.view bank.new).sizes e ≡ (B.view bank.old).sizes e }
@@ -47,6 +51,14 @@ impl Log {
             last_time: time,
             ..self.head
         };
+        let rec = LogRec {
+            snap: false,
+            seq: next.last,
+            time,
+            block,
+            plen: (spelled.len() - HEADER_BYTES) as u16,
+            slen: 0,
+        };
         let value = value_of(&next);
         let ring = ring_of(&self.g);
         // Behind the window, and in a slot that is free: nothing that the old head names.
@@ -57,6 +69,7 @@ impl Log {
         // The entry is committed with this put.
         self.cell.put(bank, &value)?;
         self.head = next;
+        self.index.add(&rec);
         Ok(())
     }
 }

@@ -23,7 +23,7 @@ impl Log {
             (MayTurn (going self.old) (B.view bank.old) (λ s. s))
             (HasTurned (going self.old) (going self.new) (B.view bank.old) (λ s. s))) }
         ensures head { OnOk result (self.new.head ≡ drained_to self.old.head self.old.head.last) }
-        ensures in_step { OnOk result (AreInStep self.new.head self.new.stage) }
+        ensures in_step { OnOk result (AreInStep self.new.head self.new.stage self.new.index) }
         ensures stands { OnOk result (Always (B.view bank.new) (Stands self.new.cell)) }
         ensures goes_on { GoesOn (going self.old) (going self.new) }
         ensures sizes { (e : ℕ) → (B.view bank.new).sizes e ≡ (B.view bank.old).sizes e }

@@ -54,6 +54,9 @@ pub enum Denied {
     /// A member that isn't the lost one failed: the count of its disk rose in the call. Both numbers are its own. The
     /// array is stopped: mount it again. The disks hold the state before the call, or the one after it.
     MemberFault { first: u8, second: u8 },
+    /// A record that was read again, at this byte offset of disk 0, isn't the one that was there. The state is the one
+    /// before, and the array goes on.
+    Damaged { offset: u64 },
     /// A fault of an earlier call has stopped the array. Nothing was done.
     Stopped,
 }

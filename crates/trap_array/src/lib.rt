@@ -16,10 +16,18 @@ pub mod laws;
 mod log;
 mod mount;
 pub mod mount_laws;
+mod past;
+#[cfg(test)]
+mod past_tests;
 mod planning;
 mod read;
+mod source;
+mod span;
+#[cfg(test)]
+mod span_tests;
 mod write;
 
 pub use array::Array;
 pub use creating::create;
 pub use fault::{CreateFault, Denied, MountFault};
+pub use span::Span;

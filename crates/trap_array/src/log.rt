@@ -8,17 +8,20 @@ ghost use Rattle.trap_array.specs.Holding.{log_ring};
 use std::marker::Model;
 use trap_cell::Cell;
 use trap_format::{Head, spell_head};
+use trap_index::Index;
 use trap_model::Geometry;
 use trap_ring::Ring;
 use trap_stage::Stage;
 
-/// The numbers of the array, the head that was put last, the head's cell, and the pending writes.
+/// The numbers of the array, the head that was put last, the head's cell, the pending writes, and the index of the
+/// retained records.
 #[derive(Drop)]
 pub(crate) struct Log {
     pub(crate) g: Geometry,
     pub(crate) head: Head,
     pub(crate) cell: Cell,
     pub(crate) stage: Stage,
+    pub(crate) index: Index,
 }
 
 impl Model for Log {
@@ -26,9 +29,9 @@ impl Model for Log {
 
     ghost Value = { log.Log };
 
-    ghost view = { λ l. record { g = l.g; head = l.head; cell = l.cell; stage = l.stage } };
+    ghost view = { λ l. record { g = l.g; head = l.head; cell = l.cell; stage = l.stage; index = l.index } };
 
-    ghost invariant = { λ l. log.IsLog l.g l.head l.cell l.stage };
+    ghost invariant = { λ l. log.IsLog l.g l.head l.cell l.stage l.index };
 }
 
 /// The ring of records, behind the staging slots.

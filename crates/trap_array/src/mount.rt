@@ -19,6 +19,7 @@ ghost use Rattle.trap_array.specs.declared.fault.MountFault.{MountFault};
 mod header;
 mod history;
 mod members;
+mod records;
 #[cfg(test)]
 mod tests;
 
@@ -101,6 +102,13 @@ impl Array {
         let Ok(()) = put_changed(&mut found.cell, bank, &found.head, &head) else {
             return Err(MountFault::LogFault);
         };
-        Ok(Array::assemble(found.g, head, found.cell, found.stage, found.buffers))
+        Ok(Array::assemble(
+            found.g,
+            head,
+            found.cell,
+            found.stage,
+            found.index,
+            found.buffers,
+        ))
     }
 }

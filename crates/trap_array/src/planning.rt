@@ -103,6 +103,7 @@ impl Log {
         ensures spelled { (old bytes : List ℕ) → room.old.delta ≡ xor old bytes → take result room.new.spelled
             ≡ record_of (self.now.head.last + 1) old (entry_for time block bytes) }
         ensures short { result ≤ greatest_record self.now.g.block }
+        ensures code { (30 ≤ result) × (result ≤ self.now.g.block + 33) }
         ensures room { AreFor self.now.g.block room.new }
         ensures parity { room.new.parity ≡ room.old.parity }
     {

@@ -2,6 +2,7 @@
 use Rattle.std.specs.Prelude.{◌≡◌, ℕ, ◌+◌, ◌-◌, ◌<◌, ◌≤◌, List, []}
 use Rattle.trap_bank.specs.Disks.{Disks}
 use Rattle.trap_model.specs.declared.log_record.LogRec.{LogRec}
+use Rattle.trap_model.specs.LogRecord.{KeepsRanges}
 use Rattle.trap_ring.specs.Ring.{RingPlace}
 use Rattle.trap_scan.specs.declared.expected.Expected.{Expected}
 use Rattle.trap_scan.specs.declared.scan.Scan.{Scan}
@@ -68,6 +69,13 @@ pub record TakesNext (old new : Scan) (r : LogRec) : Type 0 where
   pub seq : new.seq ≡ r.seq
   pub time : new.time ≡ r.time
   pub at : old.window.at ≤ new.window.at
+
+-- the record is one that may follow, by its numbers
+pub record IsChecked (s : Scan) (r : LogRec) : Type 0 where
+  pub ranges : KeepsRanges s.expected.size r
+  pub block : r.block < s.expected.volume
+  pub later : s.time ≤ r.time
+  pub last : more_of s ≡ 0 → r.time ≡ s.expected.last_time
 
 -- the next record begins the bytes, and the rest stands behind it
 abbrev pub ComesNext : Scan → List ℕ → LogRec → List ℕ → Type 0

@@ -3,7 +3,7 @@ use Rattle.std.specs.Prelude.{◌≡◌, ℕ, ◌+◌, ◌-◌, ◌≤◌, List,
 use Rattle.trap_bank.specs.Disks.{Disks, View}
 use Rattle.trap_bank.specs.Steps.{Moves, Same}
 use Rattle.trap_model.specs.Limits.{greatest_record}
-use Rattle.trap_model.specs.LogRecord.{LogRecord}
+use Rattle.trap_model.specs.LogRecord.{KeepsRanges, LogRecord}
 use Rattle.trap_model.specs.declared.log_record.LogRec.{LogRec}
 use Rattle.trap_record.specs.Reading.{IsWhole}
 use Rattle.trap_ring.specs.Ring.{RingPlace, RingHas}
@@ -61,6 +61,11 @@ IsFront size bytes (Some front) = IsWhole size front.rec front.len bytes
 abbrev pub IsPending : Window → Option Front → Type 0
 IsPending w None = Unit {0}
 IsPending w (Some front) = front.len ≤ w.to - w.from
+
+-- where a record was found, its numbers are in their ranges
+abbrev pub HasRanges : ℕ → Option Front → Type 0
+HasRanges size None = Unit {0}
+HasRanges size (Some front) = KeepsRanges size front.rec
 
 -- a record stands whole at the front of the buffer
 pub record IsHeld (size : ℕ) (w : Window) : Type 0 where

@@ -5,23 +5,27 @@ ghost use Rattle.trap_bank.specs.Calls.{Fits};
 ghost use Rattle.trap_cell.specs.Steps.{IsMounted};
 ghost use Rattle.trap_format.specs.LogDisk.{log_size};
 ghost use Rattle.trap_format.specs.HeadValue.{IsHead};
+ghost use Rattle.trap_index.specs.Indexed.{nothing_indexed};
 ghost use Rattle.trap_model.specs.declared.numbers.Geometry.{Geometry};
 ghost use Rattle.trap_raid.specs.Reads.{OnlyReads};
 ghost use Rattle.trap_array.specs.Holding.{head_place};
 ghost use Rattle.trap_array.specs.Log.{AreFor};
 ghost use Rattle.trap_array.specs.Mounting.{IsNoLog, Refuses, MountFails, HasHeader, HasHead, HasSlots, HasRecords};
 ghost use Rattle.trap_array.specs.MountSteps.{IsStable, ReadsHead, ReadsStage, ReadsLog};
+ghost use Rattle.trap_array.specs.Reading.{ReadsIndex};
 
 use crate::MountFault;
 use crate::buffers::Buffers;
 use crate::mount::header::read_header;
+use crate::mount::records::read_records;
 use std::alloc::Global;
 use trap_bank::Bank;
 use trap_cell::{Cell, CellFault};
 use trap_format::{Head, log_len, read_head};
+use trap_index::Index;
 use trap_model::Geometry;
 use trap_ring::Ring;
-use trap_scan::{CheckFault, Expected, check_records};
+use trap_scan::{CheckFault, Expected};
 use trap_stage::{Stage, StageFault};
 
 /// Where the head's cell stands on disk 0.
@@ -37,6 +41,7 @@ pub(super) struct Found {
     pub(super) head: Head,
     pub(super) cell: Cell,
     pub(super) stage: Stage,
+    pub(super) index: Index,
     pub(super) buffers: Buffers,
 }
 
@@ -102,15 +107,18 @@ fn find_stage<B: Bank>(
     }
 }
 
-/// Reads the records of the retained entries, and checks that they are such.
-fn check_history<B: Bank>(
+/// Reads the records of the retained entries into an index that has none yet, and checks that they are such.
+fn take_history<B: Bank>(
     alloc: Global,
     bank: &mut B,
     g: &Geometry,
     head: &Head,
+    index: &mut Index,
 ) -> Result<(), MountFault>
     requires size { (B.view bank.old).sizes 0 ≡ Some (log_size g.now) }
     requires head { IsHead g.now head.now }
+    requires none { index.old ≡ nothing_indexed g.now head.now.first head.now.base_time head.now.first_off }
+    ensures index { OnOk result (ReadsIndex g.now head.now index.new (B.view bank.old)) }
     ensures ok { OnOk result (IsTrue (B.view bank.old).tells → HasSlots g.now head.now (B.view bank.old).now.disks
         → HasRecords g.now head.now (B.view bank.old).now.disks) }
     ensures reads { OnlyReads (B.view bank.old) (B.view bank.new) }
@@ -130,7 +138,7 @@ fn check_history<B: Bank>(
         last_time: head.last_time,
         end_off: head.end_off,
     };
-    match check_records(alloc, bank, &ring, &expected) {
+    match read_records(alloc, bank, &ring, &expected, index) {
         Ok(()) => Ok(()),
         Err(CheckFault::DiskFault) => Err(MountFault::LogFault),
         Err(CheckFault::Damaged { at }) => Err(MountFault::Damaged {
@@ -140,10 +148,35 @@ fn check_history<B: Bank>(
     }
 }
 
+/// The index of the retained records, which are read and checked.
+fn read_history<B: Bank>(
+    alloc: Global,
+    bank: &mut B,
+    g: &Geometry,
+    head: &Head,
+) -> Result<Index, MountFault>
+    requires size { (B.view bank.old).sizes 0 ≡ Some (log_size g.now) }
+    requires head { IsHead g.now head.now }
+    ensures index { IfOk result (λ index. ReadsIndex g.now head.now index (B.view bank.old)) }
+    ensures ok { OnOk result (IsTrue (B.view bank.old).tells → HasSlots g.now head.now (B.view bank.old).now.disks
+        → HasRecords g.now head.now (B.view bank.old).now.disks) }
+    ensures reads { OnlyReads (B.view bank.old) (B.view bank.new) }
+    ensures refused { IfErr result (λ why. IsTrue (B.view bank.old).tells
+        → HasSlots g.now head.now (B.view bank.old).now.disks → Refuses (B.view bank.old) why) }
+    ensures cause { IfErr result (λ why. MountFails why (B.view bank.old) (B.view bank.new)) }
+{
+    let Ok(mut index) = Index::new(alloc, g, head.first, head.base_time, head.first_off) else {
+        return Err(MountFault::OutOfMemory);
+    };
+    take_history(alloc, bank, g, head, &mut index)?;
+    Ok(index)
+}
+
 /// Reads all that stands on disk 0, and takes the memory for the calls of the array.
 pub(super) fn find_log<B: Bank>(alloc: Global, bank: &mut B) -> Result<Found, MountFault>
     ensures ok { IfOk result (λ found.
         ReadsLog found.g found.head found.cell found.stage (B.view bank.old) (B.view bank.new)) }
+    ensures index { IfOk result (λ found. ReadsIndex found.g found.head found.index (B.view bank.old)) }
     ensures buffers { IfOk result (λ found. AreFor found.g.block found.buffers) }
     ensures reads { OnlyReads (B.view bank.old) (B.view bank.new) }
     ensures no_log { IsNoLog ((B.view bank.old).sizes 0) → IsErrOf result MountFault.NotAnArray }
@@ -156,12 +189,13 @@ pub(super) fn find_log<B: Bank>(alloc: Global, bank: &mut B) -> Result<Found, Mo
         return Err(MountFault::OutOfMemory);
     };
     let stage = find_stage(alloc, bank, &g, &head)?;
-    check_history(alloc, bank, &g, &head)?;
+    let index = read_history(alloc, bank, &g, &head)?;
     Ok(Found {
         g,
         head,
         cell,
         stage,
+        index,
         buffers,
     })
 }

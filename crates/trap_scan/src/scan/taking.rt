@@ -5,7 +5,7 @@ ghost use Rattle.trap_bank.specs.Faults.{Rose};
 ghost use Rattle.trap_bank.specs.Calls.{Fits};
 ghost use Rattle.trap_model.specs.Limits.{greatest_record};
 ghost use Rattle.trap_scan.specs.Window.{IsLoaded, IsHeld, Looks};
-ghost use Rattle.trap_scan.specs.Scan.{IsAtFirst, IsLast, MayFollow, Takes, TakesNext, GivesNext, IsDamaged};
+ghost use Rattle.trap_scan.specs.Scan.{IsAtFirst, IsLast, MayFollow, Takes, TakesNext, IsChecked, GivesNext, IsDamaged};
 
 use super::Scan;
 use crate::window::{Front, Window};
@@ -120,6 +120,7 @@ impl Scan {
             → IsLoaded ring.now self.old.window (B.view bank.old).now.disks }
         ensures expected { self.new.expected ≡ self.old.expected }
         ensures next { IfOk result (TakesNext self.old self.new) }
+        ensures checked { IfOk result (IsChecked self.old) }
         ensures right { IsTrue (B.view bank.old).tells
             → IfOk result (GivesNext ring.now self.old self.new (B.view bank.old).now.disks) }
         ensures damaged { IsTrue (B.view bank.old).tells → (at : ℕ)

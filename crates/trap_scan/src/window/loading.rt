@@ -5,7 +5,7 @@ ghost use Rattle.trap_bank.specs.Faults.{Rose};
 ghost use Rattle.trap_bank.specs.Calls.{Fits};
 ghost use Rattle.trap_record.specs.Reading.{Reads};
 ghost use Rattle.trap_ring.specs.Ring.{RingHas};
-ghost use Rattle.trap_scan.specs.Window.{pending, IsBegun, SamePlace, PassesOver, IsLoaded, HasRoom, IsAhead, IsFront, IsPending, IsHeld, Looks};
+ghost use Rattle.trap_scan.specs.Window.{pending, IsBegun, SamePlace, PassesOver, IsLoaded, HasRoom, IsAhead, IsFront, IsPending, HasRanges, IsHeld, Looks};
 
 use super::{Front, Window};
 use std::alloc::{AllocError as OutOfMemory, Global};
@@ -128,6 +128,7 @@ impl Window {
         ensures found { IsTrue (B.view bank.old).tells → IfOk result (λ found. (bytes : List ℕ)
             → IsAhead ring.now self.old bytes (B.view bank.old).now.disks → IsFront size bytes found) }
         ensures pending { IfOk result (IsPending self.new) }
+        ensures ranges { IfOk result (HasRanges size) }
 
         // No call of the bank for a record that stands in the buffer.
         ensures untouched { IsHeld size self.old → bank.new ≡ bank.old }

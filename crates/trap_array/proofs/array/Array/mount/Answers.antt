@@ -92,14 +92,14 @@ returns-clause-stands g c = λ numbers s told holds.
     subst (λ (m : Mounted). (m.g ≡ numbers) × Always (g.B.Bank.view c.put_changed.new.bank) (StandsFor m s)) (sym c.assemble.ensures)
     (mount_stands c.in_ok-found.found.g c.in_ok-found.found.head c.in_ok-head.head c.in_ok-found.found.cell c.in_ok-found.found.stage
     (g.B.Bank.view c.args.bank.now) (g.B.Bank.view c.find_log.new.bank) (g.B.Bank.view c.find_members.new.bank) c.find_log.ensures.reads c.find_members.ensures.reads
-    (g.met.B.Bank.lawful c.find_log.new.bank) c.in_ok-found.ensures.ok c.in_ok-head.ensures.ok (g.B.Bank.view c.put_changed.new.bank) c.put_changed.new.cell c.in-Ok.ensures.ok c.put_changed.ensures.sizes numbers s told holds)
+    (g.met.B.Bank.lawful c.find_log.new.bank) c.in_ok-found.ensures.ok c.in_ok-head.ensures.ok (g.B.Bank.view c.put_changed.new.bank) c.put_changed.new.cell c.in_ok-found.found.index c.in_ok-found.ensures.index c.in-Ok.ensures.ok c.put_changed.ensures.sizes numbers s told holds)
 
 pub returns-clause-ready : goal.returns-clause-ready
 returns-clause-ready g c =
     subst (λ (m : Mounted). IsReady m (g.B.Bank.view c.put_changed.new.bank) × (m.is_stopped ≡ false)) (sym c.assemble.ensures) (
       mount_ready c.in_ok-found.found.g c.in_ok-found.found.head c.in_ok-head.head c.in_ok-found.found.cell c.in_ok-found.found.stage
           (g.B.Bank.view c.args.bank.now) (g.B.Bank.view c.find_log.new.bank) (g.B.Bank.view c.find_members.new.bank) c.find_log.ensures.reads c.find_members.ensures.reads
-          (g.met.B.Bank.lawful c.find_log.new.bank) c.in_ok-found.ensures.ok c.in_ok-head.ensures.ok (g.B.Bank.view c.put_changed.new.bank) c.put_changed.new.cell c.in-Ok.ensures.ok c.put_changed.ensures.sizes,
+          (g.met.B.Bank.lawful c.find_log.new.bank) c.in_ok-found.ensures.ok c.in_ok-head.ensures.ok (g.B.Bank.view c.put_changed.new.bank) c.put_changed.new.cell c.in_ok-found.found.index c.in_ok-found.ensures.index c.in-Ok.ensures.ok c.put_changed.ensures.sizes,
       refl,
     )
 
@@ -108,7 +108,7 @@ returns-clause-found g c =
     subst (λ (m : Mounted). HasFound m (g.B.Bank.view c.args.bank.now) (g.B.Bank.view c.put_changed.new.bank)) (sym c.assemble.ensures)
     (mount_found c.in_ok-found.found.g c.in_ok-found.found.head c.in_ok-head.head c.in_ok-found.found.cell c.in_ok-found.found.stage
     (g.B.Bank.view c.args.bank.now) (g.B.Bank.view c.find_log.new.bank) (g.B.Bank.view c.find_members.new.bank) c.find_log.ensures.reads c.find_members.ensures.reads
-    (g.met.B.Bank.lawful c.find_log.new.bank) c.in_ok-found.ensures.ok c.in_ok-head.ensures.ok (g.B.Bank.view c.put_changed.new.bank) c.put_changed.new.cell c.in-Ok.ensures.ok c.put_changed.ensures.sizes)
+    (g.met.B.Bank.lawful c.find_log.new.bank) c.in_ok-found.ensures.ok c.in_ok-head.ensures.ok (g.B.Bank.view c.put_changed.new.bank) c.put_changed.new.cell c.in_ok-found.found.index c.in_ok-found.ensures.index c.in-Ok.ensures.ok c.put_changed.ensures.sizes)
 
 pub returns-clause-sizes : goal.returns-clause-sizes
 returns-clause-sizes g c = λ e. c.put_changed.ensures.sizes e ∙ c.find_members.ensures.reads.sizes e ∙ c.find_log.ensures.reads.sizes e

@@ -1,4 +1,4 @@
-use Rattle.std.proofs.Common.{length, sym, subst, ◌∙◌}
+use Rattle.std.proofs.Common.{length, refl, sym, subst, ◌∙◌}
 use Rattle.trap_bank.specs.Steps.{Moves}
 use Rattle.trap_bank.proofs.Moves.{sync_steps}
 use Rattle.trap_model.specs.ArrayStep.{added}
@@ -8,30 +8,31 @@ use Rattle.trap_array.specs.Log.{Log}
 use Rattle.trap_array.specs.NextHead.{committed, entry_for}
 use Rattle.trap_array.specs.Ready.{CanCommit}
 use Rattle.trap_array.proofs.CommitSteps.{cell_room, append_any, fill_any, sync_any, cell_still, put_any, put_ok, settled_there}
+use Rattle.trap_array.proofs.IndexSteps.{next_in_step}
 use Rattle.trap_array.proofs.log.Log.commit.Goals as goal
 
 pub returns-in_err-append-clause-any_moment : goal.returns-in_err-append-clause-any_moment
 returns-in_err-append-clause-any_moment g c =
     let old = g.B.Bank.view c.args.bank.now in
     let v1 = g.B.Bank.view c.append.new.bank in
-    let log : Log = record { g = c.self.inside.g; head = c.self.inside.head; cell = c.self.inside.cell; stage = c.self.inside.stage } in
+    let log : Log = record { g = c.self.inside.g; head = c.self.inside.head; cell = c.self.inside.cell; stage = c.self.inside.stage; index = c.self.inside.index } in
     let entry : Entry = entry_for c.args.time c.args.block c.args.bytes.now in
     let can = subst (λ (l : Log). CanCommit l old entry c.args.parity.now c.args.spelled.now) (sym c.self.view_is) c.requires.can in
     let P : Log → Type 0 = λ (l : Log). Moves old v1 (MayTurn (going l) old (λ s. added s entry)) (MayTurn (going l) old (λ s. added s entry)) in
     subst P c.self.view_is
-    (append_any log c.self.invariant.place c.self.invariant.same old entry c.args.parity.now c.args.spelled.now can c.ring_of-ring.result c.ring_of-ring.ensures v1 c.append.ensures.any_moment)
+    (append_any log c.self.invariant.place c.self.invariant.same old entry c.args.parity.now c.args.spelled.now can refl c.ring_of-ring.result c.ring_of-ring.ensures v1 c.append.ensures.any_moment)
 
 pub returns-in_err-fill-clause-any_moment : goal.returns-in_err-fill-clause-any_moment
 returns-in_err-fill-clause-any_moment g c =
     let old = g.B.Bank.view c.args.bank.now in
     let v1 = g.B.Bank.view c.append.new.bank in
     let v2 = g.B.Bank.view c.fill.new.bank in
-    let log : Log = record { g = c.self.inside.g; head = c.self.inside.head; cell = c.self.inside.cell; stage = c.self.inside.stage } in
+    let log : Log = record { g = c.self.inside.g; head = c.self.inside.head; cell = c.self.inside.cell; stage = c.self.inside.stage; index = c.self.inside.index } in
     let entry : Entry = entry_for c.args.time c.args.block c.args.bytes.now in
     let can = subst (λ (l : Log). CanCommit l old entry c.args.parity.now c.args.spelled.now) (sym c.self.view_is) c.requires.can in
     let P : Log → Type 0 = λ (l : Log). Moves old v2 (MayTurn (going l) old (λ s. added s entry)) (MayTurn (going l) old (λ s. added s entry)) in
     subst P c.self.view_is
-    (fill_any log c.self.invariant.place c.self.invariant.same old entry c.args.parity.now c.args.spelled.now can c.ring_of-ring.result c.ring_of-ring.ensures v1 c.append.ensures.any_moment v2 c.fill.ensures.any_moment)
+    (fill_any log c.self.invariant.place c.self.invariant.same old entry c.args.parity.now c.args.spelled.now can refl c.ring_of-ring.result c.ring_of-ring.ensures v1 c.append.ensures.any_moment v2 c.fill.ensures.any_moment)
 
 pub returns-in_err-sync-clause-any_moment : goal.returns-in_err-sync-clause-any_moment
 returns-in_err-sync-clause-any_moment g c =
@@ -39,12 +40,12 @@ returns-in_err-sync-clause-any_moment g c =
     let v1 = g.B.Bank.view c.append.new.bank in
     let v2 = g.B.Bank.view c.fill.new.bank in
     let v3 = g.B.Bank.view c.sync.new.self in
-    let log : Log = record { g = c.self.inside.g; head = c.self.inside.head; cell = c.self.inside.cell; stage = c.self.inside.stage } in
+    let log : Log = record { g = c.self.inside.g; head = c.self.inside.head; cell = c.self.inside.cell; stage = c.self.inside.stage; index = c.self.inside.index } in
     let entry : Entry = entry_for c.args.time c.args.block c.args.bytes.now in
     let can = subst (λ (l : Log). CanCommit l old entry c.args.parity.now c.args.spelled.now) (sym c.self.view_is) c.requires.can in
     let P : Log → Type 0 = λ (l : Log). Moves old v3 (MayTurn (going l) old (λ s. added s entry)) (MayTurn (going l) old (λ s. added s entry)) in
     subst P c.self.view_is
-    (sync_any log c.self.invariant.place c.self.invariant.same old entry c.args.parity.now c.args.spelled.now can c.ring_of-ring.result c.ring_of-ring.ensures v1 c.append.ensures.any_moment v2 c.fill.ensures.any_moment v3 (sync_steps _ _ _ _ c.sync.ensures.call))
+    (sync_any log c.self.invariant.place c.self.invariant.same old entry c.args.parity.now c.args.spelled.now can refl c.ring_of-ring.result c.ring_of-ring.ensures v1 c.append.ensures.any_moment v2 c.fill.ensures.any_moment v3 (sync_steps _ _ _ _ c.sync.ensures.call))
 
 pub put-requires-clause-room : goal.put-requires-clause-room
 put-requires-clause-room g c =
@@ -52,7 +53,7 @@ put-requires-clause-room g c =
     let v1 = g.B.Bank.view c.append.new.bank in
     let v2 = g.B.Bank.view c.fill.new.bank in
     let v3 = g.B.Bank.view c.sync.new.self in
-    let log : Log = record { g = c.self.inside.g; head = c.self.inside.head; cell = c.self.inside.cell; stage = c.self.inside.stage } in
+    let log : Log = record { g = c.self.inside.g; head = c.self.inside.head; cell = c.self.inside.cell; stage = c.self.inside.stage; index = c.self.inside.index } in
     let entry : Entry = entry_for c.args.time c.args.block c.args.bytes.now in
     let can = subst (λ (l : Log). CanCommit l old entry c.args.parity.now c.args.spelled.now) (sym c.self.view_is) c.requires.can in
     cell_room log.g v3 log.cell.place c.self.invariant.place (c.sync.ensures.call.sizes 0 ∙ c.fill.ensures.sizes 0 ∙ c.append.ensures.sizes 0 ∙ can.sizes.log)
@@ -63,10 +64,10 @@ put-requires-clause-stands g c =
     let v1 = g.B.Bank.view c.append.new.bank in
     let v2 = g.B.Bank.view c.fill.new.bank in
     let v3 = g.B.Bank.view c.sync.new.self in
-    let log : Log = record { g = c.self.inside.g; head = c.self.inside.head; cell = c.self.inside.cell; stage = c.self.inside.stage } in
+    let log : Log = record { g = c.self.inside.g; head = c.self.inside.head; cell = c.self.inside.cell; stage = c.self.inside.stage; index = c.self.inside.index } in
     let entry : Entry = entry_for c.args.time c.args.block c.args.bytes.now in
     let can = subst (λ (l : Log). CanCommit l old entry c.args.parity.now c.args.spelled.now) (sym c.self.view_is) c.requires.can in
-    cell_still log c.self.invariant.place c.self.invariant.same old entry c.args.parity.now c.args.spelled.now can c.ring_of-ring.result c.ring_of-ring.ensures v1 c.append.ensures.any_moment v2 c.fill.ensures.any_moment v3 (sync_steps _ _ _ _ c.sync.ensures.call)
+    cell_still log c.self.invariant.place c.self.invariant.same old entry c.args.parity.now c.args.spelled.now can refl c.ring_of-ring.result c.ring_of-ring.ensures v1 c.append.ensures.any_moment v2 c.fill.ensures.any_moment v3 (sync_steps _ _ _ _ c.sync.ensures.call)
 
 pub returns-in_err-put-clause-any_moment : goal.returns-in_err-put-clause-any_moment
 returns-in_err-put-clause-any_moment g c =
@@ -75,12 +76,12 @@ returns-in_err-put-clause-any_moment g c =
     let v2 = g.B.Bank.view c.fill.new.bank in
     let v3 = g.B.Bank.view c.sync.new.self in
     let v4 = g.B.Bank.view c.put.new.bank in
-    let log : Log = record { g = c.self.inside.g; head = c.self.inside.head; cell = c.self.inside.cell; stage = c.self.inside.stage } in
+    let log : Log = record { g = c.self.inside.g; head = c.self.inside.head; cell = c.self.inside.cell; stage = c.self.inside.stage; index = c.self.inside.index } in
     let entry : Entry = entry_for c.args.time c.args.block c.args.bytes.now in
     let can = subst (λ (l : Log). CanCommit l old entry c.args.parity.now c.args.spelled.now) (sym c.self.view_is) c.requires.can in
     let P : Log → Type 0 = λ (l : Log). Moves old v4 (MayTurn (going l) old (λ s. added s entry)) (MayTurn (going l) old (λ s. added s entry)) in
     subst P c.self.view_is
-    (put_any log c.self.invariant.place c.self.invariant.same old entry c.args.parity.now c.args.spelled.now can c.ring_of-ring.result c.ring_of-ring.ensures v1 c.append.ensures.any_moment v2 c.fill.ensures.any_moment v3 (sync_steps _ _ _ _ c.sync.ensures.call) c.in_ok-append.ensures.written c.fill.ensures.contents c.in_ok-fill.ensures.written c.sync.ensures.call.same (settled_there _ v2 v3 c.in_ok-sync.ensures.call) v4 c.value_of-value.result c.value_of-value.ensures c.put.ensures.any_moment)
+    (put_any log c.self.invariant.place c.self.invariant.same old entry c.args.parity.now c.args.spelled.now can refl c.ring_of-ring.result c.ring_of-ring.ensures v1 c.append.ensures.any_moment v2 c.fill.ensures.any_moment v3 (sync_steps _ _ _ _ c.sync.ensures.call) c.in_ok-append.ensures.written c.fill.ensures.contents c.in_ok-fill.ensures.written c.sync.ensures.call.same (settled_there _ v2 v3 c.in_ok-sync.ensures.call) v4 c.value_of-value.result c.value_of-value.ensures c.put.ensures.any_moment)
 
 pub returns-clause-ok : goal.returns-clause-ok
 returns-clause-ok g c =
@@ -89,12 +90,12 @@ returns-clause-ok g c =
     let v2 = g.B.Bank.view c.fill.new.bank in
     let v3 = g.B.Bank.view c.sync.new.self in
     let v4 = g.B.Bank.view c.put.new.bank in
-    let log : Log = record { g = c.self.inside.g; head = c.self.inside.head; cell = c.self.inside.cell; stage = c.self.inside.stage } in
+    let log : Log = record { g = c.self.inside.g; head = c.self.inside.head; cell = c.self.inside.cell; stage = c.self.inside.stage; index = c.self.inside.index } in
     let entry : Entry = entry_for c.args.time c.args.block c.args.bytes.now in
     let can = subst (λ (l : Log). CanCommit l old entry c.args.parity.now c.args.spelled.now) (sym c.self.view_is) c.requires.can in
-    let P : Log → Type 0 = λ (l : Log). Moves old v4 (MayTurn (going l) old (λ s. added s entry)) (HasTurned (going l) (going (record { g = log.g; head = committed log.head entry.time (length c.args.spelled.now); cell = c.put.new.self; stage = c.fill.new.self })) old (λ s. added s entry)) in
+    let P : Log → Type 0 = λ (l : Log). Moves old v4 (MayTurn (going l) old (λ s. added s entry)) (HasTurned (going l) (going (record { g = log.g; head = committed log.head entry.time (length c.args.spelled.now); cell = c.put.new.self; stage = c.fill.new.self; index = c.add.new.self })) old (λ s. added s entry)) in
     subst P c.self.view_is
-    (put_ok log c.self.invariant.place c.self.invariant.same old entry c.args.parity.now c.args.spelled.now can c.ring_of-ring.result c.ring_of-ring.ensures v1 c.append.ensures.any_moment v2 c.fill.ensures.any_moment v3 (sync_steps _ _ _ _ c.sync.ensures.call) c.in_ok-append.ensures.written c.fill.ensures.contents c.in_ok-fill.ensures.written c.sync.ensures.call.same (settled_there _ v2 v3 c.in_ok-sync.ensures.call) v4 c.value_of-value.result c.value_of-value.ensures c.put.new.self c.fill.new.self c.in_ok-fill.ensures.ok c.in_ok-put.ensures.ok)
+    (put_ok log c.self.invariant.place c.self.invariant.same old entry c.args.parity.now c.args.spelled.now can refl c.ring_of-ring.result c.ring_of-ring.ensures v1 c.append.ensures.any_moment v2 c.fill.ensures.any_moment v3 (sync_steps _ _ _ _ c.sync.ensures.call) c.in_ok-append.ensures.written c.fill.ensures.contents c.in_ok-fill.ensures.written c.sync.ensures.call.same (settled_there _ v2 v3 c.in_ok-sync.ensures.call) v4 c.value_of-value.result c.value_of-value.ensures c.put.new.self c.fill.new.self c.add.new.self c.add.ensures c.in_ok-fill.ensures.ok c.in_ok-put.ensures.ok)
 
 pub returns-clause-stands : goal.returns-clause-stands
 returns-clause-stands g c =
@@ -103,7 +104,7 @@ returns-clause-stands g c =
     let v2 = g.B.Bank.view c.fill.new.bank in
     let v3 = g.B.Bank.view c.sync.new.self in
     let v4 = g.B.Bank.view c.put.new.bank in
-    let log : Log = record { g = c.self.inside.g; head = c.self.inside.head; cell = c.self.inside.cell; stage = c.self.inside.stage } in
+    let log : Log = record { g = c.self.inside.g; head = c.self.inside.head; cell = c.self.inside.cell; stage = c.self.inside.stage; index = c.self.inside.index } in
     let entry : Entry = entry_for c.args.time c.args.block c.args.bytes.now in
     let can = subst (λ (l : Log). CanCommit l old entry c.args.parity.now c.args.spelled.now) (sym c.self.view_is) c.requires.can in
     λ w left. let from = c.in_ok-put.ensures.ok.now w left in from.by.disks.stands
@@ -115,9 +116,17 @@ returns-clause-any_moment g c =
     let v2 = g.B.Bank.view c.fill.new.bank in
     let v3 = g.B.Bank.view c.sync.new.self in
     let v4 = g.B.Bank.view c.put.new.bank in
-    let log : Log = record { g = c.self.inside.g; head = c.self.inside.head; cell = c.self.inside.cell; stage = c.self.inside.stage } in
+    let log : Log = record { g = c.self.inside.g; head = c.self.inside.head; cell = c.self.inside.cell; stage = c.self.inside.stage; index = c.self.inside.index } in
     let entry : Entry = entry_for c.args.time c.args.block c.args.bytes.now in
     let can = subst (λ (l : Log). CanCommit l old entry c.args.parity.now c.args.spelled.now) (sym c.self.view_is) c.requires.can in
     let P : Log → Type 0 = λ (l : Log). Moves old v4 (MayTurn (going l) old (λ s. added s entry)) (MayTurn (going l) old (λ s. added s entry)) in
     subst P c.self.view_is
-    (put_any log c.self.invariant.place c.self.invariant.same old entry c.args.parity.now c.args.spelled.now can c.ring_of-ring.result c.ring_of-ring.ensures v1 c.append.ensures.any_moment v2 c.fill.ensures.any_moment v3 (sync_steps _ _ _ _ c.sync.ensures.call) c.in_ok-append.ensures.written c.fill.ensures.contents c.in_ok-fill.ensures.written c.sync.ensures.call.same (settled_there _ v2 v3 c.in_ok-sync.ensures.call) v4 c.value_of-value.result c.value_of-value.ensures c.put.ensures.any_moment)
+    (put_any log c.self.invariant.place c.self.invariant.same old entry c.args.parity.now c.args.spelled.now can refl c.ring_of-ring.result c.ring_of-ring.ensures v1 c.append.ensures.any_moment v2 c.fill.ensures.any_moment v3 (sync_steps _ _ _ _ c.sync.ensures.call) c.in_ok-append.ensures.written c.fill.ensures.contents c.in_ok-fill.ensures.written c.sync.ensures.call.same (settled_there _ v2 v3 c.in_ok-sync.ensures.call) v4 c.value_of-value.result c.value_of-value.ensures c.put.ensures.any_moment)
+
+pub returns-clause-in_step : goal.returns-clause-in_step
+returns-clause-in_step g c =
+    let old = g.B.Bank.view c.args.bank.now in
+    let log : Log = record { g = c.self.inside.g; head = c.self.inside.head; cell = c.self.inside.cell; stage = c.self.inside.stage; index = c.self.inside.index } in
+    let entry : Entry = entry_for c.args.time c.args.block c.args.bytes.now in
+    let can = subst (λ (l : Log). CanCommit l old entry c.args.parity.now c.args.spelled.now) (sym c.self.view_is) c.requires.can in
+    next_in_step log.head entry (length c.args.spelled.now) log.stage c.fill.new.self _ log.index c.add.new.self can.in_step c.in_ok-fill.ensures.ok c.add.ensures

@@ -14,7 +14,7 @@ use Rattle.trap_array.proofs.log.Log.drain.Goals as goal
 pub drain-requires-clause-disks : goal.drain-requires-clause-disks
 drain-requires-clause-disks g c =
     let old = g.B.Bank.view c.args.bank.now in
-    let log : Log = record { g = c.self.inside.g; head = c.self.inside.head; cell = c.self.inside.cell; stage = c.self.inside.stage } in
+    let log : Log = record { g = c.self.inside.g; head = c.self.inside.head; cell = c.self.inside.cell; stage = c.self.inside.stage; index = c.self.inside.index } in
     let can = subst (λ (l : Log). CanDrain l old) (sym c.self.view_is) c.requires.can in
     subst (λ (k : Condition). MembersFit k.g k.lost k.rebuilt old) (sym c.new-raid.ensures) (fits_from_sizes log.g log.head.lost log.head.rebuilt old can.sizes.members)
 
@@ -22,7 +22,7 @@ pub returns-in_err-drain-clause-any_moment : goal.returns-in_err-drain-clause-an
 returns-in_err-drain-clause-any_moment g c =
     let old = g.B.Bank.view c.args.bank.now in
     let v1 = g.B.Bank.view c.drain.new.bank in
-    let log : Log = record { g = c.self.inside.g; head = c.self.inside.head; cell = c.self.inside.cell; stage = c.self.inside.stage } in
+    let log : Log = record { g = c.self.inside.g; head = c.self.inside.head; cell = c.self.inside.cell; stage = c.self.inside.stage; index = c.self.inside.index } in
     let can = subst (λ (l : Log). CanDrain l old) (sym c.self.view_is) c.requires.can in
     let P : Log → Type 0 = λ (l : Log). Moves old v1 (MayTurn (going l) old (λ s. s)) (MayTurn (going l) old (λ s. s)) in
     subst P c.self.view_is
@@ -32,7 +32,7 @@ pub put-requires-clause-room : goal.put-requires-clause-room
 put-requires-clause-room g c =
     let old = g.B.Bank.view c.args.bank.now in
     let v1 = g.B.Bank.view c.drain.new.bank in
-    let log : Log = record { g = c.self.inside.g; head = c.self.inside.head; cell = c.self.inside.cell; stage = c.self.inside.stage } in
+    let log : Log = record { g = c.self.inside.g; head = c.self.inside.head; cell = c.self.inside.cell; stage = c.self.inside.stage; index = c.self.inside.index } in
     let can = subst (λ (l : Log). CanDrain l old) (sym c.self.view_is) c.requires.can in
     cell_room log.g v1 log.cell.place c.self.invariant.place (c.drain.ensures.sizes 0 ∙ can.sizes.log)
 
@@ -40,7 +40,7 @@ pub put-requires-clause-stands : goal.put-requires-clause-stands
 put-requires-clause-stands g c =
     let old = g.B.Bank.view c.args.bank.now in
     let v1 = g.B.Bank.view c.drain.new.bank in
-    let log : Log = record { g = c.self.inside.g; head = c.self.inside.head; cell = c.self.inside.cell; stage = c.self.inside.stage } in
+    let log : Log = record { g = c.self.inside.g; head = c.self.inside.head; cell = c.self.inside.cell; stage = c.self.inside.stage; index = c.self.inside.index } in
     let can = subst (λ (l : Log). CanDrain l old) (sym c.self.view_is) c.requires.can in
     cell_still log c.self.invariant.place c.self.invariant.is_head can.in_step old c.new-raid.result c.new-raid.ensures v1 c.drain.ensures.any_moment can.stands
 
@@ -49,7 +49,7 @@ returns-in_err-put-clause-any_moment g c =
     let old = g.B.Bank.view c.args.bank.now in
     let v1 = g.B.Bank.view c.drain.new.bank in
     let v2 = g.B.Bank.view c.put.new.bank in
-    let log : Log = record { g = c.self.inside.g; head = c.self.inside.head; cell = c.self.inside.cell; stage = c.self.inside.stage } in
+    let log : Log = record { g = c.self.inside.g; head = c.self.inside.head; cell = c.self.inside.cell; stage = c.self.inside.stage; index = c.self.inside.index } in
     let can = subst (λ (l : Log). CanDrain l old) (sym c.self.view_is) c.requires.can in
     let P : Log → Type 0 = λ (l : Log). Moves old v2 (MayTurn (going l) old (λ s. s)) (MayTurn (going l) old (λ s. s)) in
     subst P c.self.view_is
@@ -60,9 +60,9 @@ returns-clause-ok g c =
     let old = g.B.Bank.view c.args.bank.now in
     let v1 = g.B.Bank.view c.drain.new.bank in
     let v2 = g.B.Bank.view c.put.new.bank in
-    let log : Log = record { g = c.self.inside.g; head = c.self.inside.head; cell = c.self.inside.cell; stage = c.self.inside.stage } in
+    let log : Log = record { g = c.self.inside.g; head = c.self.inside.head; cell = c.self.inside.cell; stage = c.self.inside.stage; index = c.self.inside.index } in
     let can = subst (λ (l : Log). CanDrain l old) (sym c.self.view_is) c.requires.can in
-    let P : Log → Type 0 = λ (l : Log). Moves old v2 (MayTurn (going l) old (λ s. s)) (HasTurned (going l) (going (record { g = log.g; head = drained_to log.head log.head.last; cell = c.put.new.self; stage = c.forget_to.new.self })) old (λ s. s)) in
+    let P : Log → Type 0 = λ (l : Log). Moves old v2 (MayTurn (going l) old (λ s. s)) (HasTurned (going l) (going (record { g = log.g; head = drained_to log.head log.head.last; cell = c.put.new.self; stage = c.forget_to.new.self; index = log.index })) old (λ s. s)) in
     subst P c.self.view_is
     (put_ok log c.self.invariant.place c.self.invariant.is_head can.in_step old c.new-raid.result c.new-raid.ensures v1 c.drain.ensures.any_moment c.in_ok-drain.ensures.ok v2 c.value_of-value.result c.value_of-value.ensures c.put.new.self c.forget_to.new.self c.forget_to.ensures.pending c.in_ok-put.ensures.ok)
 
@@ -71,7 +71,7 @@ returns-clause-stands g c =
     let old = g.B.Bank.view c.args.bank.now in
     let v1 = g.B.Bank.view c.drain.new.bank in
     let v2 = g.B.Bank.view c.put.new.bank in
-    let log : Log = record { g = c.self.inside.g; head = c.self.inside.head; cell = c.self.inside.cell; stage = c.self.inside.stage } in
+    let log : Log = record { g = c.self.inside.g; head = c.self.inside.head; cell = c.self.inside.cell; stage = c.self.inside.stage; index = c.self.inside.index } in
     let can = subst (λ (l : Log). CanDrain l old) (sym c.self.view_is) c.requires.can in
     λ w left. let from = c.in_ok-put.ensures.ok.now w left in from.by.disks.stands
 
@@ -80,7 +80,7 @@ returns-clause-any_moment g c =
     let old = g.B.Bank.view c.args.bank.now in
     let v1 = g.B.Bank.view c.drain.new.bank in
     let v2 = g.B.Bank.view c.put.new.bank in
-    let log : Log = record { g = c.self.inside.g; head = c.self.inside.head; cell = c.self.inside.cell; stage = c.self.inside.stage } in
+    let log : Log = record { g = c.self.inside.g; head = c.self.inside.head; cell = c.self.inside.cell; stage = c.self.inside.stage; index = c.self.inside.index } in
     let can = subst (λ (l : Log). CanDrain l old) (sym c.self.view_is) c.requires.can in
     let P : Log → Type 0 = λ (l : Log). Moves old v2 (MayTurn (going l) old (λ s. s)) (MayTurn (going l) old (λ s. s)) in
     subst P c.self.view_is

@@ -15,7 +15,7 @@ use Rattle.trap_array.proofs.log.Log.fetch.Goals as goal
 pub read_place-requires-clause-disks : goal.read_place-requires-clause-disks
 read_place-requires-clause-disks g c =
     let old = g.B.Bank.view c.args.bank.now in
-    let here : Log = record { g = c.self.inside.g; head = c.self.inside.head; cell = c.self.inside.cell; stage = c.self.inside.stage } in
+    let here : Log = record { g = c.self.inside.g; head = c.self.inside.head; cell = c.self.inside.cell; stage = c.self.inside.stage; index = c.self.inside.index } in
     let place = c.place_of-place.result in
     let sizes = subst (λ (l : Log). HasSizes l.g l.head.lost l.head.rebuilt old) (sym c.self.view_is) c.requires.sizes in
     let P : Condition → Type 0 = λ (k : Condition). PlaceFits k.g k.lost old place.row place.member in
@@ -25,7 +25,7 @@ read_place-requires-clause-disks g c =
 pub returns-clause-bytes : goal.returns-clause-bytes
 returns-clause-bytes g c told s stands =
     let old = g.B.Bank.view c.args.bank.now in
-    let log : Log = record { g = c.self.inside.g; head = c.self.inside.head; cell = c.self.inside.cell; stage = c.self.inside.stage } in
+    let log : Log = record { g = c.self.inside.g; head = c.self.inside.head; cell = c.self.inside.cell; stage = c.self.inside.stage; index = c.self.inside.index } in
     let here = c.args.self.now in
     let place = c.place_of-place.result in
     let P : Log → Type 0 = λ (l : Log). StandFor l.g l.head.lost l.stage.pending (member_place l.g old.now.disks) (image s) in

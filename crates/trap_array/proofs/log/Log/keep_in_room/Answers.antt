@@ -28,7 +28,7 @@ returns-then-is_full-clause-turns g c =
     let long : length (take size spelled) ≡ size = omega (arith, length-take size spelled, within) in
     full_turns c.args.self.now (g.B.Bank.view c.args.bank.now) (g.B.Bank.view c.plan.new.bank) c.args.time c.args.block size c.args.bytes.now c.plan.new.room.delta c.plan.new.room.parity (take size spelled)
     c.is_full.ensures.head c.requires.can c.plan.ensures.any_moment c.requires.free c.requires.later c.requires.not_worn c.ranges.time.fits
-    c.requires.block c.requires.bytes c.plan.ensures.room.parity long c.spell-size.ensures.short c.in_ok-plan.ensures.plan c.spell-size.ensures.spelled
+    c.requires.block c.requires.bytes c.plan.ensures.room.parity long c.spell-size.ensures.short c.spell-size.ensures.code c.in_ok-plan.ensures.plan c.spell-size.ensures.spelled
     (c.is_full.ensures.full.0 c.if-is_full.true)
 
 pub keep_planned-requires : goal.keep_planned-requires
@@ -49,7 +49,7 @@ keep_planned-requires g c =
           (subst P parity
           (can_commit here (g.B.Bank.view c.args.bank.now) mid c.args.time c.args.block size c.args.bytes.now c.plan.new.room.delta c.plan.new.room.parity (take size spelled)
           c.is_full.ensures.head c.requires.can c.plan.ensures.any_moment c.requires.free c.requires.later c.requires.not_worn c.ranges.time.fits
-          c.requires.block c.requires.bytes c.plan.ensures.room.parity long c.spell-size.ensures.short c.in_ok-plan.ensures.plan c.spell-size.ensures.spelled not_full));
+          c.requires.block c.requires.bytes c.plan.ensures.room.parity long c.spell-size.ensures.short c.spell-size.ensures.code c.in_ok-plan.ensures.plan c.spell-size.ensures.spelled not_full));
     }
 
 pub returns-clause-turns : goal.returns-clause-turns
@@ -62,5 +62,5 @@ returns-clause-turns g c =
     let not_full : IsFull here.g here.head size → ⊥ = search rules in
     kept_turns here (g.B.Bank.view c.args.bank.now) (g.B.Bank.view c.plan.new.bank) c.args.time c.args.block size c.args.bytes.now c.plan.new.room.delta c.plan.new.room.parity (take size spelled)
     c.is_full.ensures.head c.requires.can c.plan.ensures.any_moment c.requires.free c.requires.later c.requires.not_worn c.ranges.time.fits
-    c.requires.block c.requires.bytes c.plan.ensures.room.parity long c.spell-size.ensures.short c.in_ok-plan.ensures.plan c.spell-size.ensures.spelled not_full
+    c.requires.block c.requires.bytes c.plan.ensures.room.parity long c.spell-size.ensures.short c.spell-size.ensures.code c.in_ok-plan.ensures.plan c.spell-size.ensures.spelled not_full
     c.keep_planned.new.self c.keep_planned.result (g.B.Bank.view c.keep_planned.new.bank) c.keep_planned.ensures

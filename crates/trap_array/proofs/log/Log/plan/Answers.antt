@@ -24,7 +24,7 @@ write_plan-requires-clause-disks g c =
 pub returns-clause-plan : goal.returns-clause-plan
 returns-clause-plan g c told s stands =
     let old = g.B.Bank.view c.args.bank.now in
-    let log : Log = record { g = c.self.inside.g; head = c.self.inside.head; cell = c.self.inside.cell; stage = c.self.inside.stage } in
+    let log : Log = record { g = c.self.inside.g; head = c.self.inside.head; cell = c.self.inside.cell; stage = c.self.inside.stage; index = c.self.inside.index } in
     let here = c.args.self.now in
     let P : Log → Type 0 = λ (l : Log). StandFor l.g l.head.lost l.stage.pending (member_place l.g old.now.disks) (image s) in
     let K : Condition → Type 0 = λ (k : Condition). StandFor k.g k.lost log.stage.pending (member_place k.g old.now.disks) (image s) in

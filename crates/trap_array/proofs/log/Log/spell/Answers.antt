@@ -1,10 +1,11 @@
-use Rattle.std.proofs.Common.{rules, ◌≡◌, ℕ, ◌+◌, ◌≤◌, List, length, take, sym, ap, subst, ◌∙◌}
+use Rattle.std.proofs.Common.{rules, ◌≡◌, ℕ, ◌+◌, ◌≤◌, List, length, take, sym, ap, subst, ◌∙◌, arith, length-take}
 use Rattle.trap_block.specs.Xor.{xor}
 use Rattle.trap_model.specs.Records.{record_of}
 use Rattle.trap_model.specs.ZeroRun.{ZeroRun}
 use Rattle.trap_array.specs.NextHead.{entry_for}
 use Rattle.trap_array.proofs.Reading.{filled_whole}
 use Rattle.trap_array.proofs.Spelled.{record_spelled}
+use Rattle.trap_model.proofs.ZeroRuns.{ZeroRun-length}
 use Rattle.trap_array.proofs.log.Log.spell.Goals as goal
 
 pub returns-clause-spelled : goal.returns-clause-spelled
@@ -21,3 +22,12 @@ returns-clause-spelled c old bytes change =
     (subst (λ (code : List ℕ). ZeroRun c.as_slice.result.now (take plen code)) code c.code-plen.ensures.spelled) size in
     ap (λ (out : List ℕ). take c.spell.result out) (filled_whole c.spell.new.out c.room.inside.spelled.items c.room.inside.spelled.len long)
     ∙ spelled ∙ ap (λ (q : ℕ). record_of q old (entry_for c.args.time c.args.block bytes)) last
+
+pub returns-clause-code : goal.returns-clause-code
+returns-clause-code c =
+    let plen = c.code-plen.result in
+    let size : length c.as_slice.result.now ≡ c.args.self.now.g.block = search rules in
+    let least = c.args.self.now.g.within.block_least in
+    let coded = ZeroRun-length c.as_slice.result.now (take plen c.code-plen.new.out) (omega arith) c.code-plen.ensures.spelled in
+    let long = length-take plen c.code-plen.new.out in
+    (omega (arith, coded.0, long, c.code-plen.ensures.end, c.spell.ensures.end), omega (arith, coded.1, long, c.code-plen.ensures.end, c.spell.ensures.end))

@@ -1,5 +1,5 @@
 use Rattle.trap_array.proofs.MountReads.{reads_then, cause_before}
-use Rattle.trap_array.proofs.MountHistory.{exit, stage_refused, records_refused, log_read}
+use Rattle.trap_array.proofs.MountHistory.{exit, stage_refused, records_refused, log_read, index_before}
 use Rattle.trap_array.proofs.mount.history.find_log.Goals as goal
 
 pub returns-in_default-clause-reads : goal.returns-in_default-clause-reads
@@ -24,41 +24,49 @@ returns-in_err-stage-clause-cause g c =
     (reads_then (g.B.Bank.view c.args.bank.now) (g.B.Bank.view c.read_header.new.bank) (g.B.Bank.view c.find_head.new.bank) c.read_header.ensures.reads c.find_head.ensures.reads)
     c.in_err-stage.ensures.cause)
 
-pub returns-in_err-check_history-clause-reads : goal.returns-in_err-check_history-clause-reads
-returns-in_err-check_history-clause-reads g c =
-    reads_then (g.B.Bank.view c.args.bank.now) (g.B.Bank.view c.find_stage.new.bank) (g.B.Bank.view c.check_history.new.bank)
+pub returns-in_err-index-clause-reads : goal.returns-in_err-index-clause-reads
+returns-in_err-index-clause-reads g c =
+    reads_then (g.B.Bank.view c.args.bank.now) (g.B.Bank.view c.find_stage.new.bank) (g.B.Bank.view c.read_history.new.bank)
     (reads_then (g.B.Bank.view c.args.bank.now) (g.B.Bank.view c.find_head.new.bank) (g.B.Bank.view c.find_stage.new.bank)
     (reads_then (g.B.Bank.view c.args.bank.now) (g.B.Bank.view c.read_header.new.bank) (g.B.Bank.view c.find_head.new.bank) c.read_header.ensures.reads c.find_head.ensures.reads)
     c.find_stage.ensures.reads)
-    c.check_history.ensures.reads
+    c.read_history.ensures.reads
 
-pub returns-in_err-check_history-clause-refused : goal.returns-in_err-check_history-clause-refused
-returns-in_err-check_history-clause-refused g c =
-    exit _ c.from_residual-in_err-check_history.result c.in_err-check_history.field-0.0 c.from_residual-in_err-check_history.ensures.1
+pub returns-in_err-index-clause-refused : goal.returns-in_err-index-clause-refused
+returns-in_err-index-clause-refused g c =
+    exit _ c.from_residual-in_err-index.result c.in_err-index.field-0.0 c.from_residual-in_err-index.ensures.1
     (records_refused c.in_ok-g.g c.in_ok-head.head c.in_ok-head.cell c.in_ok-stage.stage (g.B.Bank.view c.args.bank.now) (g.B.Bank.view c.read_header.new.bank) (g.B.Bank.view c.find_head.new.bank)
-    (g.B.Bank.view c.find_stage.new.bank) (g.B.Bank.view c.check_history.new.bank)
-    c.read_header.ensures.reads c.find_head.ensures.reads c.find_stage.ensures.reads c.check_history.ensures.reads c.in_ok-g.ensures.ok c.in_ok-head.ensures.ok c.in_ok-stage.ensures.ok _ c.in_err-check_history.ensures.refused)
+    (g.B.Bank.view c.find_stage.new.bank) (g.B.Bank.view c.read_history.new.bank)
+    c.read_header.ensures.reads c.find_head.ensures.reads c.find_stage.ensures.reads c.read_history.ensures.reads c.in_ok-g.ensures.ok c.in_ok-head.ensures.ok c.in_ok-stage.ensures.ok _ c.in_err-index.ensures.refused)
 
-pub returns-in_err-check_history-clause-cause : goal.returns-in_err-check_history-clause-cause
-returns-in_err-check_history-clause-cause g c =
-    exit _ c.from_residual-in_err-check_history.result c.in_err-check_history.field-0.0 c.from_residual-in_err-check_history.ensures.1
-    (cause_before (g.B.Bank.view c.args.bank.now) (g.B.Bank.view c.find_stage.new.bank) (g.B.Bank.view c.check_history.new.bank) _
+pub returns-in_err-index-clause-cause : goal.returns-in_err-index-clause-cause
+returns-in_err-index-clause-cause g c =
+    exit _ c.from_residual-in_err-index.result c.in_err-index.field-0.0 c.from_residual-in_err-index.ensures.1
+    (cause_before (g.B.Bank.view c.args.bank.now) (g.B.Bank.view c.find_stage.new.bank) (g.B.Bank.view c.read_history.new.bank) _
     (reads_then (g.B.Bank.view c.args.bank.now) (g.B.Bank.view c.find_head.new.bank) (g.B.Bank.view c.find_stage.new.bank)
     (reads_then (g.B.Bank.view c.args.bank.now) (g.B.Bank.view c.read_header.new.bank) (g.B.Bank.view c.find_head.new.bank) c.read_header.ensures.reads c.find_head.ensures.reads)
     c.find_stage.ensures.reads)
-    c.in_err-check_history.ensures.cause)
+    c.in_err-index.ensures.cause)
 
 pub returns-clause-ok : goal.returns-clause-ok
 returns-clause-ok g c =
     log_read c.in_ok-g.g c.in_ok-head.head c.in_ok-head.cell c.in_ok-stage.stage (g.B.Bank.view c.args.bank.now) (g.B.Bank.view c.read_header.new.bank) (g.B.Bank.view c.find_head.new.bank)
-    (g.B.Bank.view c.find_stage.new.bank) (g.B.Bank.view c.check_history.new.bank)
-    c.read_header.ensures.reads c.find_head.ensures.reads c.find_stage.ensures.reads c.check_history.ensures.reads c.in_ok-g.ensures.ok c.in_ok-head.ensures.ok c.in_ok-stage.ensures.ok
-    c.in_ok-check_history.ensures.ok
+    (g.B.Bank.view c.find_stage.new.bank) (g.B.Bank.view c.read_history.new.bank)
+    c.read_header.ensures.reads c.find_head.ensures.reads c.find_stage.ensures.reads c.read_history.ensures.reads c.in_ok-g.ensures.ok c.in_ok-head.ensures.ok c.in_ok-stage.ensures.ok
+    c.in_ok-index.ensures.ok
 
 pub returns-clause-reads : goal.returns-clause-reads
 returns-clause-reads g c =
-    reads_then (g.B.Bank.view c.args.bank.now) (g.B.Bank.view c.find_stage.new.bank) (g.B.Bank.view c.check_history.new.bank)
+    reads_then (g.B.Bank.view c.args.bank.now) (g.B.Bank.view c.find_stage.new.bank) (g.B.Bank.view c.read_history.new.bank)
     (reads_then (g.B.Bank.view c.args.bank.now) (g.B.Bank.view c.find_head.new.bank) (g.B.Bank.view c.find_stage.new.bank)
     (reads_then (g.B.Bank.view c.args.bank.now) (g.B.Bank.view c.read_header.new.bank) (g.B.Bank.view c.find_head.new.bank) c.read_header.ensures.reads c.find_head.ensures.reads)
     c.find_stage.ensures.reads)
-    c.check_history.ensures.reads
+    c.read_history.ensures.reads
+
+pub returns-clause-index : goal.returns-clause-index
+returns-clause-index g c =
+    index_before c.in_ok-g.g c.in_ok-head.head c.in_ok-index.index (g.B.Bank.view c.args.bank.now) (g.B.Bank.view c.find_stage.new.bank)
+    (reads_then (g.B.Bank.view c.args.bank.now) (g.B.Bank.view c.find_head.new.bank) (g.B.Bank.view c.find_stage.new.bank)
+    (reads_then (g.B.Bank.view c.args.bank.now) (g.B.Bank.view c.read_header.new.bank) (g.B.Bank.view c.find_head.new.bank) c.read_header.ensures.reads c.find_head.ensures.reads)
+    c.find_stage.ensures.reads)
+    c.in_ok-index.ensures.index

@@ -1,6 +1,6 @@
 use Rattle.std.proofs.Common.{drop, refl, subst}
 use Rattle.trap_record.specs.Reading.{IsWhole}
-use Rattle.trap_scan.specs.Window.{IsFront}
+use Rattle.trap_scan.specs.Window.{IsFront, HasRanges}
 use Rattle.trap_scan.proofs.Taking.{is_not, loaded_behind, ahead_behind, comes_next, none_next}
 use Rattle.trap_scan.proofs.scan.Scan.next.Goals as goal
 
@@ -30,4 +30,14 @@ returns-then-not-may_follow-clause-damaged g c = λ told at is.
           none_next c.args.ring.now c.args.self.now _ c.in-Some.front bytes disks (record { expected = refl; seq = refl; time = refl; place = c.front.ensures.place })
           (λ may. is_not c.may_follow.result c.if-not-may_follow.true (c.may_follow.ensures.1 may))
           (subst (λ f. IsFront size bytes f) c.in-Some.is (c.in_ok-front.ensures.found told bytes ahead)) ahead;
+    }
+
+pub returns-clause-checked : goal.returns-clause-checked
+returns-clause-checked g c =
+    let may = c.may_follow.ensures.0 c.if-not-may_follow.false in
+    record {
+      ranges = subst (λ f. HasRanges c.args.self.now.expected.size f) c.in-Some.is c.in_ok-front.ensures.ranges;
+      block = may.block;
+      later = may.later;
+      last = λ none. (may.ends none).time;
     }

@@ -1,0 +1,215 @@
+-- The records of a state's entries, as they are read again.
+use Rattle.std.proofs.Common.{◌≡◌, ℕ, ◌+◌, ◌-◌, ◌^◌, ◌<◌, ◌≤◌, List, [], ◌++◌, length, take, drop, refl, ap, sym, ◌∙◌, subst, arith, length-take, take_all, take_at, append-nil, Bool, true, false, ◌&&◌, eqb, IsTrue}
+use Rattle.std.specs.Bool.{beq}
+use Rattle.std.proofs.lemmas.Bool.{eqb-true, eq-eqb, false≢true}
+use Rattle.trap_bank.specs.Disks.{Disks}
+use Rattle.trap_block.specs.Xor.{xor}
+use Rattle.trap_block.proofs.XorLemmas.{length-xor}
+use Rattle.trap_index.specs.declared.item.Item.{Item}
+use Rattle.trap_index.specs.Describes.{Describes, block_before}
+use Rattle.trap_index.specs.Indexed.{Indexed, last_seq, rec_at, rec_len, item_at}
+use Rattle.trap_index.specs.Keeping as keeping
+use Rattle.trap_index.proofs.Describing.{last_told, rec_told, item_told, record_told}
+use Rattle.trap_model.specs.declared.history.Entry.{Entry}
+use Rattle.trap_model.specs.declared.history.State.{State}
+use Rattle.trap_model.specs.declared.log_record.LogRec.{LogRec}
+use Rattle.trap_model.specs.declared.numbers.Geometry.{Geometry}
+use Rattle.trap_model.specs.Limits.{greatest_record}
+use Rattle.trap_model.specs.LogRecord.{LogRecord}
+use Rattle.trap_model.specs.Records.{rec_of, record_of, records, entry_at, change_code, snapshot_code}
+use Rattle.trap_model.specs.State.{last, IsEntry, IsValid}
+use Rattle.trap_model.specs.ZeroRun.{ZeroRun}
+use Rattle.trap_model.proofs.CodeOf.{code_of_spells}
+use Rattle.trap_model.proofs.Further.{image_at_is_image, entry_at_is_entry}
+use Rattle.trap_model.proofs.LogRecords.{same_rec, LogRecord-apart}
+use Rattle.trap_model.proofs.Records.{record_is_log_record, record_short}
+use Rattle.trap_model.proofs.ZeroRuns.{ZeroRun-apart}
+use Rattle.trap_past.specs.Undo.{parity_at}
+use Rattle.trap_record.specs.declared.reader.ReadRec.TheVariants.{Whole, Short, Bad}
+use Rattle.trap_record.specs.Reading.{record_len, parity_of, snapshot_of, IsWhole, Reads}
+use Rattle.trap_record.proofs.Getting.{Reads-one, written-whole}
+use Rattle.trap_ring.specs.Ring.{RingPlace, RingHas}
+use Rattle.trap_scan.proofs.Fronts.{ring_front}
+use Rattle.trap_scan.proofs.Taking.{ring_behind}
+use Rattle.trap_array.specs.Calls.{StandsFor, going}
+use Rattle.trap_array.specs.Holding.{log_ring}
+use Rattle.trap_array.specs.Instants.{HasEntry}
+use Rattle.trap_array.specs.Log.{Log}
+
+-- a record that was found is the one of a header where the headers are equal
+pub found_same : (size : ℕ) (rec found : LogRec) (used : ℕ) (bytes : List ℕ) → length bytes ≡ record_len rec → IsWhole size found used bytes → found ≡ rec → IsWhole size rec (length bytes) bytes
+found_same size rec found used bytes long whole same =
+    let used_is : used ≡ length bytes = whole.len ∙ ap record_len same ∙ sym long in
+    subst (λ (n : ℕ). IsWhole size rec n bytes) used_is (subst (λ (r : LogRec). IsWhole size r used bytes) same whole)
+
+-- headers whose fields are equal are equal
+pub rec_equal : (a b : LogRec) → IsTrue (beq a.snap b.snap && (eqb a.seq b.seq && (eqb a.time b.time && (eqb a.block b.block && (eqb a.plen b.plen && eqb a.slen b.slen))))) → a ≡ b
+rec_equal a b t =
+    let one = and_both (beq a.snap b.snap) _ t in
+    let two = and_both (eqb a.seq b.seq) _ one.1 in
+    let three = and_both (eqb a.time b.time) _ two.1 in
+    let four = and_both (eqb a.block b.block) _ three.1 in
+    let five = and_both (eqb a.plen b.plen) _ four.1 in
+    same_rec a b (beq_same a.snap b.snap one.0) (eqb-true a.seq b.seq two.0) (eqb-true a.time b.time three.0) (eqb-true a.block b.block four.0) (eqb-true a.plen b.plen five.0) (eqb-true a.slen b.slen five.1)
+  where
+    and_both : (x y : Bool) → IsTrue (x && y) → IsTrue x × IsTrue y
+    and_both true y t = (refl, t)
+    and_both false y t = absurd (false≢true t)
+
+    beq_same : (x y : Bool) → IsTrue (beq x y) → x ≡ y
+    beq_same true true t = refl
+    beq_same false false t = refl
+    beq_same true false t = absurd (false≢true t)
+    beq_same false true t = absurd (false≢true t)
+
+rec_refl : (a : LogRec) → IsTrue (beq a.snap a.snap && (eqb a.seq a.seq && (eqb a.time a.time && (eqb a.block a.block && (eqb a.plen a.plen && eqb a.slen a.slen)))))
+rec_refl a =
+    both _ _ (beq_refl a.snap) (both _ _ (eq-eqb a.seq a.seq refl) (both _ _ (eq-eqb a.time a.time refl) (both _ _ (eq-eqb a.block a.block refl) (both _ _ (eq-eqb a.plen a.plen refl) (eq-eqb a.slen a.slen refl)))))
+  where
+    beq_refl : (x : Bool) → beq x x ≡ true
+    beq_refl true = refl
+    beq_refl false = refl
+
+    both : (x y : Bool) → IsTrue x → IsTrue y → IsTrue (x && y)
+    both true y one two = two
+    both false y one two = absurd (false≢true one)
+
+pub equal_rec : (a b : LogRec) → a ≡ b → IsTrue (beq a.snap b.snap && (eqb a.seq b.seq && (eqb a.time b.time && (eqb a.block b.block && (eqb a.plen b.plen && eqb a.slen b.slen)))))
+equal_rec a b same = subst (λ (r : LogRec). IsTrue (beq a.snap r.snap && (eqb a.seq r.seq && (eqb a.time r.time && (eqb a.block r.block && (eqb a.plen r.plen && eqb a.slen r.slen)))))) same (rec_refl a)
+
+-- and where one is there, it is found
+pub found_one : (size : ℕ) (rec found : LogRec) (used : ℕ) (bytes : List ℕ) → size < 2 ^ 15 → Reads size bytes (Whole found used) → IsWhole size rec (length bytes) bytes → found ≡ rec
+found_one size rec found used bytes small reads whole =
+    let same = Reads-one size bytes (Whole found used) (Whole rec (length bytes)) small reads whole in
+    cc
+
+pub found_short : (size : ℕ) (rec : LogRec) (bytes : List ℕ) → size < 2 ^ 15 → Reads size bytes Short → IsWhole size rec (length bytes) bytes → ⊥
+found_short size rec bytes small reads whole =
+    let same = Reads-one size bytes Short (Whole rec (length bytes)) small reads whole in
+    cc
+
+pub found_bad : (size at : ℕ) (rec : LogRec) (bytes : List ℕ) → size < 2 ^ 15 → Reads size bytes (Bad at) → IsWhole size rec (length bytes) bytes → ⊥
+found_bad size at rec bytes small reads whole =
+    let same = Reads-one size bytes (Bad at) (Whole rec (length bytes)) small reads whole in
+    cc
+
+module _ (g : Geometry) (i : Indexed) (s : State) (q : ℕ) (valid : IsValid g s) (describes : Describes i s) (low : i.first < q) (high : q ≤ last_seq i) (time : (item_at i q).time < 2 ^ 64) where
+  entry : Entry
+  entry = entry_at s q
+
+  old : List ℕ
+  old = block_before s q
+
+  -- the header that its item tells
+  header_told : LogRec
+  header_told = keeping.rec_of q (item_at i q)
+
+  low_in : s.first < q
+  low_in = let first = describes.first in omega arith
+
+  high_in : q ≤ last s
+  high_in = let ends = last_told i s describes in omega arith
+
+  is_entry : IsEntry g (entry_at s q)
+  is_entry = entry_at_is_entry g s q valid low_in high_in
+
+  long : length (block_before s q) ≡ g.block
+  long = (image_at_is_image g s (q - 1) valid).sized (entry_at s q).block is_entry.block
+
+  told_is : keeping.rec_of q (item_at i q) ≡ rec_of q (block_before s q) (entry_at s q)
+  told_is =
+      let told = item_told i s q describes low_in high_in in
+      same_rec (keeping.rec_of q (item_at i q)) (rec_of q (block_before s q) (entry_at s q)) told.snap refl told.time told.block told.plen told.slen
+
+  is_record : LogRecord g.block (keeping.rec_of q (item_at i q)) (change_code (block_before s q) (entry_at s q)) (snapshot_code (entry_at s q)) (record_of q (block_before s q) (entry_at s q))
+  is_record =
+      let told = item_told i s q describes low_in high_in in
+      let same : (item_at i q).time ≡ (entry_at s q).time = told.time in
+      let below = low_in in
+      let most = valid.last_most in
+      let within = high_in in
+      subst (λ (r : LogRec). LogRecord g.block r (change_code (block_before s q) (entry_at s q)) (snapshot_code (entry_at s q)) (record_of q (block_before s q) (entry_at s q))) (sym told_is)
+      (record_is_log_record g q (block_before s q) (entry_at s q) is_entry long (omega arith) (omega arith) (omega arith))
+
+  record_long : length (record_of q (block_before s q) (entry_at s q)) ≡ record_len (keeping.rec_of q (item_at i q))
+  record_long =
+      let whole = written-whole g.block (keeping.rec_of q (item_at i q)) (change_code (block_before s q) (entry_at s q)) (snapshot_code (entry_at s q)) (record_of q (block_before s q) (entry_at s q)) [] is_record in
+      whole.len
+
+  -- its record is no longer than the greatest one
+  pub told_short : record_len (keeping.rec_of q (item_at i q)) ≤ greatest_record g.block
+  told_short =
+      let short = record_short g q (block_before s q) (entry_at s q) is_entry long in
+      let most = short.1 in
+      let same = record_long in
+      omega arith
+
+  -- what stands at its place in the ring is its record
+  bytes_are : (r : RingPlace) (bytes : List ℕ) (disks : Disks) → RingHas r i.first_off (records s) disks → RingHas r (item_at i q).off bytes disks → length bytes ≡ record_len (keeping.rec_of q (item_at i q)) → bytes ≡ record_of q (block_before s q) (entry_at s q)
+  bytes_are r bytes disks ring has size =
+      let told = item_told i s q describes low_in high_in in
+      let off = told.off in
+      let at : i.first_off + ((item_at i q).off - i.first_off) ≡ (item_at i q).off = omega arith in
+      let rest = drop ((item_at i q).off - i.first_off) (records s) in
+      let behind : RingHas r (item_at i q).off rest disks = subst (λ (n : ℕ). RingHas r n rest disks) at (ring_behind r i.first_off ((item_at i q).off - i.first_off) (records s) disks ring) in
+      let there : take (rec_len (rec_at i q)) rest ≡ record_of q (block_before s q) (entry_at s q) = record_told i s q describes low_in high_in in
+      let len : rec_len (rec_at i q) ≡ record_len (keeping.rec_of q (item_at i q)) = ap rec_len (rec_told i s q describes low_in high_in) ∙ ap rec_len (sym told_is) in
+      let cut = length-take (rec_len (rec_at i q)) rest in
+      let full : length (take (rec_len (rec_at i q)) rest) ≡ record_len (keeping.rec_of q (item_at i q)) = ap (λ (l : List ℕ). length l) there ∙ record_long in
+      let within : length bytes ≤ length rest = omega arith in
+      let front = ring_front r (item_at i q).off bytes rest disks has behind within in
+      let same : rec_len (rec_at i q) ≡ length bytes = len ∙ sym size in
+      sym (take_at bytes (drop (length bytes) rest) (length bytes) refl)
+      ∙ ap (λ (l : List ℕ). take (length bytes) l) (sym front)
+      ∙ ap (λ (n : ℕ). take n rest) (sym same)
+      ∙ there
+
+  pub told_whole : (r : RingPlace) (bytes : List ℕ) (disks : Disks) → RingHas r i.first_off (records s) disks → RingHas r (item_at i q).off bytes disks → length bytes ≡ record_len (keeping.rec_of q (item_at i q)) → IsWhole g.block (keeping.rec_of q (item_at i q)) (length bytes) bytes
+  told_whole r bytes disks ring has size =
+      let is = bytes_are r bytes disks ring has size in
+      let whole = written-whole g.block (keeping.rec_of q (item_at i q)) (change_code (block_before s q) (entry_at s q)) (snapshot_code (entry_at s q)) (record_of q (block_before s q) (entry_at s q)) [] is_record in
+      let P : List ℕ → Type 0 = λ (l : List ℕ). IsWhole g.block (keeping.rec_of q (item_at i q)) (length l) l in
+      subst P (sym is)
+      (subst (λ (l : List ℕ). IsWhole g.block (keeping.rec_of q (item_at i q)) (length (record_of q (block_before s q) (entry_at s q))) l) (append-nil (record_of q (block_before s q) (entry_at s q))) whole)
+
+  -- and its parity is the entry's
+  pub told_parity : (r : RingPlace) (bytes into : List ℕ) (disks : Disks) → RingHas r i.first_off (records s) disks → RingHas r (item_at i q).off bytes disks → length bytes ≡ record_len (keeping.rec_of q (item_at i q)) → length into ≡ g.block → ZeroRun into (parity_of (keeping.rec_of q (item_at i q)) bytes) → into ≡ parity_at s q
+  told_parity r bytes into disks ring has size block spells =
+      let is = bytes_are r bytes disks ring has size in
+      let whole = told_whole r bytes disks ring has size in
+      let small : g.block < 2 ^ 15 = omega (arith, g.within.block_most) in
+      let all : take (length bytes) bytes ≡ bytes = take_all (length bytes) bytes (omega arith) in
+      let apart = LogRecord-apart g.block (keeping.rec_of q (item_at i q)) (keeping.rec_of q (item_at i q)) (parity_of (keeping.rec_of q (item_at i q)) bytes) (change_code (block_before s q) (entry_at s q)) (snapshot_of (keeping.rec_of q (item_at i q)) bytes) (snapshot_code (entry_at s q)) (take (length bytes) bytes) (record_of q (block_before s q) (entry_at s q)) [] [] small whole.is is_record (ap (λ (l : List ℕ). l ++ []) (all ∙ is)) in
+      let change : length (xor (block_before s q) (entry_at s q).bytes) ≡ g.block = length-xor (block_before s q) (entry_at s q).bytes (is_entry.size ∙ sym long) ∙ long in
+      (ZeroRun-apart into (xor (block_before s q) (entry_at s q).bytes) (parity_of (keeping.rec_of q (item_at i q)) bytes) (change_code (block_before s q) (entry_at s q)) [] [] (block ∙ sym change) (omega arith) spells (code_of_spells (xor (block_before s q) (entry_at s q).bytes)) (ap (λ (l : List ℕ). l ++ []) apart.1)).0
+
+-- the same, of the log's array and an item that was taken from its index
+module _ (log : Log) (s : State) (disks : Disks) (q : ℕ) (item : Item) (stands : StandsFor (going log) s disks) (has : HasEntry log.index q) (is : item ≡ item_at log.index q) (time : item.time < 2 ^ 64) where
+  time_of : (item_at log.index q).time < 2 ^ 64
+  time_of = subst (λ (x : Item). x.time < 2 ^ 64) is time
+
+  pub not_short : 26 + item.plen + item.slen ≤ greatest_record log.g.block
+  not_short = subst (λ (x : Item). 26 + x.plen + x.slen ≤ greatest_record log.g.block) (sym is)
+      (told_short log.g log.index s q stands.by.fits.valid stands.index has.low has.high time_of)
+
+  module _ (rec : LogRec) (bytes : List ℕ) (offset : log.index.first_off ≡ log.head.first_off) (there : RingHas (log_ring log.g) item.off bytes disks) (long : length bytes ≡ 26 + item.plen + item.slen) (header : rec ≡ keeping.rec_of q item) where
+    ring_there : RingHas (log_ring log.g) log.index.first_off (records s) disks
+    ring_there = subst (λ (n : ℕ). RingHas (log_ring log.g) n (records s) disks) (sym offset) stands.by.fits.ring
+
+    bytes_there : RingHas (log_ring log.g) (item_at log.index q).off bytes disks
+    bytes_there = subst (λ (x : Item). RingHas (log_ring log.g) x.off bytes disks) is there
+
+    long_is : length bytes ≡ record_len (keeping.rec_of q (item_at log.index q))
+    long_is = subst (λ (x : Item). length bytes ≡ 26 + x.plen + x.slen) is long
+
+    header_is : keeping.rec_of q (item_at log.index q) ≡ rec
+    header_is = ap (keeping.rec_of q) (sym is) ∙ sym header
+
+    pub is_whole : IsWhole log.g.block rec (length bytes) bytes
+    is_whole = subst (λ (r : LogRec). IsWhole log.g.block r (length bytes) bytes) header_is
+        (told_whole log.g log.index s q stands.by.fits.valid stands.index has.low has.high time_of (log_ring log.g) bytes disks ring_there bytes_there long_is)
+
+    pub is_parity : (into : List ℕ) → length into ≡ log.g.block → ZeroRun into (parity_of rec bytes) → into ≡ parity_at s q
+    is_parity into block spells =
+        told_parity log.g log.index s q stands.by.fits.valid stands.index has.low has.high time_of (log_ring log.g) bytes into disks ring_there bytes_there long_is block
+        (subst (λ (r : LogRec). ZeroRun into (parity_of r bytes)) (sym header_is) spells)

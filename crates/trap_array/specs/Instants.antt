@@ -1,0 +1,53 @@
+-- What a read of an earlier instant needs below its contract: whether a number or a time is refused, and how it fails.
+use Rattle.std.specs.Prelude.{◌≢◌, ℕ, ◌<◌, ◌≤◌, Option, Some, None, nat_lt, if◌then◌else◌}
+use Rattle.trap_bank.specs.Disks.{View}
+use Rattle.trap_bank.specs.Faults.{Rose}
+use Rattle.trap_index.specs.Indexed.{Indexed, last_seq}
+use Rattle.trap_model.specs.declared.request.Refusal.{Refusal}
+use Rattle.trap_model.specs.declared.request.Refusal.TheVariants.{NoBlock, NotKept, Ahead}
+use Rattle.trap_array.specs.Calls.{Mounted, HasSizes, MemberFails}
+use Rattle.trap_array.specs.Log.{Log, AreInStep}
+use Rattle.trap_array.specs.declared.fault.Denied.{Denied}
+use Rattle.trap_array.specs.declared.fault.Denied.TheVariants.{Refused, LogFault, MemberFault, Damaged, Stopped}
+
+-- why a number is refused, by the index of what is retained
+abbrev pub number_refused : Indexed → ℕ → Option Refusal
+number_refused i seq =
+    if nat_lt seq i.first then Some (NotKept i.first)
+    else if nat_lt (last_seq i) seq then Some (Ahead (last_seq i))
+    else None
+
+-- why a time is refused, likewise
+abbrev pub time_refused : Indexed → ℕ → Option Refusal
+time_refused i time = if nat_lt time i.base_time then Some (NotKept i.base_time) else None
+
+-- the disks have their sizes, and what the array knows goes with its head
+pub record CanLookBack (log : Log) (v : View) : Type 0 where
+  pub in_step : AreInStep log.head log.stage log.index
+  pub sizes : HasSizes log.g log.head.lost log.head.rebuilt v
+
+-- the record of the entry with this number is retained
+pub record HasEntry (i : Indexed) (seq : ℕ) : Type 0 where
+  pub low : i.first < seq
+  pub high : seq ≤ last_seq i
+
+-- an instant that is retained
+pub record HasInstant (i : Indexed) (seq : ℕ) : Type 0 where
+  pub low : i.first ≤ seq
+  pub high : seq ≤ last_seq i
+
+-- A disk failed, and its count of faults rose, or a record isn't the one that was there.
+abbrev pub FailsLooking : Mounted → View → View → Denied → Type 0
+FailsLooking a old new (Refused why) = ⊥
+FailsLooking a old new LogFault = Rose (old.faults 0) (new.faults 0)
+FailsLooking a old new (MemberFault first second) = MemberFails a first second old new
+FailsLooking a old new (Damaged offset) = Unit {0}
+FailsLooking a old new Stopped = ⊥
+
+-- the same, or an instant of a block that is there is refused
+abbrev pub DeniesInstant : Mounted → View → View → Denied → Type 0
+DeniesInstant a old new (Refused why) = why ≢ NoBlock
+DeniesInstant a old new LogFault = Rose (old.faults 0) (new.faults 0)
+DeniesInstant a old new (MemberFault first second) = MemberFails a first second old new
+DeniesInstant a old new (Damaged offset) = Unit {0}
+DeniesInstant a old new Stopped = ⊥

@@ -1,0 +1,215 @@
+//! Reads of earlier instants.
+
+ghost use Rattle.std.specs.Prelude.{◌≡◌, ◌↔◌, ◌≤◌, ◌<◌, ℕ, ◌+◌, length, IsTrue, IsErrOf, IfErr, true, ◌||◌};
+ghost use Rattle.trap_bank.specs.Faults.{Rose};
+ghost use Rattle.trap_bank.specs.Steps.{Moves, Same, Always};
+ghost use Rattle.trap_model.specs.ArrayStep.{step};
+ghost use Rattle.trap_model.specs.Image.{volume};
+ghost use Rattle.trap_model.specs.State.{image_at, image_by};
+ghost use Rattle.trap_model.specs.declared.history.State.{State};
+ghost use Rattle.trap_model.specs.declared.request.Request.TheVariants as request;
+ghost use Rattle.trap_model.specs.declared.request.Refusal.TheVariants as refusal;
+ghost use Rattle.trap_index.specs.Describes.{Describes};
+ghost use Rattle.trap_index.specs.Indexed.{IsLastBy};
+ghost use Rattle.trap_raid.specs.Reads.{OnlyReads};
+ghost use Rattle.trap_array.specs.Calls.{IsReady, StandsFor, AtReplies, MemberFails, is_fault, going};
+ghost use Rattle.trap_array.specs.Instants.{CanLookBack, DeniesInstant, number_refused, time_refused};
+ghost use Rattle.trap_array.specs.Log.{AreFor};
+ghost use Rattle.trap_array.specs.declared.fault.Denied.TheVariants as Denied;
+
+use crate::buffers::Buffers;
+use crate::log::Log;
+use crate::planning::volume_of;
+use crate::{Array, Denied};
+use trap_bank::Bank;
+use trap_model::Refusal;
+
+impl Array {
+    /// Reads the contents of a block after the entry with number `seq` into `into`, which has as many bytes as a
+    /// block. After a refusal or a fault `into` holds any bytes.
+    pub fn at_seq<B: Bank>(
+        &mut self,
+        bank: &mut B,
+        block: u64,
+        seq: u64,
+        into: &mut [u8],
+    ) -> Result<(), Denied>
+        requires size { length into.old ≡ self.old.g.block }
+        requires ready { IsReady self.old (B.view bank.old) }
+        ensures reply { IsTrue (B.view bank.old).tells → (s : State) → Always (B.view bank.old) (StandsFor self.old s)
+            → AtReplies result into.new ((step self.old.g).reply s (request.At seq block)) }
+        ensures ready { IsReady self.new (B.view bank.new) }
+        ensures same { self.new ≡ record self.old { is_stopped = self.old.is_stopped || is_fault result } }
+        ensures contents { IsTrue (B.view bank.old).tells → (B.view bank.new).now ≡ (B.view bank.old).now }
+        ensures sizes { (e : ℕ) → (B.view bank.new).sizes e ≡ (B.view bank.old).sizes e }
+
+        // A block that isn't there is refused first. Then a stopped array does nothing, and a fault stops the array.
+        ensures no_block { IsErrOf result (Denied.Refused refusal.NoBlock) ↔ (volume self.old.g ≤ block) }
+        ensures stopped { IsErrOf result Denied.Stopped ↔ ((block < volume self.old.g) × (self.old.is_stopped ≡ true)) }
+        ensures log { IsErrOf result Denied.LogFault → Rose ((B.view bank.old).faults 0) ((B.view bank.new).faults 0) }
+        ensures member { (first second : ℕ) → IsErrOf result (Denied.MemberFault first second)
+            → MemberFails self.old first second (B.view bank.old) (B.view bank.new) }
+
+        // A record that is read again is damaged only where the array stands for no state.
+        ensures damaged { (offset : ℕ) → IsErrOf result (Denied.Damaged offset) → IsTrue (B.view bank.old).tells
+            → (s : State) → Always (B.view bank.old) (StandsFor self.old s) → ⊥ }
+
+        // Stopped at any moment, the disks are as they were.
+        ensures any_moment { Moves (B.view bank.old) (B.view bank.new) Same Same }
+    {
+        if block >= volume_of(&self.log.g) {
+            return Err(Denied::Refused(Refusal::NoBlock));
+        }
+        if self.is_stopped {
+            return Err(Denied::Stopped);
+        }
+        let answer = self
+            .log
+            .read_at(bank, &mut self.buffers, block as u32, seq, into);
+        // A fault stops the array, and a damaged record doesn't.
+        self.is_stopped = has_failed(&answer);
+        answer
+    }
+
+    /// Reads the contents of a block after all entries with a time of at most `time`, likewise.
+    pub fn at_time<B: Bank>(
+        &mut self,
+        bank: &mut B,
+        block: u64,
+        time: u64,
+        into: &mut [u8],
+    ) -> Result<(), Denied>
+        requires size { length into.old ≡ self.old.g.block }
+        requires ready { IsReady self.old (B.view bank.old) }
+        ensures reply { IsTrue (B.view bank.old).tells → (s : State) → Always (B.view bank.old) (StandsFor self.old s)
+            → AtReplies result into.new ((step self.old.g).reply s (request.By time block)) }
+        ensures ready { IsReady self.new (B.view bank.new) }
+        ensures same { self.new ≡ record self.old { is_stopped = self.old.is_stopped || is_fault result } }
+        ensures contents { IsTrue (B.view bank.old).tells → (B.view bank.new).now ≡ (B.view bank.old).now }
+        ensures sizes { (e : ℕ) → (B.view bank.new).sizes e ≡ (B.view bank.old).sizes e }
+        ensures no_block { IsErrOf result (Denied.Refused refusal.NoBlock) ↔ (volume self.old.g ≤ block) }
+        ensures stopped { IsErrOf result Denied.Stopped ↔ ((block < volume self.old.g) × (self.old.is_stopped ≡ true)) }
+        ensures log { IsErrOf result Denied.LogFault → Rose ((B.view bank.old).faults 0) ((B.view bank.new).faults 0) }
+        ensures member { (first second : ℕ) → IsErrOf result (Denied.MemberFault first second)
+            → MemberFails self.old first second (B.view bank.old) (B.view bank.new) }
+        ensures damaged { (offset : ℕ) → IsErrOf result (Denied.Damaged offset) → IsTrue (B.view bank.old).tells
+            → (s : State) → Always (B.view bank.old) (StandsFor self.old s) → ⊥ }
+        ensures any_moment { Moves (B.view bank.old) (B.view bank.new) Same Same }
+    {
+        if block >= volume_of(&self.log.g) {
+            return Err(Denied::Refused(Refusal::NoBlock));
+        }
+        if self.is_stopped {
+            return Err(Denied::Stopped);
+        }
+        let answer = self
+            .log
+            .read_by(bank, &mut self.buffers, block as u32, time, into);
+        // A fault stops the array, and a damaged record doesn't.
+        self.is_stopped = has_failed(&answer);
+        answer
+    }
+}
+
+impl Log {
+    /// Fills `into` with a block of the array after the entry with this number, where that is retained.
+    fn read_at<B: Bank>(
+        &self,
+        bank: &mut B,
+        room: &mut Buffers,
+        block: u32,
+        seq: u64,
+        into: &mut [u8],
+    ) -> Result<(), Denied>
+        requires room { AreFor self.now.g.block room.old }
+        requires can { CanLookBack self.now (B.view bank.old) }
+        requires block { block < volume self.now.g }
+        requires into { length into.old ≡ self.now.g.block }
+        ensures reply { IsTrue (B.view bank.old).tells → (s : State) → StandsFor (going self.now) s (B.view bank.old).now.disks
+            → AtReplies result into.new ((step self.now.g).reply s (request.At seq block)) }
+        ensures damaged { (offset : ℕ) → IsErrOf result (Denied.Damaged offset) → IsTrue (B.view bank.old).tells
+            → (s : State) → StandsFor (going self.now) s (B.view bank.old).now.disks → ⊥ }
+        ensures room { AreFor self.now.g.block room.new }
+        ensures cause { IfErr result (DeniesInstant (going self.now) (B.view bank.old) (B.view bank.new)) }
+        ensures any_moment { OnlyReads (B.view bank.old) (B.view bank.new) }
+    {
+        if let Some(why) = self.number_refusal(seq) {
+            return Err(Denied::Refused(why));
+        }
+        self.undo(bank, room, block, seq, into)
+    }
+
+    /// Fills `into` with a block of the array after all entries up to this time, where that is retained.
+    fn read_by<B: Bank>(
+        &self,
+        bank: &mut B,
+        room: &mut Buffers,
+        block: u32,
+        time: u64,
+        into: &mut [u8],
+    ) -> Result<(), Denied>
+        requires room { AreFor self.now.g.block room.old }
+        requires can { CanLookBack self.now (B.view bank.old) }
+        requires block { block < volume self.now.g }
+        requires into { length into.old ≡ self.now.g.block }
+        ensures reply { IsTrue (B.view bank.old).tells → (s : State) → StandsFor (going self.now) s (B.view bank.old).now.disks
+            → AtReplies result into.new ((step self.now.g).reply s (request.By time block)) }
+        ensures damaged { (offset : ℕ) → IsErrOf result (Denied.Damaged offset) → IsTrue (B.view bank.old).tells
+            → (s : State) → StandsFor (going self.now) s (B.view bank.old).now.disks → ⊥ }
+        ensures room { AreFor self.now.g.block room.new }
+        ensures cause { IfErr result (DeniesInstant (going self.now) (B.view bank.old) (B.view bank.new)) }
+        ensures any_moment { OnlyReads (B.view bank.old) (B.view bank.new) }
+    {
+        if let Some(why) = self.time_refusal(time) {
+            return Err(Denied::Refused(why));
+        }
+        let seq = self.last_by_time(time);
+        self.undo(bank, room, block, seq, into)
+    }
+
+    /// Why a number is refused: it is below what is retained, or above the last one.
+    fn number_refusal(&self, seq: u64) -> Option<Refusal>
+        ensures { result ≡ number_refused self.now.index seq }
+    {
+        if seq < self.index.first() {
+            Some(Refusal::NotKept {
+                bound: self.index.first(),
+            })
+        } else if self.index.last() < seq {
+            Some(Refusal::Ahead {
+                last: self.index.last(),
+            })
+        } else {
+            None
+        }
+    }
+
+    /// Why a time is refused: it is below what is retained.
+    fn time_refusal(&self, time: u64) -> Option<Refusal>
+        ensures { result ≡ time_refused self.now.index time }
+    {
+        if time < self.index.base_time() {
+            Some(Refusal::NotKept {
+                bound: self.index.base_time(),
+            })
+        } else {
+            None
+        }
+    }
+
+    /// The number of the last entry up to a time.
+    fn last_by_time(&self, time: u64) -> u64
+        requires { self.now.index.base_time ≤ time }
+        ensures last_by { IsLastBy self.now.index time result }
+        ensures image { (s : State) → Describes self.now.index s → image_by s time ≡ image_at s result }
+    {
+        self.index.last_by_time(time)
+    }
+}
+
+/// Whether a read ended by a fault, which stops the array.
+fn has_failed(answer: &Result<(), Denied>) -> bool
+    ensures { result ≡ is_fault answer.now }
+{
+    matches!(answer, Err(Denied::LogFault | Denied::MemberFault { .. }))
+}

@@ -1,0 +1,68 @@
+//! What an array tells of its retained entries, before and after it is mounted again.
+
+ghost use Rattle.std.specs.Prelude.{◌≡◌};
+
+use crate::{Array, Span, create};
+use std::test::Fail;
+use trap_bank::MemoryBank;
+use trap_index::Item;
+use trap_model::Geometry;
+
+/// Three members of four rows.
+fn eight_blocks() -> Geometry
+    ensures { result.slots ≡ 1 }
+{
+    Geometry {
+        id: 7,
+        members: 3,
+        chunk: 1,
+        block: 16,
+        rows: 4,
+        slots: 1,
+        gap: 2,
+        entries: 8,
+        ring: 2048,
+    }
+}
+
+fn item(time: u64, off: u64, prev: u64) -> Item {
+    Item {
+        time,
+        block: 3,
+        off,
+        plen: 20,
+        slen: 0,
+        snap: false,
+        prev,
+    }
+}
+
+/// Whether the array tells of these two entries and no others.
+fn has_two(array: &Array) -> bool {
+    let span = Span {
+        first: 0,
+        last: 2,
+        base_time: 0,
+        last_time: 105,
+    };
+    array.span() == span
+        && array.entry(0).is_none()
+        && array.entry(1) == Some(item(100, 0, 0))
+        && array.entry(2) == Some(item(105, 46, 1))
+        && array.entry(3).is_none()
+}
+
+#[test]
+fn an_array_tells_what_it_retains(rt: HostRuntime) -> Result<(), Fail> {
+    let mut bank = MemoryBank::new(rt.alloc())?;
+    assert_eq!(rt; create(&mut bank, &eight_blocks()), Ok(()));
+    let mut array = Array::mount(rt.alloc(), &mut bank)?;
+    assert!(rt; array.geometry().block == 16);
+    assert_eq!(rt; array.write(&mut bank, 100, 3, &[7; 16]), Ok(1));
+    assert!(rt; array.geometry().block == 16);
+    assert_eq!(rt; array.write(&mut bank, 105, 3, &[8; 16]), Ok(2));
+    assert!(rt; has_two(&array));
+    let again = Array::mount(rt.alloc(), &mut bank)?;
+    assert!(rt; has_two(&again));
+    Ok(())
+}
