@@ -8,7 +8,7 @@ use Rattle.std.specs.List.{slice_split, position_or_len}
 use Rattle.trap_model.specs.declared.request.Request.TheVariants.{Bad}
 use Rattle.trap_script.specs.declared.lines.Line.{Line}
 use Rattle.trap_script.specs.declared.lines.Line.TheVariants as line
-use Rattle.trap_script.specs.Lines.{is_space, quit_form, read_form, write_form, LeavesBuffer}
+use Rattle.trap_script.specs.Lines.{is_space, quit_form, read_form, write_form, two_numbers, info_form, LeavesBuffer}
 
 -- the place of the first space, if there is one
 abbrev pub first_space : List ℕ → Option ℕ
@@ -49,6 +49,19 @@ fields_have_first text = has_first (slice_split is_space text) (omega (arith, le
 -- behind `Q` nothing may stand
 pub quit_with_more : (rest : List ℕ) → quit_form (slice_split is_space rest) ≡ Bad
 quit_with_more rest = let fields = fields_have_first rest in ap quit_form fields.is
+
+-- nor behind `I`
+pub info_with_more : (rest : List ℕ) → info_form (slice_split is_space rest) ≡ Bad
+info_with_more rest = let fields = fields_have_first rest in ap info_form fields.is
+
+-- behind two numbers nothing may stand
+pub numbers_with_more : (rest first behind second more : List ℕ)
+    → slice_split is_space rest ≡ first ∷ slice_split is_space behind
+    → slice_split is_space behind ≡ second ∷ slice_split is_space more
+    → two_numbers (slice_split is_space rest) ≡ None
+numbers_with_more rest first behind second more cut cut2 =
+    let fields = fields_have_first more in
+    ap two_numbers (cut ∙ ap (λ parts. first ∷ parts) (cut2 ∙ ap (λ parts. second ∷ parts) fields.is))
 
 -- behind the block of an `R` nothing may stand
 pub read_with_more : (rest block more : List ℕ) → slice_split is_space rest ≡ block ∷ slice_split is_space more

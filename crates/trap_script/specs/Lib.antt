@@ -1,4 +1,5 @@
 pub mod Numbers
+pub mod Forms
 pub mod Lines
 pub mod Replies
 pub mod Walk

@@ -1,12 +1,11 @@
 -- The requests of a session's lines.
-use Rattle.std.specs.Prelude.{◌≡◌, ℕ, ◌+◌, ◌*◌, nat_lt, ◌==◌, ◌&&◌, List, [], ◌∷◌, length, slice_index, map, take_while, count_by, All, Bool, true, false, if◌then◌else◌, Option, Some, None, Result, Ok, Err, ⊤}
+use Rattle.std.specs.Prelude.{◌≡◌, ℕ, ◌+◌, ◌*◌, nat_lt, ◌==◌, ◌&&◌, List, [], ◌∷◌, length, slice_index, map, take_while, count_by, All, Bool, true, false, if◌then◌else◌, Option, Some, None, ⊤}
 use Rattle.std.specs.List.{slice_split}
-use Rattle.hex.specs.Hex.{decode_sized}
 use Rattle.trap_model.specs.declared.request.Request.{Request}
 use Rattle.trap_model.specs.declared.request.Request.TheVariants.{Write, Read, At, By, Info, Keep, Quit, Bad}
 use Rattle.trap_script.specs.declared.lines.Line.{Line}
 use Rattle.trap_script.specs.declared.lines.Line.TheVariants as line
-use Rattle.trap_script.specs.Numbers.{number_of}
+pub use Rattle.trap_script.specs.Forms.{quit_form, read_request, read_form, write_request, write_form, both_numbers, two_numbers, at_request, at_form, by_request, by_form, info_form}
 
 -- the space between fields
 abbrev pub is_space : ℕ → Bool
@@ -20,42 +19,15 @@ is_line_feed byte = byte == 10
 abbrev pub is_letter : List ℕ → ℕ → Bool
 is_letter name letter = length name == 1 && slice_index name 0 == letter
 
--- `Q`
-abbrev pub quit_form : List (List ℕ) → Request
-quit_form [] = Quit
-quit_form (field ∷ fields) = Bad
-
--- `R BLOCK`
-abbrev pub read_request : Option ℕ → Request
-read_request (Some block) = Read block
-read_request None = Bad
-
-abbrev pub read_form : List (List ℕ) → Request
-read_form (block ∷ []) = read_request (number_of block)
-read_form [] = Bad
-read_form (block ∷ field ∷ fields) = Bad
-
--- `W TIME BLOCK HEX`
-abbrev pub write_request : {E : Type 0} → Option ℕ → Option ℕ → Result (List ℕ) E → Request
-write_request (Some time) (Some block) (Ok bytes) = Write time block bytes
-write_request (Some time) (Some block) (Err e) = Bad
-write_request (Some time) None bytes = Bad
-write_request None block bytes = Bad
-
-abbrev pub write_form : ℕ → List (List ℕ) → Request
-write_form size (time ∷ block ∷ hex ∷ []) =
-    write_request (number_of time) (number_of block) (decode_sized hex size)
-write_form size [] = Bad
-write_form size (time ∷ []) = Bad
-write_form size (time ∷ block ∷ []) = Bad
-write_form size (time ∷ block ∷ hex ∷ field ∷ fields) = Bad
-
 -- what a line's first field and the fields behind it ask, over blocks of that size
 abbrev pub form_of : ℕ → List ℕ → List (List ℕ) → Request
 form_of size name fields =
     if is_letter name 81 then quit_form fields
     else if is_letter name 82 then read_form fields
     else if is_letter name 87 then write_form size fields
+    else if is_letter name 65 then at_form fields
+    else if is_letter name 84 then by_form fields
+    else if is_letter name 73 then info_form fields
     else Bad
 
 abbrev pub request_of_fields : ℕ → List (List ℕ) → Request

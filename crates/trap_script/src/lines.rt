@@ -3,7 +3,7 @@
 ghost use Rattle.std.specs.Prelude.{◌≡◌, ◌+◌, ◌*◌, ◌≤◌, ◌∷◌, ℕ, List, length};
 ghost use Rattle.std.specs.List.{slice_split};
 ghost use Rattle.std.specs.Option.{option_copied};
-ghost use Rattle.trap_script.specs.Lines.{is_space, is_letter, fields_after, read_form, write_form, quit_form, request_of, request_with, LeavesBuffer};
+ghost use Rattle.trap_script.specs.Lines.{is_space, is_letter, fields_after, read_form, write_form, quit_form, two_numbers, at_form, by_form, info_form, request_of, request_with, LeavesBuffer};
 
 use crate::read_number;
 use hex;
@@ -108,6 +108,53 @@ fn write_form(rest: Option<&[u8]>, fresh: &mut [u8]) -> Line
     }
 }
 
+// Two fields, each a number.
+fn two_numbers(rest: Option<&[u8]>) -> Option<(u64, u64)>
+    ensures { result ≡ two_numbers (fields_after (option_copied rest.entry)) }
+{
+    let (first, behind) = cut_field(rest?);
+    let (second, more) = cut_field(behind?);
+    if let Some(_) = more {
+        return None;
+    }
+    let first = read_number(first)?;
+    let second = read_number(second)?;
+    Some((first, second))
+}
+
+// `A SEQ BLOCK`
+fn at_form(rest: Option<&[u8]>) -> Line
+    ensures asked { (fresh : List ℕ)
+        → at_form (fields_after (option_copied rest.entry)) ≡ request_with result fresh }
+{
+    match two_numbers(rest) {
+        Some((seq, block)) => Line::At { seq, block },
+        None => Line::Bad,
+    }
+}
+
+// `T TIME BLOCK`
+fn by_form(rest: Option<&[u8]>) -> Line
+    ensures asked { (fresh : List ℕ)
+        → by_form (fields_after (option_copied rest.entry)) ≡ request_with result fresh }
+{
+    match two_numbers(rest) {
+        Some((time, block)) => Line::By { time, block },
+        None => Line::Bad,
+    }
+}
+
+// `I`
+fn info_form(rest: Option<&[u8]>) -> Line
+    ensures asked { (fresh : List ℕ)
+        → info_form (fields_after (option_copied rest.entry)) ≡ request_with result fresh }
+{
+    match rest {
+        None => Line::Info,
+        Some(_) => Line::Bad,
+    }
+}
+
 /// Reads a line without its line feed; `fresh` has as many bytes as a block, at most 4096. For a
 /// write `fresh` then holds the block's new contents. After a line without a form it holds any
 /// bytes, and after every other line it is as it was. `Bad` comes exactly where the line has no
@@ -127,6 +174,12 @@ pub fn read_line(line: &[u8], fresh: &mut [u8]) -> Line
         read_form(rest)
     } else if is_letter(name, b'W') {
         write_form(rest, fresh)
+    } else if is_letter(name, b'A') {
+        at_form(rest)
+    } else if is_letter(name, b'T') {
+        by_form(rest)
+    } else if is_letter(name, b'I') {
+        info_form(rest)
     } else {
         Line::Bad
     }

@@ -37,6 +37,29 @@ fn lines_over_blocks_of_16_bytes(rt: HostRuntime) {
     for (line, want) in [
         ("R 0", Line::Read { block: 0 }),
         ("R 18446744073709551615", Line::Read { block: BIG }),
+        ("A 0 7", Line::At { seq: 0, block: 7 }),
+        (
+            "A 1099511627776 18446744073709551615",
+            Line::At {
+                seq: 1099511627776,
+                block: BIG,
+            },
+        ),
+        (
+            "T 100 3",
+            Line::By {
+                time: 100,
+                block: 3,
+            },
+        ),
+        (
+            "T 18446744073709551615 0",
+            Line::By {
+                time: BIG,
+                block: 0,
+            },
+        ),
+        ("I", Line::Info),
         ("Q", Line::Quit),
         ("", Line::Bad),
         ("R 0\r", Line::Bad),
@@ -56,6 +79,27 @@ fn lines_over_blocks_of_16_bytes(rt: HostRuntime) {
         ("q", Line::Bad),
         ("W 1 0", Line::Bad),
         ("W 1 0 ", Line::Bad),
+        ("A", Line::Bad),
+        ("A 0", Line::Bad),
+        ("A 0 ", Line::Bad),
+        ("A  0 7", Line::Bad),
+        ("A 0  7", Line::Bad),
+        ("A 0 7 ", Line::Bad),
+        ("A 0 7 1", Line::Bad),
+        ("A 00 7", Line::Bad),
+        ("A 0 07", Line::Bad),
+        ("A 18446744073709551616 7", Line::Bad),
+        ("a 0 7", Line::Bad),
+        ("T", Line::Bad),
+        ("T 100", Line::Bad),
+        ("T 100 3 0", Line::Bad),
+        ("T 100 -3", Line::Bad),
+        ("T 100\t3", Line::Bad),
+        ("I ", Line::Bad),
+        ("I 0", Line::Bad),
+        ("II", Line::Bad),
+        ("i", Line::Bad),
+        ("K 0", Line::Bad),
     ] {
         assert_eq!(rt; read_line(line.as_bytes(), &mut fresh), want, "{line}");
     }

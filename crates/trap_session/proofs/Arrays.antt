@@ -13,8 +13,9 @@ use Rattle.trap_model.specs.declared.request.Reply.TheVariants.{No, Silent}
 use Rattle.trap_script.specs.Lines.{goes_on}
 use Rattle.trap_script.proofs.GivenLemmas.{AnswersByLines}
 use Rattle.trap_array.specs.Calls.{Mounted, HoldsLike, GoesOn}
-use Rattle.trap_array.specs.declared.fault.Denied.TheVariants.{Refused, LogFault, MemberFault, Stopped}
-use Rattle.trap_session.specs.Store.{Store, array_store, Served, Answering, CutShort, Struck, Waits, HasRisen}
+use Rattle.trap_array.specs.declared.fault.Denied.{Denied}
+use Rattle.trap_array.specs.declared.fault.Denied.TheVariants.{Refused, LogFault, MemberFault, Damaged, Stopped}
+use Rattle.trap_session.specs.Store.{Store, array_store, ComesWith, Served, Answering, CutShort, Struck, Waits, StandsForNone, HasRisen}
 use Rattle.trap_session.specs.declared.outcome.Next.{Next}
 use Rattle.trap_session.specs.declared.outcome.Next.TheVariants.{More, Quit}
 use Rattle.trap_session.specs.declared.outcome.SessionFault.{SessionFault}
@@ -42,6 +43,14 @@ array_answers a = record { speaks = array_speaks a.g }
 pub array_torn : (a : Mounted) (disks : Disks) (t : State) (asked : Request) → (array_store a).torn disks t asked
     → (array_store a).holds disks t ⊎ (array_store a).holds disks ((array_store a).machine.next t asked)
 array_torn a disks t asked torn = torn
+
+-- what a fault comes with may be said of something weaker
+pub comes_also : (denied : Denied) (P Q : Type 0) → (P → Q) → ComesWith denied P → ComesWith denied Q
+comes_also (Refused why) P Q also p = also p
+comes_also LogFault P Q also p = also p
+comes_also (MemberFault first second) P Q also p = also p
+comes_also (Damaged offset) P Q also p = absurd p
+comes_also Stopped P Q also p = also p
 
 pub goes_nowhere : (a : Mounted) → GoesOn a a
 goes_nowhere a = record { g = refl; lost = refl; rebuilt = refl }
@@ -80,7 +89,7 @@ module _ (a b : Mounted) (goes : GoesOn a b) where
     served_like : (result : Result Next SessionFault) → Served (store_by a.g b) result s asked x y → Served (array_store a) result s asked x y
     served_like (Ok More) served = record { more = served.more; said = served.said; holds = like ((step a.g).next s asked) y.disks served.holds }
     served_like (Ok Quit) served = record { ends = served.ends; said = served.said; holds = like s y.disks served.holds }
-    served_like (Err (Array denied)) served = struck_like served
+    served_like (Err (Array denied)) served = comes_also denied (Struck (store_by a.g b) s asked x y) (Struck (array_store a) s asked x y) struck_like served
     served_like (Err WriteFault) served = cut_like served
     served_like (Err ReadFault) served = absurd served
     served_like (Err TooLong) served = absurd served
@@ -91,17 +100,19 @@ module _ (a b : Mounted) (goes : GoesOn a b) where
     pub served_first : (result : Result Next SessionFault) → Served (array_store b) result s asked x y → Served (array_store a) result s asked x y
     served_first result served = served_like result (subst (λ (g : Geometry). Served (store_by g b) result s asked x y) goes.g served)
 
-  -- what rose since then rose since the first moment
-  pub risen_first : (u v w : View) → ((e : ℕ) → u.faults e ≤ v.faults e) → u.port_faults ≤ v.port_faults → (fault : SessionFault) → HasRisen b fault v w → HasRisen a fault u w
-  risen_first u v w faults port (Array (Refused why)) risen = absurd risen
-  risen_first u v w faults port (Array LogFault) risen = let later = faults 0 in omega (arith, later, risen)
-  risen_first u v w faults port (Array (MemberFault first second)) risen = record {
+  -- what rose since then rose since the first moment; and where it stood for no state then, it stood for none first
+  pub risen_first : (u v w : View) → ((e : ℕ) → u.faults e ≤ v.faults e) → u.port_faults ≤ v.port_faults → (StandsForNone b v → StandsForNone a u)
+      → (fault : SessionFault) → HasRisen b fault v w → HasRisen a fault u w
+  risen_first u v w faults port none (Array (Refused why)) risen = absurd risen
+  risen_first u v w faults port none (Array LogFault) risen = let later = faults 0 in omega (arith, later, risen)
+  risen_first u v w faults port none (Array (MemberFault first second)) risen = record {
     same = risen.same;
     inside = subst (λ (g : Geometry). second < g.members) goes.g risen.inside;
     counts = λ is. subst (λ (rows : ℕ). 0 < rows) goes.rebuilt (risen.counts (goes.lost ∙ is));
     rose = let later = faults (second + 1) in let rose = risen.rose in omega (arith, later, rose);
   }
-  risen_first u v w faults port (Array Stopped) risen = absurd risen
-  risen_first u v w faults port WriteFault risen = omega (arith, port, risen)
-  risen_first u v w faults port ReadFault risen = absurd risen
-  risen_first u v w faults port TooLong risen = absurd risen
+  risen_first u v w faults port none (Array (Damaged offset)) risen = none risen
+  risen_first u v w faults port none (Array Stopped) risen = absurd risen
+  risen_first u v w faults port none WriteFault risen = omega (arith, port, risen)
+  risen_first u v w faults port none ReadFault risen = absurd risen
+  risen_first u v w faults port none TooLong risen = absurd risen

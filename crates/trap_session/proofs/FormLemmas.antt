@@ -7,16 +7,16 @@ use Rattle.trap_model.specs.declared.request.Request.TheVariants.{Write, Read, A
 use Rattle.trap_script.specs.declared.lines.Line.{Line}
 use Rattle.trap_script.specs.declared.lines.Line.TheVariants as line
 use Rattle.trap_script.specs.Numbers.{number_of}
-use Rattle.trap_script.specs.Lines.{is_space, is_letter, quit_form, read_request, read_form, write_request, write_form, request_of_fields, longest_line, request_of, request_with}
+use Rattle.trap_script.specs.Lines.{is_space, is_letter, quit_form, read_request, read_form, write_request, write_form, two_numbers, at_request, at_form, by_request, by_form, info_form, request_of_fields, longest_line, request_of, request_with}
 use Rattle.trap_session.specs.Forms.{IsAsked}
 
--- a write, a read, the end, or no form
+-- every request but `K`
 abbrev IsPlain : Request → Type 0
 IsPlain (Write time block bytes) = Unit {0}
 IsPlain (Read block) = Unit {0}
-IsPlain (At seq block) = ⊥
-IsPlain (By time block) = ⊥
-IsPlain Info = ⊥
+IsPlain (At seq block) = Unit {0}
+IsPlain (By time block) = Unit {0}
+IsPlain Info = Unit {0}
 IsPlain (Keep seq) = ⊥
 IsPlain Quit = Unit {0}
 IsPlain Bad = Unit {0}
@@ -51,11 +51,26 @@ plain-write size (time ∷ block ∷ []) = tt
 plain-write size (time ∷ block ∷ hex ∷ []) = plain-write_request (number_of time) (number_of block) _
 plain-write size (time ∷ block ∷ hex ∷ field ∷ fields) = tt
 
+plain-at : (numbers : Option (ℕ × ℕ)) → IsPlain (at_request numbers)
+plain-at (Some numbers) = tt
+plain-at None = tt
+
+plain-by : (numbers : Option (ℕ × ℕ)) → IsPlain (by_request numbers)
+plain-by (Some numbers) = tt
+plain-by None = tt
+
+plain-info : (fields : List (List ℕ)) → IsPlain (info_form fields)
+plain-info [] = tt
+plain-info (field ∷ fields) = tt
+
 plain-fields : (size : ℕ) (fields : List (List ℕ)) → IsPlain (request_of_fields size fields)
 plain-fields size [] = tt
 plain-fields size (name ∷ fields) = plain-if (is_letter name 81) (quit_form fields) _ (plain-quit fields)
     (plain-if (is_letter name 82) (read_form fields) _ (plain-read fields)
-    (plain-if (is_letter name 87) (write_form size fields) Bad (plain-write size fields) tt))
+    (plain-if (is_letter name 87) (write_form size fields) _ (plain-write size fields)
+    (plain-if (is_letter name 65) (at_form fields) _ (plain-at (two_numbers fields))
+    (plain-if (is_letter name 84) (by_form fields) _ (plain-by (two_numbers fields))
+    (plain-if (is_letter name 73) (info_form fields) Bad (plain-info fields) tt)))))
 
 plain-request : (size : ℕ) (bytes : List ℕ) → IsPlain (request_of size bytes)
 plain-request size bytes = plain-if (nat_lt (longest_line size) (length bytes)) Bad (request_of_fields size (slice_split is_space bytes)) tt (plain-fields size (slice_split is_space bytes))
@@ -63,9 +78,9 @@ plain-request size bytes = plain-if (nat_lt (longest_line size) (length bytes)) 
 plain_line : (read : Line) (fresh : List ℕ) → IsPlain (request_with read fresh) → IsAsked read
 plain_line (line.Write time block) fresh plain = tt
 plain_line (line.Read block) fresh plain = tt
-plain_line (line.At seq block) fresh plain = plain
-plain_line (line.By time block) fresh plain = plain
-plain_line line.Info fresh plain = plain
+plain_line (line.At seq block) fresh plain = tt
+plain_line (line.By time block) fresh plain = tt
+plain_line line.Info fresh plain = tt
 plain_line (line.Keep seq) fresh plain = plain
 plain_line line.Quit fresh plain = tt
 plain_line line.Bad fresh plain = tt

@@ -1,29 +1,28 @@
 -- What a crash leaves while one line is answered, from the calls that it makes.
-use Rattle.std.proofs.Common.{◌≡◌, inl, inr, ℕ, ◌+◌, ◌≤◌, nat_le, List, ◌++◌, length, take, Some, None, Bool, true, false, ◌||◌, IsTrue, Result, Ok, Err, OnOk, OnErr, IfOk, IfErr, refl, sym, ap, subst, ◌∙◌, arith}
-use Rattle.std.specs.Prelude.{if◌then◌else◌}
+use Rattle.std.proofs.Common.{◌≡◌, inl, inr, ℕ, ◌+◌, ◌≤◌, Option, List, ◌++◌, length, take, Some, None, Bool, true, false, ◌||◌, IsTrue, Result, Ok, Err, OnOk, OnErr, IfOk, IfErr, IsErr, IsErrAnd, refl, sym, ap, subst, ◌∙◌, arith}
 use Rattle.std.proofs.Math.Seq.{take-append_seam}
 use Rattle.trap_bank.specs.Disks.{Contents, Disks, View, Quiet}
 use Rattle.trap_bank.specs.Calls.{MayLeave, Says}
 use Rattle.trap_bank.specs.Faults.{Rose}
 use Rattle.trap_bank.specs.Steps.{Steps, Moves, Same, Spoke, SpokePart, Always}
-use Rattle.trap_bank.proofs.Moves.{say_steps, said_steps, then_, weaken, nothing_done, always_same, no_moves}
-use Rattle.trap_model.specs.ArrayStep.{step, unless}
-use Rattle.trap_model.specs.Image.{volume}
+use Rattle.trap_bank.proofs.Moves.{say_steps, said_steps, then_, weaken, nothing_done, always_same, no_moves, read_is_left}
+use Rattle.trap_model.specs.ArrayStep.{step, unless, refusal}
 use Rattle.trap_model.specs.declared.history.State.{State}
 use Rattle.trap_model.specs.declared.numbers.Geometry.{Geometry}
 use Rattle.trap_model.specs.declared.request.Request.{Request}
-use Rattle.trap_model.specs.declared.request.Request.TheVariants.{Write, Read, Bad, Quit as Q}
+use Rattle.trap_model.specs.declared.request.Request.TheVariants.{Write, Read, At, By, Info, Bad, Quit as Q}
 use Rattle.trap_model.specs.declared.request.Refusal.{Refusal}
-use Rattle.trap_model.specs.declared.request.Refusal.TheVariants.{NoBlock, NoLine}
+use Rattle.trap_model.specs.declared.request.Refusal.TheVariants.{NoLine}
 use Rattle.trap_model.specs.declared.request.Reply.{Reply}
-use Rattle.trap_model.specs.declared.request.Reply.TheVariants.{No}
+use Rattle.trap_model.specs.declared.request.Reply.TheVariants.{No, Span}
 use Rattle.trap_script.specs.Lines.{goes_on}
 use Rattle.trap_script.specs.Replies.{reply_text}
 use Rattle.trap_array.specs.Holding.{HoldsBy}
-use Rattle.trap_array.specs.Calls.{Mounted, WriteReplies, ReadReplies, is_fault, StandsFor, HoldsLike, IsReady, GoesOn, MayTurn, HasTurned}
+use Rattle.trap_array.specs.Calls.{Mounted, WriteReplies, ReadReplies, AtReplies, is_fault, MemberFails, StandsFor, HoldsLike, IsReady, GoesOn, MayTurn, HasTurned}
 use Rattle.trap_array.specs.declared.fault.Denied.{Denied}
-use Rattle.trap_array.specs.declared.fault.Denied.TheVariants.{Refused}
-use Rattle.trap_session.specs.Store.{Store, array_store, Replied, CutShort, Struck, HasRisen}
+use Rattle.trap_array.specs.declared.fault.Denied.TheVariants.{Refused, LogFault, MemberFault, Damaged, Stopped}
+use Rattle.trap_session.specs.Store.{Store, array_store, ComesWith, Replied, CutShort, Struck, StandsForNone, HasRisen}
+use Rattle.trap_session.specs.Denying.{EndsSession}
 use Rattle.trap_session.specs.Answers.{Answers, HasAnswered, StandsOn, AnswersLine}
 use Rattle.trap_session.specs.declared.outcome.Next.{Next}
 use Rattle.trap_session.specs.declared.outcome.Next.TheVariants.{More, Quit}
@@ -136,6 +135,15 @@ holds_on a b s disks goes stands = record {
   rebuilt = goes.rebuilt;
 }
 
+-- a fault that rose comes with what was done, where the array stood for a state
+comes : (a : Mounted) (v u : View) (denied : Denied) → HasRisen a (Array denied) v u → (x : Contents) → MayLeave v x → (s : State) → Always v (StandsFor a s)
+    → (claim : Type 0) → claim → ComesWith denied claim
+comes a v u (Refused why) risen x was s stands claim done = absurd risen
+comes a v u LogFault risen x was s stands claim done = done
+comes a v u (MemberFault first second) risen x was s stands claim done = done
+comes a v u (Damaged offset) risen x was s stands claim done = absurd (risen was.told s stands)
+comes a v u Stopped risen x was s stands claim done = absurd risen
+
 -- A request that calls of the array turn the state by.
 module _ (a : Mounted) (v u : View) (asked : Request) (more : goes_on asked ≡ true) where
   torn_at : (x y : Contents) → Quiet (MayTurn a v (λ s. (step a.g).next s asked)) x y → (s : State) → Always v (StandsFor a s) → Struck (array_store a) s asked x y
@@ -154,12 +162,12 @@ module _ (a : Mounted) (v u : View) (asked : Request) (more : goes_on asked ≡ 
   turned_stands b moves s stands c left = (moves.now c left).by.disks s stands
 
   -- or a disk failed
-  pub turned_struck : (denied : Denied) → Moves v u (MayTurn a v (λ s. (step a.g).next s asked)) (MayTurn a v (λ s. (step a.g).next s asked))
+  pub turned_struck : (denied : Denied) → HasRisen a (Array denied) v u → Moves v u (MayTurn a v (λ s. (step a.g).next s asked)) (MayTurn a v (λ s. (step a.g).next s asked))
       → Steps v u (Answers a v asked) (HasAnswered a v (Err (Array denied)) asked)
-  turned_struck denied moves = weaken v u (Quiet (MayTurn a v (λ s. (step a.g).next s asked))) (Quiet (MayTurn a v (λ s. (step a.g).next s asked)))
+  turned_struck denied risen moves = weaken v u (Quiet (MayTurn a v (λ s. (step a.g).next s asked))) (Quiet (MayTurn a v (λ s. (step a.g).next s asked)))
       (Answers a v asked) (HasAnswered a v (Err (Array denied)) asked) moves
       (λ x y was may s stands. inr (inl (torn_at x y may s stands)))
-      (λ x y was left may s stands. torn_at x y may s stands)
+      (λ x y was left may s stands. comes a v u denied risen x was s stands (Struck (array_store a) s asked x y) (torn_at x y may s stands))
 
   -- The disks are as they were.
   module _ (moves : Moves v u Same Same) where
@@ -175,20 +183,28 @@ module _ (a : Mounted) (v u : View) (asked : Request) (more : goes_on asked ≡ 
     same_stands b stopped same still s stands = always_same v u (StandsFor b ((step a.g).next s asked)) moves
         (λ c left. let was = stands c left in
         subst (λ m. StandsFor m ((step a.g).next s asked) c.disks) (sym same)
-        (subst (λ t. StandsFor (record a { is_stopped = stopped }) t c.disks) (sym (still s)) (record { by = was.by; cell = was.cell; pending = was.pending })))
+        (subst (λ t. StandsFor (record a { is_stopped = stopped }) t c.disks) (sym (still s)) (record { by = was.by; cell = was.cell; pending = was.pending; index = was.index })))
 
-    pub same_struck : (denied : Denied) → Steps v u (Answers a v asked) (HasAnswered a v (Err (Array denied)) asked)
-    same_struck denied = weaken v u (Quiet Same) (Quiet Same) (Answers a v asked) (HasAnswered a v (Err (Array denied)) asked) moves
+    pub same_struck : (denied : Denied) → HasRisen a (Array denied) v u → Steps v u (Answers a v asked) (HasAnswered a v (Err (Array denied)) asked)
+    same_struck denied risen = weaken v u (Quiet Same) (Quiet Same) (Answers a v asked) (HasAnswered a v (Err (Array denied)) asked) moves
         (λ x y was same s stands. inl (record { said = same.said; holds = held_still x y was same s stands }))
-        (λ x y was left same s stands. record { more = more; said = same.said; torn = inl (held_still x y was same s stands) })
+        (λ x y was left same s stands. comes a v u denied risen x was s stands (Struck (array_store a) s asked x y)
+        (record { more = more; said = same.said; torn = inl (held_still x y was same s stands) }))
 
--- a read changes no state
+-- a read changes no state, refused or not
+stays : (why : Option Refusal) (s : State) → unless why s (λ _. s) ≡ s
+stays None s = refl
+stays (Some why) s = refl
+
 pub read_still : (g : Geometry) (s : State) (block : ℕ) → (step g).next s (Read block) ≡ s
-read_still g s block = either (nat_le (volume g) block)
-  where
-    either : (beyond : Bool) → unless (if beyond then Some NoBlock else None) s (λ _. s) ≡ s
-    either true = refl
-    either false = refl
+read_still g s block = stays (refusal g s (Read block)) s
+
+-- nor does a read of an earlier instant
+pub at_still : (g : Geometry) (s : State) (seq block : ℕ) → (step g).next s (At seq block) ≡ s
+at_still g s seq block = stays (refusal g s (At seq block)) s
+
+pub by_still : (g : Geometry) (s : State) (time block : ℕ) → (step g).next s (By time block) ≡ s
+by_still g s time block = stays (refusal g s (By time block)) s
 
 -- One line in which a disk failed.
 pub line_struck : (a b : Mounted) (v u : View) (asked : Request) (denied : Denied)
@@ -229,7 +245,7 @@ pub write_struck : (a b : Mounted) (v u : View) (time block : ℕ) (bytes fresh 
     → AnswersLine a b (Err (Array denied)) (Write time block fresh) v u
 write_struck a b v u time block bytes fresh same denied moves sizes ready goes risen =
     subst (λ l. AnswersLine a b (Err (Array denied)) (Write time block l) v u) same
-    (line_struck a b v u (Write time block bytes) denied (turned_struck a v u (Write time block bytes) refl denied moves) sizes ready goes risen)
+    (line_struck a b v u (Write time block bytes) denied (turned_struck a v u (Write time block bytes) refl denied risen moves) sizes ready goes risen)
 
 -- a call that changes nothing of the array but perhaps whether it is stopped
 pub same_goes : (a b : Mounted) (stopped : Bool) → b ≡ record a { is_stopped = stopped } → GoesOn a b
@@ -246,12 +262,12 @@ same_replied a b v u w asked more still stopped same going reply result is moves
     line_replied a b v u w asked reply result is (same_done a v u asked more moves still) (same_stands a v u asked more moves b stopped same still)
     sizes ready (ap (λ (m : Mounted). m.is_stopped) same ∙ going) (same_goes a b stopped same) call ok err
 
--- a read in which a disk failed
-pub read_struck : (a b : Mounted) (v u : View) (block : ℕ) (stopped : Bool) → b ≡ record a { is_stopped = stopped } → (denied : Denied)
+-- a request that changes no state, in which the array failed
+pub same_failed : (a b : Mounted) (v u : View) (asked : Request) → goes_on asked ≡ true → (stopped : Bool) → b ≡ record a { is_stopped = stopped } → (denied : Denied)
     → Moves v u Same Same → ((e : ℕ) → u.sizes e ≡ v.sizes e) → IsReady b u → HasRisen a (Array denied) v u
-    → AnswersLine a b (Err (Array denied)) (Read block) v u
-read_struck a b v u block stopped same denied moves sizes ready risen =
-    line_struck a b v u (Read block) denied (same_struck a v u (Read block) refl moves denied) sizes ready (same_goes a b stopped same) risen
+    → AnswersLine a b (Err (Array denied)) asked v u
+same_failed a b v u asked more stopped same denied moves sizes ready risen =
+    line_struck a b v u asked denied (same_struck a v u asked more moves denied risen) sizes ready (same_goes a b stopped same) risen
 
 -- no call at all
 pub no_call : (v : View) → Moves v v Same Same
@@ -281,7 +297,13 @@ pub refused_read : (a : Mounted) (v : View) (asked : Request) {T : Type 0} (read
     → IsTrue v.tells → (s : State) → Always v (StandsFor a s) → (step a.g).reply s asked ≡ No why
 refused_read a v asked read bytes why is replies told s stands = subst (λ r. ReadReplies r bytes ((step a.g).reply s asked)) is (replies told s stands)
 
--- neither is a fault
+-- and a refused read of an earlier instant
+pub refused_at : (a : Mounted) (v : View) (asked : Request) {T : Type 0} (read : Result T Denied) (bytes : List ℕ) (why : Refusal) → read ≡ Err (Refused why)
+    → (IsTrue v.tells → (s : State) → Always v (StandsFor a s) → AtReplies read bytes ((step a.g).reply s asked))
+    → IsTrue v.tells → (s : State) → Always v (StandsFor a s) → (step a.g).reply s asked ≡ No why
+refused_at a v asked read bytes why is replies told s stands = subst (λ r. AtReplies r bytes ((step a.g).reply s asked)) is (replies told s stands)
+
+-- none is a fault
 pub refused_going : {T : Type 0} {call : Result T Denied} {why : Refusal} (before : Bool) → call ≡ Err (Refused why) → before ≡ false → (before || is_fault call) ≡ false
 refused_going true is going = absurd (cc going)
 refused_going false is going = ap is_fault is
@@ -290,9 +312,52 @@ refused_going false is going = ap is_fault is
 pub filled_whole : (n : ℕ) (front behind : List ℕ) → length front ≡ n → take n (front ++ behind) ≡ front
 filled_whole n front behind long = subst (λ k. take k (front ++ behind) ≡ front) long (take-append_seam front behind)
 
+-- the bytes that were filled in are those of the reply
+pub shown : (as_reply : List ℕ → Reply) (reply : Reply) (filled bytes : List ℕ) → bytes ≡ filled → reply ≡ as_reply filled → reply ≡ as_reply bytes
+shown as_reply reply filled bytes is says = says ∙ ap as_reply (sym is)
+
 -- The line has no form.
 pub bad_replied : (a : Mounted) (v w : View) (result : Result Next SessionFault) → IsReady a v → a.is_stopped ≡ false
     → Says (reply_text (No NoLine)) result v w → IfOk result (λ next. next ≡ More) → IfErr result (λ fault. fault ≡ WriteFault)
     → AnswersLine a a result Bad v w
 bad_replied a v w result ready going call ok err = same_replied a a v v w Bad refl (λ s. refl) a.is_stopped refl going (No NoLine) result
     (λ told s stands. refl) (no_call v) (λ e. refl) ready call ok err
+
+-- The line asks for the numbers of the history.
+pub info_replied : (a : Mounted) (v w : View) (first last base_time last_time : ℕ) (result : Result Next SessionFault) → IsReady a v → a.is_stopped ≡ false
+    → ((s : State) (disks : Disks) → StandsFor a s disks → (step a.g).reply s Info ≡ Span first last base_time last_time)
+    → Says (reply_text (Span first last base_time last_time)) result v w → IfOk result (λ next. next ≡ More) → IfErr result (λ fault. fault ≡ WriteFault)
+    → AnswersLine a a result Info v w
+info_replied a v w first last base_time last_time result ready going span call ok err =
+    same_replied a a v v w Info refl (λ s. refl) a.is_stopped refl going (Span first last base_time last_time) result
+    (λ told s stands. span s v.now.disks (stands v.now (read_is_left v told))) (no_call v) (λ e. refl) ready call ok err
+
+-- an array that isn't stopped doesn't say that it is
+not_both : (b : Bool) → b ≡ false → b ≡ true → ⊥
+not_both true is other = cc is
+not_both false is other = cc other
+
+-- What ended the session rose, as the array's call says.
+pub risen_of : (a : Mounted) (v u : View) {T : Type 0} (call : Result T Denied) → a.is_stopped ≡ false
+    → (call ≡ Err LogFault → Rose (v.faults 0) (u.faults 0))
+    → ((first second : ℕ) → call ≡ Err (MemberFault first second) → MemberFails a first second v u)
+    → ((offset : ℕ) → call ≡ Err (Damaged offset) → StandsForNone a v)
+    → (call ≡ Err Stopped → a.is_stopped ≡ true)
+    → (denied : Denied) → call ≡ Err denied → EndsSession denied → HasRisen a (Array denied) v u
+risen_of a v u call going log member damaged stopped (Refused why) is ends = ends
+risen_of a v u call going log member damaged stopped LogFault is ends = log is
+risen_of a v u call going log member damaged stopped (MemberFault first second) is ends = member first second is
+risen_of a v u call going log member damaged stopped (Damaged offset) is ends = damaged offset is
+risen_of a v u call going log member damaged stopped Stopped is ends = not_both a.is_stopped going (stopped is)
+
+-- a fault that is handed on
+pub err_is : {T E : Type 0} (r : Result T E) (fault : E) → IsErr r × IsErrAnd r (λ e. e ≡ fault) → r ≡ Err fault
+err_is (Ok value) fault both = absurd (cc both.0)
+err_is (Err e) fault both = ap Err both.1
+
+-- the array's answer is handed on
+pub line_ended : (a b : Mounted) (v u : View) (asked : Request) (denied : Denied) (result : Result Next SessionFault) (fault : SessionFault)
+    → IsErr result × IsErrAnd result (λ e. e ≡ fault) → fault ≡ Array denied
+    → AnswersLine a b (Err (Array denied)) asked v u → AnswersLine a b result asked v u
+line_ended a b v u asked denied result fault handed is answers =
+    subst (λ r. AnswersLine a b r asked v u) (sym (err_is result fault handed ∙ ap Err is)) answers

@@ -1,5 +1,5 @@
 -- The loop over lines, over a mounted array: how its run of calls begins, goes on and stops.
-use Rattle.std.proofs.Common.{◌≡◌, ℕ, ◌<◌, List, [], ◌∷◌, ◌++◌, length, drop, Some, Result, Ok, Err, OnOk, IsErr, IsErrAnd, IfErr, refl, ap, subst}
+use Rattle.std.proofs.Common.{◌≡◌, ℕ, ◌<◌, List, [], ◌∷◌, ◌++◌, length, drop, Some, Result, Ok, Err, OnOk, IfErr, IsTrue, refl, sym, subst}
 use Rattle.trap_bank.specs.Disks.{Contents, View}
 use Rattle.trap_bank.specs.Calls.{MayLeave}
 use Rattle.trap_bank.specs.Steps.{Steps, Always}
@@ -11,7 +11,7 @@ use Rattle.trap_model.specs.declared.history.State.{State}
 use Rattle.trap_script.specs.Lines.{lines, line_feeds, request_of, HasNoFeed}
 use Rattle.trap_script.specs.Walk.{state_after}
 use Rattle.trap_array.specs.Calls.{Mounted, StandsFor, GoesOn}
-use Rattle.trap_session.specs.Store.{array_store, Answering, Served, HasRisen}
+use Rattle.trap_session.specs.Store.{array_store, Answering, Served, StandsForNone, HasRisen}
 use Rattle.trap_session.specs.Answers.{Answers, HasAnswered, AnswersLine}
 use Rattle.trap_session.specs.Serving.{Serves, HasStopped, StopsAs, StopsBy, StopsAtPort}
 use Rattle.trap_session.specs.declared.outcome.Next.{Next}
@@ -49,6 +49,10 @@ module _ (a : Mounted) (v : View) (from : Stream) where
 
   module _ (b : Mounted) (w : View) (passed : List ℕ) (turn : State → State) (goes : GoesOn a b) (turns : Turns a b v w turn)
       (steps : Steps v w (Serves a v from) (Walks a v from passed turn)) where
+    -- where it stands for no state now, it stood for none on entry
+    none_first : StandsForNone b w → StandsForNone a v
+    none_first none told s stands = none (subst IsTrue (sym steps.tells) told) (turn s) (turns s stands)
+
     -- it stops without another call
     pub run_ends : (result : Result Ended SessionFault) (to : Stream)
         → ((s : State) (input : List ℕ) → from.left ≡ Some input → (x y : Contents) → Walked (array_store a) s input passed x y → StopsAs (array_store a) result s input x y from to)
@@ -74,7 +78,7 @@ module _ (a : Mounted) (v : View) (from : Stream) where
       goes_further = goes_then goes answers.goes_on
 
       pub risen : (fault : SessionFault) → next ≡ Err fault → HasRisen a fault v u
-      risen fault is = risen_first a b goes v w u steps.faults steps.port_faults fault (subst (λ r. IfErr r (λ f. HasRisen b f w u)) is answers.cause)
+      risen fault is = risen_first a b goes v w u steps.faults steps.port_faults none_first fault (subst (λ r. IfErr r (λ f. HasRisen b f w u)) is answers.cause)
 
       -- after another line, whatever it does
       after_line : (After : Contents → Contents → Type 0)
@@ -151,8 +155,3 @@ fault_stops a v u from to (Array denied) risen = risen
 fault_stops a v u from to ReadFault risen = absurd risen
 fault_stops a v u from to WriteFault risen = risen
 fault_stops a v u from to TooLong risen = absurd risen
-
--- a fault that is handed on
-pub err_is : {T E : Type 0} (r : Result T E) (fault : E) → IsErr r × IsErrAnd r (λ e. e ≡ fault) → r ≡ Err fault
-err_is (Ok value) fault both = absurd (cc both.0)
-err_is (Err e) fault both = ap Err both.1

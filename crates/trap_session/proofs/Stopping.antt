@@ -18,8 +18,9 @@ use Rattle.trap_session.specs.declared.outcome.Next.{Next}
 use Rattle.trap_session.specs.declared.outcome.Next.TheVariants.{More, Quit}
 use Rattle.trap_session.specs.declared.outcome.SessionFault.{SessionFault}
 use Rattle.trap_session.specs.declared.outcome.SessionFault.TheVariants.{Array, ReadFault, WriteFault, TooLong}
-use Rattle.trap_session.specs.Store.{Store, Served, Answering}
-use Rattle.trap_session.specs.Serving.{StopsAs, StopsDone, StopsAfter, StopsReading, StopsAtPort, AreWholeLines, TookQuit, bytes_taken}
+use Rattle.trap_session.specs.Store.{Store, Served, Struck, Answering}
+use Rattle.trap_session.specs.Serving.{StopsAs, StopsDone, StopsAfter, StopsReading, StopsAtPort, StopsTorn, AreWholeLines, TookQuit, bytes_taken}
+use Rattle.trap_session.proofs.Arrays.{comes_also}
 use Rattle.trap_session.proofs.Walking.{Walked, next_line, next_last, walk_on, stops_done, stops_last, stops_torn, stops_at_port, stops_part, last_here}
 
 -- What the reader passed over is a front of the input.
@@ -91,8 +92,9 @@ module _ {S : Type 0} (store : Store S) (by_lines : AnswersByLines store.machine
       → ((goes_on (request_of store.block line) ≡ true) → drop (line_feeds passed) (lines store.block input) ≡ request_of store.block line ∷ rest)
       → Served store (Err fault) state (request_of store.block line) y z → StopsAs store (Err fault) st input x z from to
   fault_of from to rest (Array denied) next served =
-      let struck = served_now (Err (Array denied)) served in
-      stops_torn store st input passed x y walked (request_of store.block line) rest z (next struck.more) struck
+      comes_also denied (Struck store (state_after store.machine st (lines store.block input) (line_feeds passed)) (request_of store.block line) y z) (StopsTorn store st input x z)
+      (λ struck. stops_torn store st input passed x y walked (request_of store.block line) rest z (next struck.more) struck)
+      (served_now (Err (Array denied)) served)
   fault_of from to rest ReadFault next served = absurd served
   fault_of from to rest WriteFault next served =
       let cut = served_now (Err WriteFault) served in

@@ -2,13 +2,13 @@
 use Rattle.trap_script.specs.declared.lines.Line.{Line}
 use Rattle.trap_script.specs.declared.lines.Line.TheVariants.{Write, Read, At, By, Info, Keep, Quit, Bad}
 
--- a line asks for a write, for a read or for the end, or has no form
+-- a session answers the line: every one but `K`
 abbrev pub IsAsked : Line → Type 0
 IsAsked (Write time block) = Unit {0}
 IsAsked (Read block) = Unit {0}
-IsAsked (At seq block) = ⊥
-IsAsked (By time block) = ⊥
-IsAsked Info = ⊥
+IsAsked (At seq block) = Unit {0}
+IsAsked (By time block) = Unit {0}
+IsAsked Info = Unit {0}
 IsAsked (Keep seq) = ⊥
 IsAsked Quit = Unit {0}
 IsAsked Bad = Unit {0}

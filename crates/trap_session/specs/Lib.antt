@@ -1,4 +1,5 @@
 pub mod Store
 pub mod Forms
+pub mod Denying
 pub mod Answers
 pub mod Serving

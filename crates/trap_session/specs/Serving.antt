@@ -10,7 +10,7 @@ use Rattle.trap_script.specs.Walk.{state_after, first_texts, Answered, AnsweredA
 use Rattle.trap_bank.specs.Steps.{Always}
 use Rattle.trap_model.specs.declared.history.State.{State}
 use Rattle.trap_array.specs.Calls.{Mounted, StandsFor}
-use Rattle.trap_session.specs.Store.{Store, array_store, HasRisen}
+use Rattle.trap_session.specs.Store.{Store, array_store, ComesWith, HasRisen}
 use Rattle.trap_session.specs.declared.outcome.Ended.{Ended}
 use Rattle.trap_session.specs.declared.outcome.Ended.TheVariants as ended
 use Rattle.trap_session.specs.declared.outcome.SessionFault.{SessionFault}
@@ -52,7 +52,7 @@ pub record StopsTorn {S : Type 0} (store : Store S) (s : S) (input : List ℕ) (
 -- What was said, and what the disks hold, when a session stops so.
 abbrev pub StopsAs : {S : Type 0} → Store S → Result Ended SessionFault → S → List ℕ → Contents → Contents → Stream → Stream → Type 0
 StopsAs store (Ok ended) s input old now from to = StopsDone store s input old now
-StopsAs store (Err (Array denied)) s input old now from to = StopsTorn store s input old now
+StopsAs store (Err (Array denied)) s input old now from to = ComesWith denied (StopsTorn store s input old now)
 StopsAs store (Err ReadFault) s input old now from to = StopsReading store s input old now from to
 StopsAs store (Err WriteFault) s input old now from to = StopsAtPort store s input old now
 StopsAs store (Err TooLong) s input old now from to = StopsReading store s input old now from to

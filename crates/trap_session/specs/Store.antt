@@ -1,16 +1,18 @@
 -- A store of states on disks, and what one line does to it and to the port.
-use Rattle.std.specs.Prelude.{◌≡◌, ◌⊎◌, ℕ, ◌++◌, true, false, Result, Ok, Err}
+use Rattle.std.specs.Prelude.{◌≡◌, ◌⊎◌, ℕ, ◌++◌, true, false, IsTrue, Result, Ok, Err}
 use Rattle.trap_bank.specs.Faults.{Rose}
 use Rattle.trap_bank.specs.Disks.{Contents, Disks, View}
 use Rattle.trap_bank.specs.Calls.{SaysPart}
+use Rattle.trap_bank.specs.Steps.{Always}
 use Rattle.trap_model.specs.Machine.{Machine}
 use Rattle.trap_model.specs.declared.request.Request.{Request}
 use Rattle.trap_script.specs.Lines.{goes_on}
 use Rattle.trap_script.specs.Replies.{reply_text}
 use Rattle.trap_model.specs.ArrayStep.{step}
 use Rattle.trap_model.specs.declared.history.State.{State}
-use Rattle.trap_array.specs.Calls.{Mounted, HoldsLike, MemberFails}
-use Rattle.trap_array.specs.declared.fault.Denied.TheVariants.{Refused, LogFault, MemberFault, Stopped}
+use Rattle.trap_array.specs.Calls.{Mounted, HoldsLike, MemberFails, StandsFor}
+use Rattle.trap_array.specs.declared.fault.Denied.{Denied}
+use Rattle.trap_array.specs.declared.fault.Denied.TheVariants.{Refused, LogFault, MemberFault, Damaged, Stopped}
 use Rattle.trap_session.specs.declared.outcome.Next.{Next}
 use Rattle.trap_session.specs.declared.outcome.Next.TheVariants.{More, Quit}
 use Rattle.trap_session.specs.declared.outcome.SessionFault.{SessionFault}
@@ -50,11 +52,20 @@ pub record LeftAlone {S : Type 0} (store : Store S) (s : S) (asked : Request) (o
   pub said : new.said ≡ old.said
   pub holds : store.holds new.disks s
 
+-- What a fault of the array comes with, where the array stood for a state. A record that was read again is never damaged
+-- there.
+abbrev pub ComesWith : Denied → Type 0 → Type 0
+ComesWith (Refused why) claim = claim
+ComesWith LogFault claim = claim
+ComesWith (MemberFault first second) claim = claim
+ComesWith (Damaged offset) claim = ⊥
+ComesWith Stopped claim = claim
+
 -- what one line does, by its answer
 abbrev pub Served : {S : Type 0} → Store S → Result Next SessionFault → S → Request → Contents → Contents → Type 0
 Served store (Ok More) s asked old new = Replied store s asked old new
 Served store (Ok Quit) s asked old new = LeftAlone store s asked old new
-Served store (Err (Array denied)) s asked old new = Struck store s asked old new
+Served store (Err (Array denied)) s asked old new = ComesWith denied (Struck store s asked old new)
 Served store (Err WriteFault) s asked old new = CutShort store s asked old new
 Served store (Err ReadFault) s asked old new = ⊥
 Served store (Err TooLong) s asked old new = ⊥
@@ -79,11 +90,17 @@ array_store a = record {
   torn = λ disks s asked. HoldsLike a.g a.head s disks ⊎ HoldsLike a.g a.head ((step a.g).next s asked) disks;
 }
 
--- the count of what failed rose; a refusal and a stopped array are no faults of a session
+-- where the bank tells, the array stands for no state
+abbrev pub StandsForNone : Mounted → View → Type 0
+StandsForNone a v = IsTrue v.tells → (s : State) → Always v (StandsFor a s) → ⊥
+
+-- The count of what failed rose. No disk fails where a record that was read again is damaged: the array stood for no
+-- state. A refusal and a stopped array are no faults of a session.
 abbrev pub HasRisen : Mounted → SessionFault → View → View → Type 0
 HasRisen a (Array (Refused why)) old new = ⊥
 HasRisen a (Array LogFault) old new = Rose (old.faults 0) (new.faults 0)
 HasRisen a (Array (MemberFault first second)) old new = MemberFails a first second old new
+HasRisen a (Array (Damaged offset)) old new = StandsForNone a old
 HasRisen a (Array Stopped) old new = ⊥
 HasRisen a WriteFault old new = Rose old.port_faults new.port_faults
 HasRisen a ReadFault old new = ⊥

@@ -8,14 +8,14 @@ ghost use Rattle.trap_array.specs.Calls.{IsReady};
 ghost use Rattle.trap_session.specs.Answers.{AnswersLine};
 ghost use Rattle.trap_session.specs.Forms.{IsAsked};
 
-use crate::reply::say_answer;
+use crate::reply::{refusal_of, say_answer};
 use crate::{Next, SessionFault};
 use std::alloc::{AllocError as OutOfMemory, Global};
-use trap_array::{Array, Denied};
+use trap_array::Array;
 use trap_bank::Bank;
 use trap_lines::LineReader;
 use trap_model::{Geometry, Refusal};
-use trap_script::{Answer, Line, read_line};
+use trap_script::{Answer, Line, Span4, read_line};
 
 /// Room for a block and for a reply, over an array of these numbers.
 #[derive(Drop)]
@@ -56,16 +56,10 @@ impl Buffers {
         // The write is committed before its reply is said.
         match array.write(bank, time, block, self.fresh.as_slice()) {
             Ok(seq) => say_answer(bank, &Answer::Kept { seq }, self.out.as_mut_slice()),
-            Err(Denied::Refused(why)) => say_answer(
-                bank,
-                &Answer::No(why),
-                self.out.as_mut_slice(),
-            ),
-            Err(Denied::LogFault) => Err(SessionFault::Array(Denied::LogFault)),
-            Err(Denied::MemberFault { first, second }) => {
-                Err(SessionFault::Array(Denied::MemberFault { first, second }))
+            Err(denied) => {
+                let why = refusal_of(denied)?;
+                say_answer(bank, &Answer::No(why), self.out.as_mut_slice())
             }
-            Err(Denied::Stopped) => Err(SessionFault::Array(Denied::Stopped)),
         }
     }
 
@@ -89,17 +83,87 @@ impl Buffers {
                 let bytes = self.fresh.as_slice();
                 say_answer(bank, &Answer::Is { bytes }, self.out.as_mut_slice())
             }
-            Err(Denied::Refused(why)) => say_answer(
-                bank,
-                &Answer::No(why),
-                self.out.as_mut_slice(),
-            ),
-            Err(Denied::LogFault) => Err(SessionFault::Array(Denied::LogFault)),
-            Err(Denied::MemberFault { first, second }) => {
-                Err(SessionFault::Array(Denied::MemberFault { first, second }))
+            Err(denied) => {
+                let why = refusal_of(denied)?;
+                say_answer(bank, &Answer::No(why), self.out.as_mut_slice())
             }
-            Err(Denied::Stopped) => Err(SessionFault::Array(Denied::Stopped)),
         }
+    }
+
+    // Reads the block as it was after the entry with this number into `fresh`, and replies.
+    fn at<B: Bank>(
+        &mut self,
+        array: &mut Array,
+        bank: &mut B,
+        seq: u64,
+        block: u64,
+    ) -> Result<Next, SessionFault>
+        requires geometry { array.old.g ≡ self.old.g }
+        requires going { array.old.is_stopped ≡ false }
+        requires ready { IsReady array.old (B.view bank.old) }
+        ensures answers { AnswersLine array.old array.new result (request.At seq block)
+            (B.view bank.old) (B.view bank.new) }
+        ensures more { result ≡ Ok Next.Quit → ⊥ }
+        ensures same { self.new.g ≡ self.old.g }
+    {
+        match array.at_seq(bank, block, seq, self.fresh.as_mut_slice()) {
+            Ok(()) => {
+                let bytes = self.fresh.as_slice();
+                say_answer(bank, &Answer::At { bytes }, self.out.as_mut_slice())
+            }
+            Err(denied) => {
+                let why = refusal_of(denied)?;
+                say_answer(bank, &Answer::No(why), self.out.as_mut_slice())
+            }
+        }
+    }
+
+    // Reads the block as it was after all entries with a time of at most this one into `fresh`, and replies.
+    fn by<B: Bank>(
+        &mut self,
+        array: &mut Array,
+        bank: &mut B,
+        time: u64,
+        block: u64,
+    ) -> Result<Next, SessionFault>
+        requires geometry { array.old.g ≡ self.old.g }
+        requires going { array.old.is_stopped ≡ false }
+        requires ready { IsReady array.old (B.view bank.old) }
+        ensures answers { AnswersLine array.old array.new result (request.By time block)
+            (B.view bank.old) (B.view bank.new) }
+        ensures more { result ≡ Ok Next.Quit → ⊥ }
+        ensures same { self.new.g ≡ self.old.g }
+    {
+        match array.at_time(bank, block, time, self.fresh.as_mut_slice()) {
+            Ok(()) => {
+                let bytes = self.fresh.as_slice();
+                say_answer(bank, &Answer::At { bytes }, self.out.as_mut_slice())
+            }
+            Err(denied) => {
+                let why = refusal_of(denied)?;
+                say_answer(bank, &Answer::No(why), self.out.as_mut_slice())
+            }
+        }
+    }
+
+    // Replies with the numbers of the history.
+    fn info<B: Bank>(&mut self, array: &Array, bank: &mut B) -> Result<Next, SessionFault>
+        requires geometry { array.now.g ≡ self.old.g }
+        requires going { array.now.is_stopped ≡ false }
+        requires ready { IsReady array.now (B.view bank.old) }
+        ensures answers { AnswersLine array.now array.now result request.Info
+            (B.view bank.old) (B.view bank.new) }
+        ensures more { result ≡ Ok Next.Quit → ⊥ }
+        ensures same { self.new.g ≡ self.old.g }
+    {
+        let retained = array.span();
+        let span = Span4 {
+            first: retained.first,
+            last: retained.last,
+            base_time: retained.base_time,
+            last_time: retained.last_time,
+        };
+        say_answer(bank, &Answer::Span { span }, self.out.as_mut_slice())
     }
 
     // Answers a line that was read. What a write holds stands in `fresh`.
@@ -123,9 +187,9 @@ impl Buffers {
             Line::Write { time, block } => self.write(array, bank, time, block),
             Line::Read { block } => self.read(array, bank, block),
             Line::Quit => Ok(Next::Quit),
-            Line::At { seq: _, block: _ } => say_answer(bank, &no_line, self.out.as_mut_slice()),
-            Line::By { time: _, block: _ } => say_answer(bank, &no_line, self.out.as_mut_slice()),
-            Line::Info => say_answer(bank, &no_line, self.out.as_mut_slice()),
+            Line::At { seq, block } => self.at(array, bank, seq, block),
+            Line::By { time, block } => self.by(array, bank, time, block),
+            Line::Info => self.info(array, bank),
             Line::Keep { seq: _ } => say_answer(bank, &no_line, self.out.as_mut_slice()),
             Line::Bad => say_answer(bank, &no_line, self.out.as_mut_slice()),
         }

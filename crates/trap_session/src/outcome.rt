@@ -23,7 +23,7 @@ pub enum Ended {
 /// What failed in a line, or between two.
 #[derive(Debug, Clone, Copy, PartialEq, Eq)]
 pub enum SessionFault {
-    /// The array answered a fault, and is stopped.
+    /// The array answered a fault. It is stopped, unless a record that was read again is damaged.
     Array(Denied),
     /// The source failed: its count of faults rose.
     ReadFault,

@@ -12,8 +12,9 @@ use Rattle.trap_session.specs.Store.{array_store}
 use Rattle.trap_session.specs.Serving.{Serves, HasStopped, StopsBy}
 use Rattle.trap_session.proofs.Arrays.{goes_nowhere, goes_then}
 use Rattle.trap_session.proofs.Stopping.{line_at, last_line, stops_reading, stops_end, consumed, one_more_line, took_quit}
+use Rattle.trap_session.proofs.Replying.{err_is}
 use Rattle.trap_session.proofs.Quits.{ahead_start, ahead_on, ends_unquit, more_goes}
-use Rattle.trap_session.proofs.Running.{run_begins, run_ends, line_more, line_turns, line_quit, line_fault, last_done, last_fault, risen, fault_stops, err_is, on_ok}
+use Rattle.trap_session.proofs.Running.{run_begins, run_ends, line_more, line_turns, line_quit, line_fault, last_done, last_fault, risen, fault_stops, on_ok}
 use Rattle.trap_session.proofs.serve.serve.Goals as goal
 
 pub lines-init : goal.lines-init

@@ -1,8 +1,8 @@
-use Rattle.std.proofs.Common.{refl, ◌≡◌, sym, ap, ◌∙◌, Err, arith}
+use Rattle.std.proofs.Common.{refl, ◌≡◌, ap, ◌∙◌, Err, arith}
+use Rattle.trap_model.specs.ArrayStep.{step}
 use Rattle.trap_model.specs.declared.request.Reply.TheVariants.{Is, No}
 use Rattle.trap_model.specs.declared.request.Request.TheVariants.{Read}
-use Rattle.trap_array.specs.declared.fault.Denied.TheVariants.{LogFault, MemberFault}
-use Rattle.trap_session.proofs.Replying.{same_replied, read_struck, read_still, still_going, refused_read, refused_going, filled_whole}
+use Rattle.trap_session.proofs.Replying.{same_replied, same_failed, read_still, still_going, refused_read, refused_going, filled_whole, shown, risen_of, line_ended}
 use Rattle.trap_session.proofs.buffers.Buffers.read.Goals as goal
 
 pub returns-in-Ok-clause-answers : goal.returns-in-Ok-clause-answers
@@ -12,32 +12,29 @@ returns-in-Ok-clause-answers g c =
     let filled : c.as_slice-bytes.result.now ≡ c.read.new.into = c.as_slice-bytes.ensures.value ∙ filled_whole c.args.self.now.fresh.len c.read.new.into _ (omega (arith, c.read.auto.into, c.as_mut_slice.ensures.len, c.args.self.now.fresh.ok.0)) in
     same_replied c.args.array.now c.read.new.self (view c.args.bank.now) (view c.read.new.bank) (view c.say_answer.new.bank) (Read c.args.block) refl
     (λ s. read_still c.args.array.now.g s c.args.block) _ done.same (still_going c.args.array.now.is_stopped _ refl c.requires.going)
-    (Is c.as_slice-bytes.result.now) c.say_answer.result (λ told s stands. done.reply told s stands ∙ ap Is (sym filled)) done.any_moment done.sizes done.ready
+    (Is c.as_slice-bytes.result.now) c.say_answer.result (λ told s stands. shown Is ((step c.args.array.now.g).reply s (Read c.args.block)) c.read.new.into c.as_slice-bytes.result.now filled (done.reply told s stands)) done.any_moment done.sizes done.ready
     c.say_answer.ensures.says c.say_answer.ensures.more c.say_answer.ensures.port
 
-pub returns-in-Err-Refused-clause-answers : goal.returns-in-Err-Refused-clause-answers
-returns-in-Err-Refused-clause-answers g c =
+pub returns-in_ok-why-in-Err-clause-answers : goal.returns-in_ok-why-in-Err-clause-answers
+returns-in_ok-why-in-Err-clause-answers g c =
     let view = g.B.Bank.view in
     let done = c.read.ensures in
-    let said = c.say_answer-in-Err-Refused in
-    let is = c.in-Err-Refused.is ∙ ap Err c.in-Err-Refused.field-0-is in
+    let said = c.say_answer-in-Err in
+    let why = c.in_ok-why-in-Err.why in
+    let refused = c.in-Err.is ∙ ap Err c.in_ok-why-in-Err.ensures.ok in
     same_replied c.args.array.now c.read.new.self (view c.args.bank.now) (view c.read.new.bank) (view said.new.bank) (Read c.args.block) refl
-    (λ s. read_still c.args.array.now.g s c.args.block) _ done.same (refused_going c.args.array.now.is_stopped is c.requires.going)
-    (No c.in-Err-Refused.why) said.result (refused_read c.args.array.now (view c.args.bank.now) (Read c.args.block) c.read.result c.read.new.into c.in-Err-Refused.why is done.reply) done.any_moment done.sizes done.ready
-    said.ensures.says said.ensures.more said.ensures.port
+    (λ s. read_still c.args.array.now.g s c.args.block) _ done.same (refused_going c.args.array.now.is_stopped refused c.requires.going)
+    (No why) said.result (refused_read c.args.array.now (view c.args.bank.now) (Read c.args.block) c.read.result c.read.new.into why refused done.reply)
+    done.any_moment done.sizes done.ready said.ensures.says said.ensures.more said.ensures.port
 
-pub returns-in-Err-LogFault-clause-answers : goal.returns-in-Err-LogFault-clause-answers
-returns-in-Err-LogFault-clause-answers g c =
+pub returns-in_err-why-in-Err-clause-answers : goal.returns-in_err-why-in-Err-clause-answers
+returns-in_err-why-in-Err-clause-answers g c =
     let view = g.B.Bank.view in
     let done = c.read.ensures in
-    read_struck c.args.array.now c.read.new.self (view c.args.bank.now) (view c.read.new.bank) c.args.block _ done.same LogFault
-    done.any_moment done.sizes done.ready (done.log (c.in-Err-LogFault.is ∙ ap Err c.in-Err-LogFault.field-0-is))
-
-pub returns-in-Err-MemberFault-clause-answers : goal.returns-in-Err-MemberFault-clause-answers
-returns-in-Err-MemberFault-clause-answers g c =
-    let view = g.B.Bank.view in
-    let done = c.read.ensures in
-    let first = c.in-Err-MemberFault.first in
-    let second = c.in-Err-MemberFault.second in
-    read_struck c.args.array.now c.read.new.self (view c.args.bank.now) (view c.read.new.bank) c.args.block _ done.same (MemberFault first second)
-    done.any_moment done.sizes done.ready (done.member first second (c.in-Err-MemberFault.is ∙ ap Err c.in-Err-MemberFault.field-0-is))
+    let denied = c.in-Err.denied in
+    let ended = c.in_err-why-in-Err.ensures.err in
+    line_ended c.args.array.now c.read.new.self (view c.args.bank.now) (view c.read.new.bank) (Read c.args.block) denied c.from_residual.result c.in_err-why-in-Err.field-0.0
+    c.from_residual.ensures ended.0
+    (same_failed c.args.array.now c.read.new.self (view c.args.bank.now) (view c.read.new.bank) (Read c.args.block) refl _ done.same denied done.any_moment done.sizes done.ready
+    (risen_of c.args.array.now (view c.args.bank.now) (view c.read.new.bank) c.read.result c.requires.going done.log done.member done.damaged (λ is. (done.stopped.0 is).1)
+    denied c.in-Err.is ended.1))

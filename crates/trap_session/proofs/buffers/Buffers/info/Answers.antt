@@ -1,0 +1,10 @@
+use Rattle.trap_session.proofs.Replying.{info_replied}
+use Rattle.trap_session.proofs.buffers.Buffers.info.Goals as goal
+
+pub returns-clause-answers : goal.returns-clause-answers
+returns-clause-answers g c =
+    let view = g.B.Bank.view in
+    let span = c.span-retained.result in
+    let said = c.say_answer in
+    info_replied c.args.array.now (view c.args.bank.now) (view said.new.bank) span.first span.last span.base_time span.last_time said.result
+    c.requires.ready c.requires.going c.span-retained.ensures said.ensures.says said.ensures.more said.ensures.port
