@@ -27,7 +27,7 @@ use Rattle.trap_cli.specs.Ended.{last_line}
 use Rattle.trap_cli.specs.Stops.{held_store, SessionStops, BeginsTold, HasEnded}
 use Rattle.trap_cli.specs.Crash.{IsFaultFront, HoldsAfter, replies_given, SessionLeaves, LeftSaid, Leaves, LeavesBefore}
 use Rattle.trap_cli.proofs.Lines.{array_answers, given_fault}
-use Rattle.trap_cli.proofs.Stopping.{stops_held}
+use Rattle.trap_cli.proofs.Stopping.{comes_gives, stops_held}
 use Rattle.trap_cli.proofs.Heads.{same_head_holds}
 
 pub no_front : IsFaultFront []
@@ -93,8 +93,9 @@ module _ (g : Geometry) (s : State) (input : List ℕ) (old : View) (from : Stre
   stopped_leaves (NotCreated why) to x y z quiet stops front rest is = absurd stops
   stopped_leaves (NotMounted why) to x y z quiet stops front rest is =
       answered_leaves x y z 0 front (NotMounted why, rest, is) quiet stops.1.within stops.1.said (inl stops.1.holds)
-  stopped_leaves (Stopped (serving.Array denied)) to x y z quiet stops front rest is =
-      answered_leaves x y z stops.j front (Stopped (serving.Array denied), rest, is) quiet
+  stopped_leaves (Stopped (serving.Array why)) to x y z quiet stops front rest is =
+      let stops = comes_gives why stops in
+      answered_leaves x y z stops.j front (Stopped (serving.Array why), rest, is) quiet
       (let below = below_end (lines g.block input) stops.j stops.asked stops.rest stops.next in omega (arith, below)) stops.said
       (⊎_elim (λ (holds : Holds g (state_after (step g) s (lines g.block input) stops.j) z.disks). inl holds)
       (λ (holds : Holds g ((step g).next (state_after (step g) s (lines g.block input) stops.j) stops.asked) z.disks).

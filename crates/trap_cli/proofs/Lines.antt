@@ -87,6 +87,7 @@ line_head (NotMounted why) = inr refl
 line_head (Stopped (serving.Array (denied.Refused why))) = inr refl
 line_head (Stopped (serving.Array denied.LogFault)) = inr refl
 line_head (Stopped (serving.Array (denied.MemberFault first second))) = inr refl
+line_head (Stopped (serving.Array (denied.Damaged offset))) = inr refl
 line_head (Stopped (serving.Array denied.Stopped)) = inr refl
 line_head (Stopped serving.ReadFault) = inr refl
 line_head (Stopped serving.WriteFault) = inl refl

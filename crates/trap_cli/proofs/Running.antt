@@ -47,6 +47,7 @@ stopped_later (serving.Array (denied.Refused why)) old mid new from to later por
 stopped_later (serving.Array denied.LogFault) old mid new from to later port by = rose_later (old.faults 0) (mid.faults 0) (new.faults 0) by (later 0)
 stopped_later (serving.Array (denied.MemberFault first second)) old mid new from to later port by =
     (by.0, rose_later (old.faults (second + 1)) (mid.faults (second + 1)) (new.faults (second + 1)) by.1 (later (second + 1)))
+stopped_later (serving.Array (denied.Damaged offset)) old mid new from to later port by = by
 stopped_later (serving.Array denied.Stopped) old mid new from to later port by = absurd by
 stopped_later serving.ReadFault old mid new from to later port by = by
 stopped_later serving.WriteFault old mid new from to later port by = rose_later old.port_faults mid.port_faults new.port_faults by port
@@ -96,6 +97,7 @@ not_two (NotMounted mounting.OutOfMemory) other two = cc two
 not_two (Stopped (serving.Array (denied.Refused why))) other two = cc two
 not_two (Stopped (serving.Array denied.LogFault)) other two = cc two
 not_two (Stopped (serving.Array (denied.MemberFault first second))) other two = cc two
+not_two (Stopped (serving.Array (denied.Damaged offset))) other two = cc two
 not_two (Stopped (serving.Array denied.Stopped)) other two = cc two
 not_two (Stopped serving.ReadFault) other two = cc two
 not_two (Stopped serving.WriteFault) other two = cc two

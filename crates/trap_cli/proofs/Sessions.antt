@@ -30,25 +30,28 @@ use Rattle.trap_cli.proofs.Crashing.{unmounted_steps, session_steps}
 -- why a mounted session ended so is why the command did
 ended_cause : (array : Mounted) (ended : Ended) (old mid new : View) (from to : Stream)
     → ((e : ℕ) → old.faults e ≤ mid.faults e) → old.port_faults ≤ mid.port_faults
-    → (IsTrue old.tells → Passes array.g old.now.disks) → EndsBy array ended mid new from to → SessionCause ended old new from to
-ended_cause array Done old mid new from to later port found by =
+    → ((g : Geometry) (s : State) → IsTrue old.tells → Holds g s old.now.disks → (array.g ≡ g) × Always mid (StandsFor array s))
+    → mid.tells ≡ old.tells → (IsTrue old.tells → Passes array.g old.now.disks) → EndsBy array ended mid new from to → SessionCause ended old new from to
+ended_cause array Done old mid new from to later port stands tells found by =
     (λ told. (array.g, found told), ⊎_elim (λ at_end. inl at_end) (λ took. inr (array.g, found, took)) by)
-ended_cause array Usage old mid new from to later port found by = absurd by
-ended_cause array (BadGeometry field) old mid new from to later port found by = absurd by
-ended_cause array (NotCreated why) old mid new from to later port found by = absurd by
-ended_cause array (NotMounted why) old mid new from to later port found by = absurd by
-ended_cause array (Stopped (serving.Array (denied.Refused why))) old mid new from to later port found by = absurd by
-ended_cause array (Stopped (serving.Array denied.LogFault)) old mid new from to later port found by =
+ended_cause array Usage old mid new from to later port stands tells found by = absurd by
+ended_cause array (BadGeometry field) old mid new from to later port stands tells found by = absurd by
+ended_cause array (NotCreated why) old mid new from to later port stands tells found by = absurd by
+ended_cause array (NotMounted why) old mid new from to later port stands tells found by = absurd by
+ended_cause array (Stopped (serving.Array (denied.Refused why))) old mid new from to later port stands tells found by = absurd by
+ended_cause array (Stopped (serving.Array denied.LogFault)) old mid new from to later port stands tells found by =
     (λ told. (array.g, found told), rose_since (old.faults 0) (mid.faults 0) (new.faults 0) (later 0) by)
-ended_cause array (Stopped (serving.Array (denied.MemberFault first second))) old mid new from to later port found by =
+ended_cause array (Stopped (serving.Array (denied.MemberFault first second))) old mid new from to later port stands tells found by =
     (λ told. (array.g, found told), (by.same, rose_since (old.faults (second + 1)) (mid.faults (second + 1)) (new.faults (second + 1)) (later (second + 1)) by.rose))
-ended_cause array (Stopped (serving.Array denied.Stopped)) old mid new from to later port found by = absurd by
-ended_cause array (Stopped serving.ReadFault) old mid new from to later port found by = (λ told. (array.g, found told), by)
-ended_cause array (Stopped serving.WriteFault) old mid new from to later port found by =
+ended_cause array (Stopped (serving.Array (denied.Damaged offset))) old mid new from to later port stands tells found by =
+    (λ told. (array.g, found told), λ told g s holds. by (subst IsTrue (sym tells) told) s (stands g s told holds).1)
+ended_cause array (Stopped (serving.Array denied.Stopped)) old mid new from to later port stands tells found by = absurd by
+ended_cause array (Stopped serving.ReadFault) old mid new from to later port stands tells found by = (λ told. (array.g, found told), by)
+ended_cause array (Stopped serving.WriteFault) old mid new from to later port stands tells found by =
     (λ told. (array.g, found told), rose_since old.port_faults mid.port_faults new.port_faults port by)
-ended_cause array (Stopped serving.TooLong) old mid new from to later port found by = (λ told. (array.g, found told), by)
-ended_cause array Port old mid new from to later port found by = absurd by
-ended_cause array Memory old mid new from to later port found by = λ told. (array.g, found told)
+ended_cause array (Stopped serving.TooLong) old mid new from to later port stands tells found by = (λ told. (array.g, found told), by)
+ended_cause array Port old mid new from to later port stands tells found by = absurd by
+ended_cause array Memory old mid new from to later port stands tells found by = λ told. (array.g, found told)
 
 -- and it isn't a refusal
 not_refused : (array : Mounted) (ended : Ended) (old new : View) (from to : Stream) → EndsBy array ended old new from to → is_refused ended ≡ true → ⊥
@@ -127,7 +130,7 @@ module _ (a b : View) (from : Stream) (mounted : Moves a b (Mounts a) (Mounts a)
     -- The lines were answered.
     pub session_works : (IsNoLog (a.sizes 0) → ⊥) → Works command_session ended a c from to
     session_works log = record {
-      cause = ended_cause array ended a b c from to mounted.faults mounted.port_faults
+      cause = ended_cause array ended a b c from to mounted.faults mounted.port_faults stands mounted.tells
           (λ told. let passed = found.passed told in record { h = passed.0; members = passed.1; own = passed.3 }) by;
       first = λ none. absurd (log none);
       refused = λ is. absurd (not_refused array ended b c from to by is);

@@ -7,7 +7,9 @@ use Rattle.trap_model.specs.declared.asked.Asked.{Asked}
 use Rattle.trap_model.specs.declared.numbers.Geometry.{Geometry}
 use Rattle.trap_format.specs.Checked.{first_broken, HasNumbers}
 use Rattle.trap_format.specs.declared.head.Head.{Head}
+use Rattle.trap_model.specs.declared.history.State.{State}
 use Rattle.trap_raid.specs.Members.{IsMember, IsOut}
+use Rattle.trap_array.specs.Holding.{Holds}
 use Rattle.trap_array.specs.Creating.{IsLowest}
 use Rattle.trap_array.specs.Mounting.{HasMembers, Refuses, MountFails}
 use Rattle.trap_array.specs.declared.fault.CreateFault.{CreateFault}
@@ -40,11 +42,17 @@ abbrev pub TookAll : View → Stream → Stream → Type 0
 TookAll old from to = (to.ended ≡ true)
     ⊎ ((g : Geometry) × (IsTrue old.tells → Passes g old.now.disks) × TookQuit g.block from to)
 
--- why a session stopped so; a refusal and a stopped array end none
+-- where the bank tells, the disks held no state on entry
+abbrev pub HeldNone : View → Type 0
+HeldNone old = IsTrue old.tells → (g : Geometry) (s : State) → Holds g s old.now.disks → ⊥
+
+-- Why a session stopped so. A refusal and a stopped array end none. A record that was read again is damaged only where
+-- the disks held no state.
 abbrev pub StoppedBy : SessionFault → View → View → Stream → Stream → Type 0
 StoppedBy (serving.Array (denied.Refused why)) old new from to = ⊥
 StoppedBy (serving.Array denied.LogFault) old new from to = Rose (old.faults 0) (new.faults 0)
 StoppedBy (serving.Array (denied.MemberFault first second)) old new from to = MemberRose first second old new
+StoppedBy (serving.Array (denied.Damaged offset)) old new from to = HeldNone old
 StoppedBy (serving.Array denied.Stopped) old new from to = ⊥
 StoppedBy serving.ReadFault old new from to = Rose from.faults to.faults
 StoppedBy serving.WriteFault old new from to = Rose old.port_faults new.port_faults

@@ -33,6 +33,7 @@ abbrev pub session_status : SessionFault → ℕ
 session_status (serving.Array (denied.Refused why)) = 6
 session_status (serving.Array denied.LogFault) = 6
 session_status (serving.Array (denied.MemberFault first second)) = 7
+session_status (serving.Array (denied.Damaged offset)) = 4
 session_status (serving.Array denied.Stopped) = 6
 session_status serving.ReadFault = 8
 session_status serving.WriteFault = 9
@@ -87,6 +88,7 @@ abbrev pub session_line : SessionFault → List ℕ
 session_line (serving.Array (denied.Refused why)) = fault_line (codes "log")
 session_line (serving.Array denied.LogFault) = fault_line (codes "log")
 session_line (serving.Array (denied.MemberFault first second)) = fault_line (codes "members " ++ pair first second)
+session_line (serving.Array (denied.Damaged offset)) = fault_line (codes "damaged " ++ decimal offset)
 session_line (serving.Array denied.Stopped) = fault_line (codes "log")
 session_line serving.ReadFault = fault_line (codes "input")
 session_line serving.WriteFault = []

@@ -58,6 +58,7 @@ fn session_status(why: SessionFault) -> u8
         SessionFault::Array(Denied::Refused(_)) => 6,
         SessionFault::Array(Denied::LogFault) => 6,
         SessionFault::Array(Denied::MemberFault { .. }) => 7,
+        SessionFault::Array(Denied::Damaged { .. }) => 4,
         SessionFault::Array(Denied::Stopped) => 6,
         SessionFault::ReadFault => 8,
         SessionFault::WriteFault => 9,
@@ -174,6 +175,11 @@ fn write_session(why: SessionFault, out: &mut [u8]) -> usize
         SessionFault::Array(Denied::MemberFault { first, second }) => {
             let at = put(out, 0, b"fault members ");
             let at = put_pair(out, at, first, second);
+            put(out, at, b"\n")
+        }
+        SessionFault::Array(Denied::Damaged { offset }) => {
+            let at = put(out, 0, b"fault damaged ");
+            let at = put_number(out, at, offset);
             put(out, at, b"\n")
         }
         SessionFault::Array(_) => put(out, 0, b"fault log\n"),

@@ -111,7 +111,7 @@ fn an_array_is_made_and_written(rt: HostRuntime) -> Result<(), Fail> {
             "session",
             "R 0\nR 8\nI\n",
             0,
-            "is 01000000000000000000000000000000\nno block\nno line\n"
+            "is 01000000000000000000000000000000\nno block\nis 0 2 0 100\n"
         )?
     );
     assert!(rt; bank.starved() == 0);
