@@ -1,6 +1,7 @@
 -- A past in memory: entries over a base, each with its record's header.
 use Rattle.std.specs.Prelude.{◌≡◌, ◌↔◌, ◌≤◌, ℕ, List, [], ◌∷◌, ◌++◌, All, map, Result, IsErr, MatchResult}
 use Rattle.trap_bank.specs.declared.disks.Failed.{Failed}
+use Rattle.trap_bank.specs.Faults.{Rose}
 use Rattle.trap_bank.specs.Counts.{one_more}
 use Rattle.trap_model.specs.declared.history.Entry.{Entry}
 use Rattle.trap_model.specs.declared.history.State.{State}
@@ -69,9 +70,14 @@ past_of m = record {
   faults = m.faults;
 }
 
+-- what calls may do: it stands for the same state, and no count of faults falls
+pub record Stays (old new : Memory) : Type 0 where
+  pub state : state_of new ≡ state_of old
+  pub faults : old.faults ≤ new.faults
+
 -- what it says of a fault: a call has failed
-abbrev pub has_failed : Memory → Failed → Type 0
-has_failed m fault = 1 ≤ m.faults
+abbrev pub HasFailed : Memory → Memory → Failed → Type 0
+HasFailed old new fault = Rose old.faults new.faults
 
 -- the base is an image, and each entry writes a block
 pub record IsMemory (m : Memory) : Type 0 where

@@ -71,13 +71,11 @@ pub record HasFewCalls (v : Past) : Type 0 where
   pub parities : v.parities ≤ 2 ^ 62
   pub snapshots : v.snapshots ≤ 2 ^ 62
 
--- A call fails only where the count of faults rose, and with a fault that has its cause. No count falls, and what was
--- once caused stays so.
-pub record HasBlame {S T F : Type 0} (view : S → Past) (caused : S → F → Type 0) (result : Result T F) (old new : S)
+-- A call fails only where the count of faults rose, and with a fault that has its cause. No count falls.
+pub record HasBlame {S T F : Type 0} (view : S → Past) (causes : S → S → F → Type 0) (result : Result T F) (old new : S)
     : Type 0 where
   pub cause : HasCause (view old).faults (view new).faults result
-  pub caused_now : IfErr result (λ fault. caused new fault)
-  pub caused_still : (fault : F) → caused old fault → caused new fault
+  pub caused : IfErr result (λ fault. causes old new fault)
 
 -- no call changes what a source has, and it still stands for what it stood for
 pub record Remains (old new : Past) : Type 0 where

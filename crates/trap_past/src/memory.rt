@@ -1,5 +1,6 @@
 //! A past in memory.
 
+ghost use Rattle.std.proofs.Common.{rules, ◌∙◌};
 ghost use Rattle.std.specs.Prelude.{◌≡◌, ◌↔◌, ◌^◌, ◌+◌, ◌-◌, ◌<◌, ◌≤◌, length, map, IfOk, IsErr, IsTrue, OnErr, OnOk};
 ghost use Rattle.trap_bank.specs.Counts.{one_more};
 ghost use Rattle.trap_index.specs.Indexed.{last_seq, item_at};
@@ -7,7 +8,7 @@ ghost use Rattle.trap_model.specs.Image.{volume, block_of, image_after, zero_ima
 ghost use Rattle.trap_model.specs.Records.{entry_at};
 ghost use Rattle.trap_model.specs.State.{image, image_at};
 ghost use Rattle.trap_model.specs.declared.history.State.{State};
-ghost use Rattle.trap_past.specs.Memory.{entry_of, state_of, index_of, past_of, zero_past, with_entry, has_failed, FailsAsChosen};
+ghost use Rattle.trap_past.specs.Memory.{entry_of, state_of, index_of, past_of, zero_past, with_entry, Stays, HasFailed, FailsAsChosen};
 ghost use Rattle.trap_past.specs.Past.{IsOf, IsRetained, HasBlame, GivesPresent, GivesParity, GivesSnapshot};
 ghost use Rattle.trap_past.specs.Undo.{parity_at};
 
@@ -150,7 +151,9 @@ impl Present for MemoryPast {
 
     ghost view = { past_of };
 
-    ghost caused = { has_failed };
+    ghost goes = { Stays };
+
+    ghost causes = { HasFailed };
 
     fn present(&mut self, block: u32, into: &mut [u8], _scratch: &mut [u8]) -> Result<(), Failed>
         requires block { block < (past_of self.old).has.volume }
@@ -160,7 +163,8 @@ impl Present for MemoryPast {
         ensures present { (s : State) → (past_of self.old).stands s
             → OnOk result (into.new ≡ block_of (image s) block) }
         ensures call { GivesPresent (past_of self.old) (past_of self.new) }
-        ensures blame { HasBlame past_of has_failed result self.old self.new }
+        ensures goes { Stays self.old self.new }
+        ensures blame { HasBlame past_of HasFailed result self.old self.new }
         ensures told { (s : State) → (past_of self.old).stands s → IsOf (past_of self.old).has s }
         ensures struck { FailsAsChosen result self.old self.new }
     {
@@ -169,6 +173,12 @@ impl Present for MemoryPast {
         into.copy_from_slice(contents_after(&self.base, &self.entries, block as usize).as_slice());
         Ok(())
     }
+
+    ghost goes_then = { λ a b c ab bc. record { state = bc.state ∙ ab.state; faults = Prim.search rules } };
+
+    ghost causes_since = { λ a b c fault ab bc. let before = ab.faults in Prim.search rules };
+
+    ghost causes_still = { λ a b c fault ab bc. let after = bc.faults in Prim.search rules };
 }
 
 impl Parities for MemoryPast {
@@ -179,7 +189,8 @@ impl Parities for MemoryPast {
         ensures parity { (s : State) → (past_of self.old).stands s
             → OnOk result (into.new ≡ parity_at s seq) }
         ensures call { GivesParity (past_of self.old) (past_of self.new) }
-        ensures blame { HasBlame past_of has_failed result self.old self.new }
+        ensures goes { Stays self.old self.new }
+        ensures blame { HasBlame past_of HasFailed result self.old self.new }
         ensures struck { FailsAsChosen result self.old self.new }
     {
         self.parities += 1;
@@ -198,7 +209,8 @@ impl Parities for MemoryPast {
         ensures snapshot { (s : State) → (past_of self.old).stands s
             → OnOk result (into.new ≡ (entry_at s seq).bytes) }
         ensures call { GivesSnapshot (past_of self.old) (past_of self.new) }
-        ensures blame { HasBlame past_of has_failed result self.old self.new }
+        ensures goes { Stays self.old self.new }
+        ensures blame { HasBlame past_of HasFailed result self.old self.new }
         ensures struck { FailsAsChosen result self.old self.new }
     {
         self.snapshots += 1;

@@ -15,7 +15,11 @@ pub trait Present {
 
     ghost view: { Self → Past };
 
-    ghost caused: { Self → Self.Fault → Type 0 };
+    // What calls may do to a source beside what `view` tells, from before the first of them to behind the last.
+    ghost goes: { Self → Self → Type 0 };
+
+    // Why such calls ended with a fault.
+    ghost causes: { Self → Self → Self.Fault → Type 0 };
 
     /// Gives the block's present contents. It may use `scratch`, which then holds any bytes.
     fn present(
@@ -31,10 +35,19 @@ pub trait Present {
         ensures present { (s : State) → (view self.old).stands s
             → OnOk result (into.new ≡ block_of (image s) block) }
         ensures call { GivesPresent (view self.old) (view self.new) }
-        ensures blame { HasBlame view caused result self.old self.new }
+        ensures goes { goes self.old self.new }
+        ensures blame { HasBlame view causes result self.old self.new }
 
         // The states that a source stands for are such that its numbers and items describe.
         ensures told { (s : State) → (view self.old).stands s → IsOf (view self.old).has s };
+
+    // Calls one after the other are calls.
+    ghost goes_then: { (a b c : Self) → goes a b → goes b c → goes a c };
+
+    // A fault of the last of some calls is one of them all, and what caused it stays true.
+    ghost causes_since: { (a b c : Self) (fault : Self.Fault) → goes a b → causes b c fault → causes a c fault };
+
+    ghost causes_still: { (a b c : Self) (fault : Self.Fault) → causes a b fault → goes b c → causes a c fault };
 }
 
 /// A source of the retained entries too.
@@ -47,7 +60,8 @@ pub trait Parities: Present {
         ensures parity { (s : State) → (Self.view self.old).stands s
             → OnOk result (into.new ≡ parity_at s seq) }
         ensures call { GivesParity (Self.view self.old) (Self.view self.new) }
-        ensures blame { HasBlame Self.view Self.caused result self.old self.new };
+        ensures goes { Self.goes self.old self.new }
+        ensures blame { HasBlame Self.view Self.causes result self.old self.new };
 
     /// Gives the contents that a marked entry writes.
     fn snapshot(&mut self, seq: u64, into: &mut [u8]) -> Result<(), Self::Fault>
@@ -58,5 +72,6 @@ pub trait Parities: Present {
         ensures snapshot { (s : State) → (Self.view self.old).stands s
             → OnOk result (into.new ≡ (entry_at s seq).bytes) }
         ensures call { GivesSnapshot (Self.view self.old) (Self.view self.new) }
-        ensures blame { HasBlame Self.view Self.caused result self.old self.new };
+        ensures goes { Self.goes self.old self.new }
+        ensures blame { HasBlame Self.view Self.causes result self.old self.new };
 }

@@ -33,7 +33,8 @@ pub fn block_at<P: Parities>(
     ensures turns { OnOk result
         (Undoes (path_to index.now block seq).turns (P.view source.old) (P.view source.new)) }
     ensures at_most { UndoesAtMost (path_to index.now block seq).turns (P.view source.old) (P.view source.new) }
-    ensures blame { HasBlame P.view P.caused result source.old source.new }
+    ensures goes { P.goes source.old source.new }
+    ensures blame { HasBlame P.view P.causes result source.old source.new }
 {
     source.present(block, into, scratch)?;
     let mut number = index.newest(block);

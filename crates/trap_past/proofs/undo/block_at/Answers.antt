@@ -5,7 +5,7 @@ use Rattle.trap_past.proofs.undo.block_at.Goals as goal
 pub loop-number-init : goal.loop-number-init
 loop-number-init g c = (
   trace_begins _ _ _ _ _ _ _ c.requires.index c.present.ensures.told c.requires.instant.high c.newest-number.ensures.newest c.present.ensures.call c.present.ensures.blame.cause.later c.in_ok-present.ensures.present,
-  c.present.ensures.blame.caused_still,
+  c.present.ensures.goes,
 )
 
 pub parity-requires-clause-retained : goal.parity-requires-clause-retained
@@ -36,7 +36,7 @@ loop-number-smaller g c =
 pub loop-number-preserved : goal.loop-number-preserved
 loop-number-preserved g c = (
   trace_goes_on _ _ _ _ _ _ _ c.newest-number.ensures.indexed c.loop-number.invariant.0 _ _ _ _ c.requires.index c.present.ensures.told c.requires.instant.block (omega arith) c.previous-number.ensures c.parity.ensures.call c.parity.ensures.blame.cause.later c.in_ok-parity.ensures.parity c.xor_into.ensures,
-  λ fault before. c.parity.ensures.blame.caused_still fault (c.loop-number.invariant.1 fault before),
+  g.met.P.Present.goes_then _ _ _ c.loop-number.invariant.1 c.parity.ensures.goes,
 )
 
 pub returns-clause-contents : goal.returns-clause-contents

@@ -4,7 +4,7 @@ use Rattle.trap_past.proofs.undo.block_at.Given as goal
 abbrev pub invariant-loop-number : goal.invariant-loop-number
 invariant-loop-number g l =
     Traced l.index (g.P.Present.view l.fn.source) (g.P.Present.view l.source) l.block l.seq l.number l.into
-    × ((fault : _) → g.P.Present.caused l.fn.source fault → g.P.Present.caused l.source fault)
+    × g.P.Present.goes l.fn.source l.source
 
 abbrev pub decreases-loop-number : goal.decreases-loop-number
 decreases-loop-number g l = l.number
