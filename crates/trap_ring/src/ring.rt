@@ -103,6 +103,7 @@ impl Ring {
             → OnOk result (RingHas self.now at buf.new (B.view bank.old).now.disks) }
 
         // At most two reads, where each call raises the moment by one.
+        ensures way { (B.view bank.new).by_one ≡ (B.view bank.old).by_one }
         ensures calls { IsTrue (B.view bank.old).tells → IsTrue (B.view bank.old).by_one
             → (B.view bank.new).moment ≤ (B.view bank.old).moment + 2 }
         ensures any_moment { Moves (B.view bank.old) (B.view bank.new) Same Same }
