@@ -1,47 +1,23 @@
--- Going back over a block's entries, whose records are read again.
-use Rattle.std.proofs.Common.{◌≡◌, ℕ, ◌+◌, ◌<◌, ◌≤◌, List, length, IsTrue, refl, ap, sym, ◌∙◌, subst, arith}
-use Rattle.trap_bank.specs.Disks.{Contents, View}
-use Rattle.trap_block.specs.Xor.{xor}
-use Rattle.trap_index.specs.Indexed.{last_seq, newest, item_at}
-use Rattle.trap_index.specs.Keeping.{IsIndexed}
-use Rattle.trap_model.specs.declared.history.State.{State}
+-- The log as a source: what its calls leave, and how many reads they take.
+use Rattle.std.proofs.Common.{◌≡◌, List, ℕ, ◌+◌, ◌-◌, ◌*◌, ◌<◌, ◌≤◌, Option, Some, None, Result, IfErr, IsErrOf, IsTrue, refl, ap, sym, ◌∙◌, subst, arith}
+use Rattle.std.proofs.Math.Nat.{mul-zero, mul-one, mul-le-mul_left, lt_of_not-le}
+use Rattle.trap_bank.specs.Disks.{View}
+use Rattle.trap_index.specs.Indexed.{Indexed, IsLastBy}
 use Rattle.trap_model.specs.declared.numbers.Geometry.{Geometry}
-use Rattle.trap_model.specs.Image.{volume, block_of}
-use Rattle.trap_model.specs.State.{image, image_at, IsValid}
-use Rattle.trap_past.specs.Past.{Past, IsIndexOf}
-use Rattle.trap_past.specs.Undo.{parity_at}
+use Rattle.trap_model.specs.Image.{volume}
+use Rattle.trap_model.specs.State.{IsValid}
+use Rattle.trap_past.specs.Past.{IsIndexOf}
 use Rattle.trap_past.proofs.Telling.{of_described}
-use Rattle.trap_past.proofs.Tracing.{IsLawful, Traced, trace_begins, trace_retained, trace_falls, trace_goes_on, trace_ends}
-use Rattle.trap_raid.specs.Reads.{OnlyReads}
-use Rattle.trap_raid.proofs.ReadLemmas.{only_reads_then, still_tells}
-use Rattle.trap_array.specs.Calls.{Mounted, StandsFor, going}
-use Rattle.trap_array.specs.Instants.{CanLookBack, HasEntry, HasInstant, FailsLooking}
-use Rattle.trap_array.specs.Log.{Log, Buffers, AreFor}
+use Rattle.trap_past.proofs.Tracing.{IsLawful}
+use Rattle.trap_raid.specs.Reads.{OnlyReads, ReadCosts, Costs, CostsAtMost}
+use Rattle.trap_stage.specs.Staged.{Staged, newest_at}
+use Rattle.trap_model.specs.declared.history.State.{State}
+use Rattle.trap_array.specs.Calls.{StandsFor, going}
+use Rattle.trap_array.specs.Instants.{CanLookBack}
+use Rattle.trap_array.specs.Log.{Log}
+use Rattle.trap_array.specs.Sources.{Counts, past_of, CallsAtMost, present_reads, LooksOn, LooksInVain}
 use Rattle.trap_array.specs.declared.fault.Denied.{Denied}
-use Rattle.trap_array.specs.declared.fault.Denied.TheVariants.{Refused, LogFault, MemberFault, Damaged, Stopped}
-
--- the log as a source of the past: it stands for what a read gives now
-abbrev pub past_of : Log → View → Past
-past_of log v = record {
-  has = record { volume = volume log.g; size = log.g.block; first = log.index.first; last = last_seq log.index; item = item_at log.index };
-  stands = λ s. IsTrue v.tells × StandsFor (going log) s v.now.disks;
-  presents = 0;
-  parities = 0;
-  snapshots = 0;
-  faults = 0;
-}
-
--- and after the present was read, and so many parities
-abbrev pub past_after : Log → View → ℕ → Past
-past_after log v turns = record (past_of log v) { presents = 1; parities = turns }
-
--- Some of the block's parities were taken back, and nothing but reads was done. `number` is that of the next older entry.
-pub record Looked (log : Log) (old new : View) (room : Buffers) (block seq number : ℕ) (into : List ℕ) : Type 0 where
-  pub turns : ℕ
-  pub traced : Traced log.index (past_of log old) (past_after log old turns) block seq number into
-  pub reads : OnlyReads old new
-  pub for_ : AreFor log.g.block room
-  pub long : length into ≡ log.g.block
+use Rattle.trap_array.specs.declared.fault.Denied.TheVariants.{Damaged}
 
 -- the disks have their sizes still
 pub can_still : (log : Log) (old new : View) → CanLookBack log old → OnlyReads old new → CanLookBack log new
@@ -53,25 +29,8 @@ can_still log old new can reads = record {
   };
 }
 
--- and they stand for the same states
-pub stands_still : (log : Log) (old new : View) (s : State) → OnlyReads old new → IsTrue old.tells → StandsFor (going log) s old.now.disks → StandsFor (going log) s new.now.disks
-stands_still log old new s reads told stands = subst (λ (c : Contents). StandsFor (going log) s c.disks) (sym (reads.same told)) stands
-
--- a fault since is one of the whole
-pub fails_since : (a : Mounted) (u v w : View) → OnlyReads u v → (e : Denied) → FailsLooking a v w e → FailsLooking a u w e
-fails_since a u v w reads (Refused why) fails = fails
-fails_since a u v w reads LogFault fails = omega (arith, fails, reads.moves.faults 0)
-fails_since a u v w reads (MemberFault first second) fails = record {
-  same = fails.same;
-  inside = fails.inside;
-  counts = fails.counts;
-  rose = omega (arith, fails.rose, reads.moves.faults (second + 1));
-}
-fails_since a u v w reads (Damaged offset) fails = fails
-fails_since a u v w reads Stopped fails = fails
-
-module _ (log : Log) (v : View) (same : log.index.g ≡ log.g) where
-  pub index_is : IsIndexOf log.index (past_of log v).has
+module _ (log : Log) (v : View) (n : Counts) (same : log.index.g ≡ log.g) where
+  pub index_is : IsIndexOf log.index (past_of log v n).has
   index_is = record {
     first = refl;
     last = refl;
@@ -79,57 +38,63 @@ module _ (log : Log) (v : View) (same : log.index.g ≡ log.g) where
     volume = (let is = ap volume same in omega arith);
   }
 
-  pub lawful : IsLawful (past_of log v)
+  pub lawful : IsLawful (past_of log v n)
   lawful s stands =
-      of_described log.index s (past_of log v).has stands.1.index
+      of_described log.index s (past_of log v n).has stands.1.index
       (subst (λ (g : Geometry). IsValid g s) (sym same) stands.1.by.fits.valid) index_is (ap volume (sym same)) (ap (λ (g : Geometry). g.block) (sym same))
 
-pub look_begins : (log : Log) (old new : View) (room : Buffers) (block seq number : ℕ) (into : List ℕ) → log.index.g ≡ log.g → HasInstant log.index seq → number ≡ newest block log.index.recs
-    → (IsTrue old.tells → (s : State) → StandsFor (going log) s old.now.disks → into ≡ block_of (image s) block) → OnlyReads old new → AreFor log.g.block room → length into ≡ log.g.block
-    → Looked log old new room block seq number into
-look_begins log old new room block seq number into same instant is bytes reads for_ long = record {
-  turns = 0;
-  traced = trace_begins log.index (past_of log old) (past_after log old 0) block seq number into (index_is log old same) (lawful log old same) instant.high is
-      (record {
-        remains = record { has = refl; stands = λ s stood. stood };
-        presents = refl;
-        parities = refl;
-        snapshots = refl;
-      }) (omega arith) (λ s stands. bytes stands.0 s stands.1);
-  reads = reads;
-  for_ = for_;
-  long = long;
+-- ---- how many reads
+none_called : (calls : ℕ) (v : View) → CallsAtMost calls v v
+none_called calls v = record { way = refl; moment = λ told one. omega arith }
+
+few_calls : (few calls : ℕ) (old new : View) → few ≤ calls → CostsAtMost few old new → CallsAtMost calls old new
+few_calls few calls old new most costs = record {
+  way = costs.way;
+  moment = λ told one. (let at = costs.moment told one in omega arith);
 }
 
-module _ (log : Log) (old mid : View) (room : Buffers) (block seq number : ℕ) (into : List ℕ) (is : IsIndexed log.index) (was : Looked log old mid room block seq number into) where
-  pub look_entry : seq < number → HasEntry log.index number
-  look_entry above =
-      let at = trace_retained log.index (past_of log old) (past_after log old was.turns) block seq number into is was.traced above in
-      record { low = at.0; high = at.1 }
+exact_calls : (few calls : ℕ) (old new : View) → few ≤ calls → Costs few old new → CallsAtMost calls old new
+exact_calls few calls old new most costs = record {
+  way = costs.way;
+  moment = λ told one. (let at = costs.moment told one in omega arith);
+}
 
-  pub look_falls : (older : ℕ) → seq < number → older ≡ (item_at log.index number).prev → older < number
-  look_falls older above prev = trace_falls log.index (past_of log old) (past_after log old was.turns) block seq number into is was.traced older above prev
+-- a read of a place takes as many as the present contents of a block
+pub place_calls : {T E : Type 0} (result : Result T E) (g : Geometry) (lost : Option ℕ) (writes : List Staged) (row member : ℕ) (old new : View) → ReadCosts g lost writes row member result old new → CallsAtMost (present_reads g lost) old new
+place_calls result g (Some gone) writes row member old new costs = few_calls (g.members - 1) (g.members - 1) old new (omega arith) costs.most
+place_calls result g None writes row member old new costs = by_pending (newest_at g writes row member) refl
+  where
+    by_pending : (found : Option (List ℕ)) → newest_at g writes row member ≡ found → CallsAtMost 1 old new
+    by_pending None is = exact_calls 1 1 old new (omega arith) (costs.own (λ same. cc) is)
+    by_pending (Some bytes) is = exact_calls 0 1 old new (omega arith) (costs.pending (λ same. cc))
 
-  pub look_goes_on : (new : View) (next : Buffers) (older : ℕ) (after : List ℕ) → log.index.g ≡ log.g → block < volume log.g → seq < number → older ≡ (item_at log.index number).prev
-      → (IsTrue mid.tells → (s : State) → StandsFor (going log) s mid.now.disks → next.scratch ≡ parity_at s number) → after ≡ xor into next.scratch
-      → OnlyReads mid new → AreFor log.g.block next → length after ≡ log.g.block
-      → Looked log old new next block seq older after
-  look_goes_on new next older after same inside above prev parity xored reads for_ long = record {
-    turns = was.turns + 1;
-    traced = trace_goes_on log.index (past_of log old) (past_after log old was.turns) block seq number into is was.traced (past_after log old (was.turns + 1)) older next.scratch after
-        (index_is log old same) (lawful log old same) inside above prev
-        (record {
-          remains = record { has = refl; stands = λ s stood. stood };
-          presents = refl;
-          parities = refl;
-          snapshots = refl;
-        }) (omega arith)
-        (λ s stands. parity (still_tells old mid was.reads stands.0) s (stands_still log old mid s was.reads stands.0 stands.1)) xored;
-    reads = only_reads_then old mid new was.reads reads;
-    for_ = for_;
-    long = long;
-  }
+-- no calls yet
+abbrev pub no_counts : Counts
+no_counts = record { presents = 0; parities = 0; snapshots = 0; faults = 0 }
 
-  pub look_ends : log.index.g ≡ log.g → log.index.first ≤ seq → number ≤ seq → IsTrue old.tells → (s : State) → StandsFor (going log) s old.now.disks → into ≡ block_of (image_at s seq) block
-  look_ends same low met told s stands =
-      trace_ends log.index (past_of log old) (past_after log old was.turns) block seq number into is was.traced (index_is log old same) (lawful log old same) low met s (told, stands)
+-- one present block and so many parities
+pub look_calls : (log : Log) (n : Counts) (turns : ℕ) (old new : View) → n.presents ≤ 0 + 1 → n.parities ≤ 0 + turns → n.snapshots ≡ 0 → LooksOn log no_counts n old new → CallsAtMost (present_reads log.g log.head.lost + 2 * turns) old new
+look_calls log n turns old new one few none looks =
+    let none_is : present_reads log.g log.head.lost * 0 ≡ 0 = mul-zero (present_reads log.g log.head.lost) in
+    let most : present_reads log.g log.head.lost * n.presents ≤ present_reads log.g log.head.lost * 1 = mul-le-mul_left (present_reads log.g log.head.lost) (omega arith) in
+    let one_is : present_reads log.g log.head.lost * 1 ≡ present_reads log.g log.head.lost = mul-one (present_reads log.g log.head.lost) in
+    record { way = looks.way; moment = λ told by_one. (let calls = looks.calls told by_one in omega arith) }
+
+-- a record isn't damaged where the log stands for a state
+pub look_damaged : (log same : Log) (old new : View) (result : Result (Unit {0}) Denied) (offset : ℕ) → IfErr result (λ fault. (log ≡ same) × LooksInVain log old new fault) → IsErrOf result (Damaged offset) → IsTrue old.tells → (s : State) → StandsFor (going log) s old.now.disks → ⊥
+look_damaged log same old new result offset caused is told s stands =
+    (subst (λ (r : Result (Unit {0}) Denied). IfErr r (λ fault. (log ≡ same) × LooksInVain log old new fault)) is caused).1.damaged offset refl told s stands
+
+-- ---- there is one last number by a time
+none_later : (i : Indexed) (time p q : ℕ) → IsLastBy i time p → IsLastBy i time q → p < q → ⊥
+none_later i time p q one other less =
+    let low = one.low in
+    let after = one.later q less other.high in
+    let by = other.by q (omega arith) (omega arith) in
+    omega arith
+
+pub one_last_by : (i : Indexed) (time p q : ℕ) → IsLastBy i time p → IsLastBy i time q → p ≡ q
+one_last_by i time p q one other =
+    let not_above : p < q + 1 = lt_of_not-le (λ (above : q + 1 ≤ p). none_later i time q p other one (omega arith)) in
+    let not_below : q < p + 1 = lt_of_not-le (λ (below : p + 1 ≤ q). none_later i time p q one other (omega arith)) in
+    omega arith

@@ -1,5 +1,5 @@
 -- The records of a state's entries, as they are read again.
-use Rattle.std.proofs.Common.{◌≡◌, ℕ, ◌+◌, ◌-◌, ◌^◌, ◌<◌, ◌≤◌, List, [], ◌++◌, length, take, drop, refl, ap, sym, ◌∙◌, subst, arith, length-take, take_all, take_at, append-nil, Bool, true, false, ◌&&◌, eqb, IsTrue}
+use Rattle.std.proofs.Common.{◌≡◌, ℕ, ◌+◌, ◌-◌, ◌^◌, ◌<◌, ◌≤◌, List, [], ◌++◌, length, take, drop, refl, ap, sym, ◌∙◌, subst, arith, length-take, take_all, take_at, append-nil, Bool, true, false, ◌&&◌, eqb, IsTrue, if◌then◌else◌}
 use Rattle.std.specs.Bool.{beq}
 use Rattle.std.proofs.lemmas.Bool.{eqb-true, eq-eqb, false≢true}
 use Rattle.trap_bank.specs.Disks.{Disks}
@@ -17,6 +17,7 @@ use Rattle.trap_model.specs.declared.numbers.Geometry.{Geometry}
 use Rattle.trap_model.specs.Limits.{greatest_record}
 use Rattle.trap_model.specs.LogRecord.{LogRecord}
 use Rattle.trap_model.specs.Records.{rec_of, record_of, records, entry_at, change_code, snapshot_code}
+use Rattle.trap_model.specs.Size.{code_of}
 use Rattle.trap_model.specs.State.{last, IsEntry, IsValid}
 use Rattle.trap_model.specs.ZeroRun.{ZeroRun}
 use Rattle.trap_model.proofs.CodeOf.{code_of_spells}
@@ -35,6 +36,9 @@ use Rattle.trap_array.specs.Calls.{StandsFor, going}
 use Rattle.trap_array.specs.Holding.{log_ring}
 use Rattle.trap_array.specs.Instants.{HasEntry}
 use Rattle.trap_array.specs.Log.{Log}
+use Rattle.trap_array.specs.Sources.{code_at, part_block}
+use Rattle.trap_array.specs.declared.source.Part.{Part}
+use Rattle.trap_array.specs.declared.source.Part.TheVariants.{Parity, Snapshot}
 
 -- a record that was found is the one of a header where the headers are equal
 pub found_same : (size : ℕ) (rec found : LogRec) (used : ℕ) (bytes : List ℕ) → length bytes ≡ record_len rec → IsWhole size found used bytes → found ≡ rec → IsWhole size rec (length bytes) bytes
@@ -183,6 +187,20 @@ module _ (g : Geometry) (i : Indexed) (s : State) (q : ℕ) (valid : IsValid g s
       let change : length (xor (block_before s q) (entry_at s q).bytes) ≡ g.block = length-xor (block_before s q) (entry_at s q).bytes (is_entry.size ∙ sym long) ∙ long in
       (ZeroRun-apart into (xor (block_before s q) (entry_at s q).bytes) (parity_of (keeping.rec_of q (item_at i q)) bytes) (change_code (block_before s q) (entry_at s q)) [] [] (block ∙ sym change) (omega arith) spells (code_of_spells (xor (block_before s q) (entry_at s q).bytes)) (ap (λ (l : List ℕ). l ++ []) apart.1)).0
 
+  -- and what it holds of a marked entry is what that writes
+  pub told_snapshot : (r : RingPlace) (bytes into : List ℕ) (disks : Disks) → RingHas r i.first_off (records s) disks → RingHas r (item_at i q).off bytes disks → length bytes ≡ record_len (keeping.rec_of q (item_at i q)) → length into ≡ g.block → IsTrue (item_at i q).snap → ZeroRun into (snapshot_of (keeping.rec_of q (item_at i q)) bytes) → into ≡ (entry_at s q).bytes
+  told_snapshot r bytes into disks ring has size block marked spells =
+      let is = bytes_are r bytes disks ring has size in
+      let whole = told_whole r bytes disks ring has size in
+      let small : g.block < 2 ^ 15 = omega (arith, g.within.block_most) in
+      let all : take (length bytes) bytes ≡ bytes = take_all (length bytes) bytes (omega arith) in
+      let apart = LogRecord-apart g.block (keeping.rec_of q (item_at i q)) (keeping.rec_of q (item_at i q)) (parity_of (keeping.rec_of q (item_at i q)) bytes) (change_code (block_before s q) (entry_at s q)) (snapshot_of (keeping.rec_of q (item_at i q)) bytes) (snapshot_code (entry_at s q)) (take (length bytes) bytes) (record_of q (block_before s q) (entry_at s q)) [] [] small whole.is is_record (ap (λ (l : List ℕ). l ++ []) (all ∙ is)) in
+      let told = item_told i s q describes low_in high_in in
+      let snap : (entry_at s q).snap ≡ true = sym told.snap ∙ marked in
+      let code : snapshot_code (entry_at s q) ≡ code_of (entry_at s q).bytes = ap (λ (b : Bool). if b then code_of (entry_at s q).bytes else []) snap in
+      let long_bytes : length (entry_at s q).bytes ≡ g.block = is_entry.size in
+      (ZeroRun-apart into (entry_at s q).bytes (snapshot_of (keeping.rec_of q (item_at i q)) bytes) (code_of (entry_at s q).bytes) [] [] (block ∙ sym long_bytes) (omega arith) spells (code_of_spells (entry_at s q).bytes) (ap (λ (l : List ℕ). l ++ []) (apart.2 ∙ code))).0
+
 -- the same, of the log's array and an item that was taken from its index
 module _ (log : Log) (s : State) (disks : Disks) (q : ℕ) (item : Item) (stands : StandsFor (going log) s disks) (has : HasEntry log.index q) (is : item ≡ item_at log.index q) (time : item.time < 2 ^ 64) where
   time_of : (item_at log.index q).time < 2 ^ 64
@@ -209,7 +227,17 @@ module _ (log : Log) (s : State) (disks : Disks) (q : ℕ) (item : Item) (stands
     is_whole = subst (λ (r : LogRec). IsWhole log.g.block r (length bytes) bytes) header_is
         (told_whole log.g log.index s q stands.by.fits.valid stands.index has.low has.high time_of (log_ring log.g) bytes disks ring_there bytes_there long_is)
 
-    pub is_parity : (into : List ℕ) → length into ≡ log.g.block → ZeroRun into (parity_of rec bytes) → into ≡ parity_at s q
+    is_parity : (into : List ℕ) → length into ≡ log.g.block → ZeroRun into (parity_of rec bytes) → into ≡ parity_at s q
     is_parity into block spells =
         told_parity log.g log.index s q stands.by.fits.valid stands.index has.low has.high time_of (log_ring log.g) bytes into disks ring_there bytes_there long_is block
         (subst (λ (r : LogRec). ZeroRun into (parity_of r bytes)) (sym header_is) spells)
+
+    is_snapshot : (into : List ℕ) → length into ≡ log.g.block → IsTrue (item_at log.index q).snap → ZeroRun into (snapshot_of rec bytes) → into ≡ (entry_at s q).bytes
+    is_snapshot into block marked spells =
+        told_snapshot log.g log.index s q stands.by.fits.valid stands.index has.low has.high time_of (log_ring log.g) bytes into disks ring_there bytes_there long_is block marked
+        (subst (λ (r : LogRec). ZeroRun into (snapshot_of r bytes)) (sym header_is) spells)
+
+    -- what was decoded is what the part stands for
+    pub is_part : (part : Part) (into : List ℕ) → length into ≡ log.g.block → (part ≡ Snapshot → IsTrue (item_at log.index q).snap) → ZeroRun into (code_at part rec bytes) → into ≡ part_block part s q
+    is_part Parity into block marked spells = is_parity into block spells
+    is_part Snapshot into block marked spells = is_snapshot into block (marked refl) spells

@@ -11,3 +11,5 @@ pub mod Creating
 pub mod MountSteps
 pub mod Reading
 pub mod Instants
+pub mod Sources
+pub mod SourceLaws

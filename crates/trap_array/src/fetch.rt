@@ -7,6 +7,7 @@ ghost use Rattle.trap_model.specs.declared.history.State.{State};
 ghost use Rattle.trap_raid.specs.Reads.{OnlyReads, HasFailed};
 ghost use Rattle.trap_array.specs.Calls.{StandsFor, HasSizes, going};
 ghost use Rattle.trap_array.specs.Log.{AreFor};
+ghost use Rattle.trap_array.specs.Sources.{CallsAtMost, present_reads};
 
 use crate::buffers::Buffers;
 use crate::log::Log;
@@ -15,8 +16,35 @@ use trap_map::place_of;
 use trap_raid::{MemberFailed, Raid};
 
 impl Log {
-    /// Fills `into` with the contents of a block of the array.
+    /// Fills `into` with the contents of a block of the array. It uses `scratch`, also a block.
     pub(crate) fn fetch<B: Bank>(
+        &self,
+        bank: &mut B,
+        block: u32,
+        into: &mut [u8],
+        scratch: &mut [u8],
+    ) -> Result<(), MemberFailed>
+        requires sizes { HasSizes self.now.g self.now.head.lost self.now.head.rebuilt (B.view bank.old) }
+        requires block { block < volume self.now.g }
+        requires into { length into.old ≡ self.now.g.block }
+        requires scratch { length scratch.old ≡ self.now.g.block }
+        ensures bytes { IsTrue (B.view bank.old).tells → (s : State) → StandsFor (going self.now) s (B.view bank.old).now.disks
+            → OnOk result (into.new ≡ block_of (image s) block) }
+        ensures cause { IfErr result (λ failed. HasFailed self.now.g self.now.head.lost
+            (B.view bank.old) (B.view bank.new) failed.member) }
+        ensures calls { CallsAtMost (present_reads self.now.g self.now.head.lost) (B.view bank.old) (B.view bank.new) }
+        ensures any_moment { OnlyReads (B.view bank.old) (B.view bank.new) }
+
+        // What the type says of the index.
+        ensures indexed { self.now.index.g ≡ self.now.g }
+    {
+        let raid = Raid::new(self.g, self.head.lost, self.head.rebuilt);
+        let place = place_of(&self.g, block);
+        raid.read_place(bank, &self.stage, place, into, scratch)
+    }
+
+    /// The same, where `room` has the scratch.
+    pub(crate) fn read_block<B: Bank>(
         &self,
         bank: &mut B,
         room: &mut Buffers,
@@ -32,10 +60,9 @@ impl Log {
         ensures room { AreFor self.now.g.block room.new }
         ensures cause { IfErr result (λ failed. HasFailed self.now.g self.now.head.lost
             (B.view bank.old) (B.view bank.new) failed.member) }
+        ensures calls { CallsAtMost (present_reads self.now.g self.now.head.lost) (B.view bank.old) (B.view bank.new) }
         ensures any_moment { OnlyReads (B.view bank.old) (B.view bank.new) }
     {
-        let raid = Raid::new(self.g, self.head.lost, self.head.rebuilt);
-        let place = place_of(&self.g, block);
-        raid.read_place(bank, &self.stage, place, into, room.scratch.as_mut_slice())
+        self.fetch(bank, block, into, room.scratch.as_mut_slice())
     }
 }

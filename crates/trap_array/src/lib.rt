@@ -14,6 +14,7 @@ mod fetch;
 mod keep;
 pub mod laws;
 mod log;
+mod log_past;
 mod mount;
 pub mod mount_laws;
 mod past;

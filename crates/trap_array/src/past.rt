@@ -15,6 +15,7 @@ ghost use Rattle.trap_raid.specs.Reads.{OnlyReads};
 ghost use Rattle.trap_array.specs.Calls.{IsReady, StandsFor, AtReplies, MemberFails, is_fault, going};
 ghost use Rattle.trap_array.specs.Instants.{CanLookBack, DeniesInstant, number_refused, time_refused};
 ghost use Rattle.trap_array.specs.Log.{AreFor};
+ghost use Rattle.trap_array.specs.Sources.{CallsAtMost, reads_back};
 ghost use Rattle.trap_array.specs.declared.fault.Denied.TheVariants as Denied;
 
 use crate::buffers::Buffers;
@@ -38,6 +39,11 @@ impl Array {
         requires ready { IsReady self.old (B.view bank.old) }
         ensures reply { IsTrue (B.view bank.old).tells → (s : State) → Always (B.view bank.old) (StandsFor self.old s)
             → AtReplies result into.new ((step self.old.g).reply s (request.At seq block)) }
+
+        // One read for the present contents, and one for each later write of the block, or two where its record goes round
+        // the ring's end.
+        ensures calls { CallsAtMost (reads_back self.old.g self.old.head.lost self.old.index block seq)
+            (B.view bank.old) (B.view bank.new) }
         ensures ready { IsReady self.new (B.view bank.new) }
         ensures same { self.new ≡ record self.old { is_stopped = self.old.is_stopped || is_fault result } }
         ensures contents { IsTrue (B.view bank.old).tells → (B.view bank.new).now ≡ (B.view bank.old).now }
@@ -83,6 +89,8 @@ impl Array {
         requires ready { IsReady self.old (B.view bank.old) }
         ensures reply { IsTrue (B.view bank.old).tells → (s : State) → Always (B.view bank.old) (StandsFor self.old s)
             → AtReplies result into.new ((step self.old.g).reply s (request.By time block)) }
+        ensures calls { (seq : ℕ) → IsLastBy self.old.index time seq → CallsAtMost
+            (reads_back self.old.g self.old.head.lost self.old.index block seq) (B.view bank.old) (B.view bank.new) }
         ensures ready { IsReady self.new (B.view bank.new) }
         ensures same { self.new ≡ record self.old { is_stopped = self.old.is_stopped || is_fault result } }
         ensures contents { IsTrue (B.view bank.old).tells → (B.view bank.new).now ≡ (B.view bank.old).now }
@@ -131,12 +139,21 @@ impl Log {
             → (s : State) → StandsFor (going self.now) s (B.view bank.old).now.disks → ⊥ }
         ensures room { AreFor self.now.g.block room.new }
         ensures cause { IfErr result (DeniesInstant (going self.now) (B.view bank.old) (B.view bank.new)) }
+        ensures calls { CallsAtMost (reads_back self.now.g self.now.head.lost self.now.index block seq)
+            (B.view bank.old) (B.view bank.new) }
         ensures any_moment { OnlyReads (B.view bank.old) (B.view bank.new) }
     {
         if let Some(why) = self.number_refusal(seq) {
             return Err(Denied::Refused(why));
         }
-        self.undo(bank, room, block, seq, into)
+        self.undo(
+            bank,
+            block,
+            seq,
+            into,
+            room.scratch.as_mut_slice(),
+            room.spelled.as_mut_slice(),
+        )
     }
 
     /// Fills `into` with a block of the array after all entries up to this time, where that is retained.
@@ -158,13 +175,22 @@ impl Log {
             → (s : State) → StandsFor (going self.now) s (B.view bank.old).now.disks → ⊥ }
         ensures room { AreFor self.now.g.block room.new }
         ensures cause { IfErr result (DeniesInstant (going self.now) (B.view bank.old) (B.view bank.new)) }
+        ensures calls { (seq : ℕ) → IsLastBy self.now.index time seq → CallsAtMost
+            (reads_back self.now.g self.now.head.lost self.now.index block seq) (B.view bank.old) (B.view bank.new) }
         ensures any_moment { OnlyReads (B.view bank.old) (B.view bank.new) }
     {
         if let Some(why) = self.time_refusal(time) {
             return Err(Denied::Refused(why));
         }
         let seq = self.last_by_time(time);
-        self.undo(bank, room, block, seq, into)
+        self.undo(
+            bank,
+            block,
+            seq,
+            into,
+            room.scratch.as_mut_slice(),
+            room.spelled.as_mut_slice(),
+        )
     }
 
     /// Why a number is refused: it is below what is retained, or above the last one.

@@ -8,6 +8,7 @@ ghost use Rattle.trap_model.specs.Image.{volume};
 ghost use Rattle.trap_model.specs.declared.history.State.{State};
 ghost use Rattle.trap_model.specs.declared.request.Request.TheVariants as request;
 ghost use Rattle.trap_model.specs.declared.request.Refusal.TheVariants as refusal;
+ghost use Rattle.trap_array.specs.Sources.{CallsAtMost, present_reads};
 ghost use Rattle.trap_array.specs.Calls.{IsReady, StandsFor, ReadReplies, MemberFails, is_fault};
 
 use crate::planning::volume_of;
@@ -23,6 +24,9 @@ impl Array {
         requires ready { IsReady self.old (B.view bank.old) }
         ensures reply { IsTrue (B.view bank.old).tells → (s : State) → Always (B.view bank.old) (StandsFor self.old s)
             → ReadReplies result into.new ((step self.old.g).reply s (request.Read block)) }
+
+        // One read, or where a member is lost at most one of each other member.
+        ensures calls { CallsAtMost (present_reads self.old.g self.old.head.lost) (B.view bank.old) (B.view bank.new) }
         ensures ready { IsReady self.new (B.view bank.new) }
         ensures same { self.new ≡ record self.old { is_stopped = self.old.is_stopped || is_fault result } }
         ensures contents { IsTrue (B.view bank.old).tells → (B.view bank.new).now ≡ (B.view bank.old).now }
@@ -46,7 +50,10 @@ impl Array {
         if self.is_stopped {
             return Err(Denied::Stopped);
         }
-        match self.log.fetch(bank, &mut self.buffers, block as u32, into) {
+        match self
+            .log
+            .read_block(bank, &mut self.buffers, block as u32, into)
+        {
             Ok(()) => Ok(()),
             Err(failed) => {
                 // A fault stops the array.

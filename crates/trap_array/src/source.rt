@@ -1,35 +1,41 @@
-//! The log as a source of the past: a block's present contents, with the parities of its later entries taken back. Each
-//! parity is in the entry's record, which is read again.
+//! The records of retained entries, which are read again; and a block as it was, over the log as a source.
 
 ghost use Rattle.std.specs.Prelude.{◌≡◌, ◌↔◌, ℕ, ◌^◌, ◌<◌, ◌≤◌, length, IsTrue, IsErrOf, IfErr, OnOk};
-ghost use Rattle.trap_block.specs.Xor.{xor};
-ghost use Rattle.trap_index.specs.Indexed.{newest, item_at, last_seq};
+ghost use Rattle.trap_index.specs.Indexed.{item_at};
 ghost use Rattle.trap_index.specs.Keeping as keeping;
-ghost use Rattle.trap_index.specs.Keeping.{IsIndexed};
 ghost use Rattle.trap_model.specs.Image.{volume, block_of};
 ghost use Rattle.trap_model.specs.Limits.{greatest_record};
 ghost use Rattle.trap_model.specs.State.{image_at};
 ghost use Rattle.trap_model.specs.ZeroRun.{ZeroRun};
 ghost use Rattle.trap_model.specs.declared.history.State.{State};
-ghost use Rattle.trap_past.specs.Undo.{parity_at};
 ghost use Rattle.trap_raid.specs.Reads.{OnlyReads};
-ghost use Rattle.trap_record.specs.Reading.{IsWhole, record_len, parity_of};
+ghost use Rattle.trap_record.specs.Reading.{IsWhole, record_len, parity_of, snapshot_of};
 ghost use Rattle.trap_ring.specs.Ring.{ring_pos};
-ghost use Rattle.trap_array.specs.Calls.{StandsFor, HasSizes, going};
+ghost use Rattle.trap_array.specs.Calls.{StandsFor, going};
 ghost use Rattle.trap_array.specs.Holding.{log_ring};
 ghost use Rattle.trap_array.specs.Instants.{CanLookBack, HasEntry, HasInstant, FailsLooking};
-ghost use Rattle.trap_array.specs.Log.{AreFor};
+ghost use Rattle.trap_array.specs.Sources.{CallsAtMost, code_at, part_block, reads_back};
 ghost use Rattle.trap_array.specs.declared.fault.Denied.TheVariants as Denied;
+ghost use Rattle.trap_array.specs.declared.source.Part.TheVariants as Part;
 
 use crate::Denied;
-use crate::buffers::Buffers;
 use crate::log::{Log, ring_of};
+use crate::log_past::LogPast;
 use trap_bank::Bank;
-use trap_block::xor_into;
 use trap_index::Item;
 use trap_model::LogRec;
+use trap_past::block_at;
 use trap_record::{ReadRec, read};
 use trap_zrun::decode;
+
+/// A part of an entry's record.
+#[derive(Debug, Clone, Copy, PartialEq, Eq)]
+pub(crate) enum Part {
+    /// The code of its block's old contents xor the new ones.
+    Parity,
+    /// The code of the contents that a marked entry writes.
+    Snapshot,
+}
 
 /// How many bytes a record's header has.
 const HEADER: usize = 26;
@@ -61,7 +67,7 @@ fn is_record(bytes: &[u8], rec: &LogRec, size: usize) -> bool
     }
 }
 
-/// Whether the bytes are a record with this header: then `into` is filled with its parity.
+/// Whether the bytes are a record with this header: then `into` is filled with the block of its parity.
 fn parity_in(bytes: &[u8], rec: &LogRec, into: &mut [u8]) -> bool
     requires size { length into.old < 2 ^ 15 }
     requires long { length bytes.now ≡ record_len rec.now }
@@ -72,86 +78,93 @@ fn parity_in(bytes: &[u8], rec: &LogRec, into: &mut [u8]) -> bool
     is_record(bytes, rec, into.len()) && decode(&bytes[HEADER..end], into).is_ok()
 }
 
+/// Whether the bytes are a record with this header of a marked entry: then `into` is filled with what the entry writes.
+fn snapshot_in(bytes: &[u8], rec: &LogRec, into: &mut [u8]) -> bool
+    requires size { length into.old < 2 ^ 15 }
+    requires long { length bytes.now ≡ record_len rec.now }
+    requires marked { IsTrue rec.now.snap }
+    ensures whole { IsTrue result ↔ IsWhole (length into.old) rec.now (length bytes.now) bytes.now }
+    ensures snapshot { IsTrue result → ZeroRun into.new (snapshot_of rec.now bytes.now) }
+{
+    let begin = HEADER + usize::from(rec.plen);
+    let end = begin + usize::from(rec.slen);
+    is_record(bytes, rec, into.len()) && decode(&bytes[begin..end], into).is_ok()
+}
+
+/// Whether the bytes are a record with this header: then `into` is filled with what this part of it stands for.
+fn part_in(bytes: &[u8], rec: &LogRec, part: Part, into: &mut [u8]) -> bool
+    requires size { length into.old < 2 ^ 15 }
+    requires long { length bytes.now ≡ record_len rec.now }
+    requires marked { part ≡ Part.Snapshot → IsTrue rec.now.snap }
+    ensures whole { IsTrue result ↔ IsWhole (length into.old) rec.now (length bytes.now) bytes.now }
+    ensures code { IsTrue result → ZeroRun into.new (code_at part rec.now bytes.now) }
+{
+    match part {
+        Part::Parity => parity_in(bytes, rec, into),
+        Part::Snapshot => snapshot_in(bytes, rec, into),
+    }
+}
+
 impl Log {
-    /// Fills `into` with a block's contents after the entry with this number.
+    /// Fills `into` with a block's contents after the entry with this number. `scratch` is a block, `spelled` has room for
+    /// a record; both hold any bytes then.
     pub(crate) fn undo<B: Bank>(
         &self,
         bank: &mut B,
-        room: &mut Buffers,
         block: u32,
         seq: u64,
         into: &mut [u8],
+        scratch: &mut [u8],
+        spelled: &mut [u8],
     ) -> Result<(), Denied>
-        requires room { AreFor self.now.g.block room.old }
         requires can { CanLookBack self.now (B.view bank.old) }
         requires block { block < volume self.now.g }
         requires instant { HasInstant self.now.index seq }
         requires into { length into.old ≡ self.now.g.block }
+        requires scratch { length scratch.old ≡ self.now.g.block }
+        requires spelled { length spelled.old ≡ greatest_record self.now.g.block }
         ensures contents { IsTrue (B.view bank.old).tells → (s : State) → StandsFor (going self.now) s (B.view bank.old).now.disks
             → OnOk result (into.new ≡ block_of (image_at s seq) block) }
         ensures damaged { (offset : ℕ) → IsErrOf result (Denied.Damaged offset) → IsTrue (B.view bank.old).tells
             → (s : State) → StandsFor (going self.now) s (B.view bank.old).now.disks → ⊥ }
-        ensures room { AreFor self.now.g.block room.new }
         ensures cause { IfErr result (FailsLooking (going self.now) (B.view bank.old) (B.view bank.new)) }
+        ensures calls { CallsAtMost (reads_back self.now.g self.now.head.lost self.now.index block seq) (B.view bank.old) (B.view bank.new) }
         ensures any_moment { OnlyReads (B.view bank.old) (B.view bank.new) }
     {
-        self.fetch(bank, room, block, into)?;
-        let mut number = self.newest(block);
-        while seq < number {
-            self.take_back(bank, room, number, into)?;
-            number = self.previous(number);
-        }
-        Ok(())
-    }
-
-    /// Takes the parity of a retained entry back from `into`: it is left in the array's room for a block.
-    fn take_back<B: Bank>(
-        &self,
-        bank: &mut B,
-        room: &mut Buffers,
-        seq: u64,
-        into: &mut [u8],
-    ) -> Result<(), Denied>
-        requires room { AreFor self.now.g.block room.old }
-        requires can { CanLookBack self.now (B.view bank.old) }
-        requires entry { HasEntry self.now.index seq }
-        requires into { length into.old ≡ self.now.g.block }
-        ensures back { OnOk result (into.new ≡ xor into.old room.new.scratch) }
-        ensures parity { IsTrue (B.view bank.old).tells → (s : State) → StandsFor (going self.now) s (B.view bank.old).now.disks
-            → OnOk result (room.new.scratch ≡ parity_at s seq) }
-        ensures damaged { (offset : ℕ) → IsErrOf result (Denied.Damaged offset) → IsTrue (B.view bank.old).tells
-            → (s : State) → StandsFor (going self.now) s (B.view bank.old).now.disks → ⊥ }
-        ensures room { AreFor self.now.g.block room.new }
-        ensures cause { IfErr result (FailsLooking (going self.now) (B.view bank.old) (B.view bank.new)) }
-        ensures any_moment { OnlyReads (B.view bank.old) (B.view bank.new) }
-    {
-        self.parity(
+        let mut past = LogPast {
+            log: self,
             bank,
-            seq,
-            room.spelled.as_mut_slice(),
-            room.scratch.as_mut_slice(),
-        )?;
-        xor_into(into, room.scratch.as_slice());
-        Ok(())
+            spelled,
+            presents: 0,
+            parities: 0,
+            snapshots: 0,
+            faults: 0,
+        };
+        block_at(&mut past, &self.index, block, seq, into, scratch)
     }
 
-    /// Fills `into` with the parity of a retained entry. The record is read again, into `spelled`.
-    fn parity<B: Bank>(
+    /// Fills `into` with what a part of a retained entry's record stands for. The record is read again, into `spelled`.
+    pub(crate) fn part<B: Bank>(
         &self,
         bank: &mut B,
         seq: u64,
+        part: Part,
         spelled: &mut [u8],
         into: &mut [u8],
     ) -> Result<(), Denied>
         requires can { CanLookBack self.now (B.view bank.old) }
         requires entry { HasEntry self.now.index seq }
+        requires marked { part ≡ Part.Snapshot → IsTrue (item_at self.now.index seq).snap }
         requires spelled { length spelled.old ≡ greatest_record self.now.g.block }
         requires into { length into.old ≡ self.now.g.block }
-        ensures parity { IsTrue (B.view bank.old).tells → (s : State) → StandsFor (going self.now) s (B.view bank.old).now.disks
-            → OnOk result (into.new ≡ parity_at s seq) }
+        ensures part { IsTrue (B.view bank.old).tells → (s : State) → StandsFor (going self.now) s (B.view bank.old).now.disks
+            → OnOk result (into.new ≡ part_block part s seq) }
         ensures damaged { (offset : ℕ) → IsErrOf result (Denied.Damaged offset) → IsTrue (B.view bank.old).tells
             → (s : State) → StandsFor (going self.now) s (B.view bank.old).now.disks → ⊥ }
         ensures cause { IfErr result (FailsLooking (going self.now) (B.view bank.old) (B.view bank.new)) }
+
+        // A record that goes round the ring's end takes two reads.
+        ensures calls { CallsAtMost 2 (B.view bank.old) (B.view bank.new) }
         ensures any_moment { OnlyReads (B.view bank.old) (B.view bank.new) }
     {
         let item = self.item(seq);
@@ -166,7 +179,7 @@ impl Log {
         let bytes = &mut spelled[..len];
         ring_of(&self.g).read(bank, item.off, bytes)?;
         // What is read again is believed only where it is the record that the array knows.
-        if !parity_in(bytes, &rec, into) {
+        if !part_in(bytes, &rec, part, into) {
             return Err(damaged);
         }
         Ok(())
@@ -192,23 +205,5 @@ impl Log {
             Some(item) => item,
             None => unreachable!(),
         }
-    }
-
-    /// The number of the last retained entry of a block, or 0 where none is retained.
-    fn newest(&self, block: u32) -> u64
-        requires { block < volume self.now.g }
-        ensures newest { result ≡ newest block self.now.index.recs }
-        ensures indexed { IsIndexed self.now.index }
-        ensures same { self.now.index.g ≡ self.now.g }
-    {
-        self.index.newest(block)
-    }
-
-    /// The number of the entry before this one of the block that it writes, or 0 where none is retained.
-    fn previous(&self, seq: u64) -> u64
-        requires { HasEntry self.now.index seq }
-        ensures { result ≡ (item_at self.now.index seq).prev }
-    {
-        self.item(seq).prev
     }
 }

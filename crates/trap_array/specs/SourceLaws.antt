@@ -1,0 +1,67 @@
+-- Calls of the log as a source, one after the other.
+use Rattle.std.proofs.Common.{◌≡◌, ◌+◌, IsTrue, sym, subst, ◌∙◌, arith}
+use Rattle.trap_bank.specs.Disks.{Contents, View}
+use Rattle.trap_model.specs.declared.history.State.{State}
+use Rattle.trap_raid.specs.Reads.{OnlyReads}
+use Rattle.trap_raid.proofs.ReadLemmas.{only_reads_then, still_tells}
+use Rattle.trap_array.specs.Calls.{Mounted, StandsFor, going}
+use Rattle.trap_array.specs.Instants.{FailsLooking}
+use Rattle.trap_array.specs.Log.{Log}
+use Rattle.trap_array.specs.Sources.{Counts, LooksOn, LooksInVain}
+use Rattle.trap_array.specs.declared.fault.Denied.{Denied}
+use Rattle.trap_array.specs.declared.fault.Denied.TheVariants.{Refused, LogFault, MemberFault, Damaged, Stopped}
+
+pub looks_then : (log same : Log) (x y z : Counts) (a b c : View) → log ≡ same → LooksOn log x y a b → LooksOn same y z b c → LooksOn log x z a c
+looks_then log same x y z a b c is first then =
+    let second = subst (λ (l : Log). LooksOn l y z b c) (sym is) then in
+    record {
+      reads = only_reads_then a b c first.reads second.reads;
+      way = second.way ∙ first.way;
+      calls = λ told one.
+          let before = first.calls told one in
+          let after = second.calls (still_tells a b first.reads told) (subst IsTrue (sym first.way) one) in
+          omega arith;
+    }
+
+-- it stands for the same states
+pub still_stands : (log : Log) (a b : View) (s : State) → OnlyReads a b → IsTrue a.tells → StandsFor (going log) s a.now.disks → StandsFor (going log) s b.now.disks
+still_stands log a b s reads told stands = subst (λ (c : Contents). StandsFor (going log) s c.disks) (sym (reads.same told)) stands
+
+-- a fault since is one of the whole
+pub fails_since : (m : Mounted) (a b c : View) → OnlyReads a b → (e : Denied) → FailsLooking m b c e → FailsLooking m a c e
+fails_since m a b c reads (Refused why) fails = fails
+fails_since m a b c reads LogFault fails = omega (arith, fails, reads.moves.faults 0)
+fails_since m a b c reads (MemberFault first second) fails = record {
+  same = fails.same;
+  inside = fails.inside;
+  counts = fails.counts;
+  rose = omega (arith, fails.rose, reads.moves.faults (second + 1));
+}
+fails_since m a b c reads (Damaged offset) fails = fails
+fails_since m a b c reads Stopped fails = fails
+
+fails_still : (m : Mounted) (a b c : View) → OnlyReads b c → (e : Denied) → FailsLooking m a b e → FailsLooking m a c e
+fails_still m a b c reads (Refused why) fails = fails
+fails_still m a b c reads LogFault fails = omega (arith, fails, reads.moves.faults 0)
+fails_still m a b c reads (MemberFault first second) fails = record {
+  same = fails.same;
+  inside = fails.inside;
+  counts = fails.counts;
+  rose = omega (arith, fails.rose, reads.moves.faults (second + 1));
+}
+fails_still m a b c reads (Damaged offset) fails = fails
+fails_still m a b c reads Stopped fails = fails
+
+pub vain_since : (log same : Log) (x y : Counts) (a b c : View) (e : Denied) → log ≡ same → LooksOn log x y a b → LooksInVain same b c e → LooksInVain log a c e
+vain_since log same x y a b c e is looks then =
+    let vain = subst (λ (l : Log). LooksInVain l b c e) (sym is) then in
+    record {
+      fails = fails_since (going log) a b c looks.reads e vain.fails;
+      damaged = λ offset at told s stands. vain.damaged offset at (still_tells a b looks.reads told) s (still_stands log a b s looks.reads told stands);
+    }
+
+pub vain_still : (log same : Log) (x y : Counts) (a b c : View) (e : Denied) → log ≡ same → LooksInVain log a b e → LooksOn same x y b c → LooksInVain log a c e
+vain_still log same x y a b c e is vain looks = record {
+  fails = fails_still (going log) a b c looks.reads e vain.fails;
+  damaged = vain.damaged;
+}

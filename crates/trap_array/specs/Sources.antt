@@ -1,0 +1,77 @@
+-- The log as a source of the past: what it has, and what its calls do to the bank.
+use Rattle.std.specs.Prelude.{◌≡◌, ℕ, ◌+◌, ◌-◌, ◌*◌, ◌≤◌, List, Option, Some, None, IsTrue}
+use Rattle.trap_bank.specs.Disks.{View}
+use Rattle.trap_index.specs.Indexed.{Indexed, last_seq, item_at, path_to}
+use Rattle.trap_model.specs.declared.history.State.{State}
+use Rattle.trap_model.specs.declared.log_record.LogRec.{LogRec}
+use Rattle.trap_model.specs.declared.numbers.Geometry.{Geometry}
+use Rattle.trap_model.specs.Image.{volume}
+use Rattle.trap_model.specs.Records.{entry_at}
+use Rattle.trap_past.specs.Past.{Past}
+use Rattle.trap_past.specs.Undo.{parity_at}
+use Rattle.trap_raid.specs.Reads.{OnlyReads}
+use Rattle.trap_record.specs.Reading.{parity_of, snapshot_of}
+use Rattle.trap_array.specs.Calls.{StandsFor, going}
+use Rattle.trap_array.specs.Instants.{FailsLooking}
+use Rattle.trap_array.specs.Log.{Log}
+use Rattle.trap_array.specs.declared.fault.Denied.{Denied}
+use Rattle.trap_array.specs.declared.fault.Denied.TheVariants.{Damaged}
+use Rattle.trap_array.specs.declared.source.Part.{Part}
+use Rattle.trap_array.specs.declared.source.Part.TheVariants.{Parity, Snapshot}
+
+-- the code of this part of a record
+abbrev pub code_at : Part → LogRec → List ℕ → List ℕ
+code_at Parity rec bytes = parity_of rec bytes
+code_at Snapshot rec bytes = snapshot_of rec bytes
+
+-- the block that this part of an entry's record stands for
+abbrev pub part_block : Part → State → ℕ → List ℕ
+part_block Parity s q = parity_at s q
+part_block Snapshot s q = (entry_at s q).bytes
+
+-- how often the source's methods were called, and how often one failed
+pub record Counts : Type 0 where
+  pub presents : ℕ
+  pub parities : ℕ
+  pub snapshots : ℕ
+  pub faults : ℕ
+
+-- the log as a source: where the bank tells, it stands for the states of what a read gives
+abbrev pub past_of : Log → View → Counts → Past
+past_of log v n = record {
+  has = record { volume = volume log.g; size = log.g.block; first = log.index.first; last = last_seq log.index; item = item_at log.index };
+  stands = λ s. IsTrue v.tells × StandsFor (going log) s v.now.disks;
+  presents = n.presents;
+  parities = n.parities;
+  snapshots = n.snapshots;
+  faults = n.faults;
+}
+
+-- the bank was called at most so often, where each call raises its moment by one
+pub record CallsAtMost (calls : ℕ) (old new : View) : Type 0 where
+  pub way : new.by_one ≡ old.by_one
+  pub moment : IsTrue old.tells → IsTrue old.by_one → new.moment ≤ old.moment + calls
+
+-- a present block takes one read, or where a member is lost, at most one of each other member
+abbrev pub present_reads : Geometry → Option ℕ → ℕ
+present_reads g None = 1
+present_reads g (Some member) = g.members - 1
+
+-- how many reads so many calls of the source take at most: a record that goes round the ring's end takes two
+abbrev pub reads_for : Log → Counts → ℕ
+reads_for log n = present_reads log.g log.head.lost * n.presents + 2 * n.parities + 2 * n.snapshots
+
+-- and so many a block after entry number q: its present contents, and the record of each of its later entries
+abbrev pub reads_back : Geometry → Option ℕ → Indexed → ℕ → ℕ → ℕ
+reads_back g lost i block q = present_reads g lost + 2 * (path_to i block q).turns
+
+-- between these counts of the source's calls nothing was done but reads, and no more than they take
+pub record LooksOn (log : Log) (was now : Counts) (old new : View) : Type 0 where
+  pub reads : OnlyReads old new
+  pub way : new.by_one ≡ old.by_one
+  pub calls : IsTrue old.tells → IsTrue old.by_one → new.moment + reads_for log was ≤ old.moment + reads_for log now
+
+-- why a call of the source failed; a record is damaged only where the log stands for no state
+pub record LooksInVain (log : Log) (old new : View) (fault : Denied) : Type 0 where
+  pub fails : FailsLooking (going log) old new fault
+  pub damaged : (offset : ℕ) → fault ≡ Damaged offset → IsTrue old.tells → (s : State) → StandsFor (going log) s old.now.disks → ⊥
