@@ -1,6 +1,6 @@
 #!/usr/bin/env bash
-# Counts the system calls of a `W` line, of an `R` line and of mounting, on the built program over an array in a memory
-# file system. It is no part of the gate.
+# Counts the system calls of a `W` line, of an `R` line, of an `A` line and of mounting, on the built program over an array
+# in a memory file system. It is no part of the gate.
 set -euo pipefail
 root=$(cd "$(dirname "$0")/.." && pwd)
 for tool in strace python3; do
@@ -8,7 +8,7 @@ for tool in strace python3; do
 done
 "$root/limuvosel" >/dev/null </dev/null || true
 exec python3 - "$root/crates/trap_cli/out/trap_cli" <<'PY'
-import collections, os, re, subprocess, sys, tempfile, time
+import collections, os, re, struct, subprocess, sys, tempfile, time
 
 program = sys.argv[1]
 ENTRIES = 1 << 17
@@ -41,6 +41,10 @@ with tempfile.TemporaryDirectory(dir='/dev/shm') as folder:
     print('a W line of 4096 bytes:', shown(count(folder, f'W 2 9 {block}\n') - none))
     none = count(folder, '')
     print('an R line:', shown(count(folder, 'R 9\n') - none))
+    run(folder, ['session'], ''.join(f'W 3 20 {digits * 4096}\n' for digits in ['cd', 'ef'] * 50))
+    none = count(folder, '')
+    for back in (0, 1, 100):
+        print(f'an A line over {back} later writes:', shown(count(folder, f'A {105 - back} 20\n') - none))
     os.remove(os.path.join(folder, 'm00.trap'))
     run(folder, ['session'])
     none = count(folder, '')
@@ -49,6 +53,17 @@ with tempfile.TemporaryDirectory(dir='/dev/shm') as folder:
         if calls['pread64'] > 1:
             print('an R line of a block of the lost member:', shown(calls))
             break
+
+with tempfile.TemporaryDirectory(dir='/dev/shm') as folder:
+    run(folder, 'create 7 3 1 16 4 1 2 8 144'.split())
+    # Nothing is retained, and the next record begins ten bytes before the ring's end.
+    with open(os.path.join(folder, 'log.trap'), 'r+b') as log:
+        log.seek(64 + 2 + 6)
+        log.write(struct.pack('>7Q', 2, 0, 134, 2, 134, 2, 0))
+    run(folder, ['session'], f'W 1 0 {"ab" * 16}\n')
+    none = count(folder, '')
+    print('an A line over a later write whose record goes on at the ring\'s start:',
+          shown(count(folder, 'A 2 0\n') - none))
 
 with tempfile.TemporaryDirectory(dir='/dev/shm') as folder:
     ring = 40 * ENTRIES
