@@ -1,7 +1,7 @@
 #!/usr/bin/env bash
 # Runs each examples/NAME.session on the built program, over a new array in an empty folder, and compares what it says
 # with NAME.replies and its exit status with NAME.status (0 where there is no such file). The array has eight blocks of
-# 16 bytes, or what NAME.create says.
+# 16 bytes, or what NAME.create says. Each examples/NAME/run.sh must end with `NAME: ok`, or say why it is skipped.
 set -uo pipefail
 root=$(cd "$(dirname "$0")/.." && pwd)
 if ! command -v rt >/dev/null; then
@@ -33,6 +33,21 @@ for session in "$root"/examples/*.session; do
     diff "$folder/said" "$replies" | head -n 10
   fi
   rm -rf "$folder"
+done
+for case in "$root"/examples/*/run.sh; do
+  [ -e "$case" ] || continue
+  name=$(basename "$(dirname "$case")")
+  said=$(bash "$case" 2>&1)
+  status=$?
+  if [ "$status" = 0 ] && [ "${said##*$'\n'}" = "$name: ok" ]; then
+    passed=$((passed + 1))
+  elif [ "$status" = 0 ] && [[ $said == "$name: skipped"* ]]; then
+    echo "examples: $said"
+  else
+    failed=$((failed + 1))
+    echo "examples: $name: status $status; what it says:"
+    echo "$said" | tail -n 10
+  fi
 done
 echo "examples: $passed passed, $failed failed"
 [ "$failed" = 0 ]
