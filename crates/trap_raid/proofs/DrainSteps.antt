@@ -1,12 +1,12 @@
 -- The steps of a drain, one after the other.
-use Rattle.std.proofs.Common.{◌≡◌, ℕ, suc, ◌+◌, ◌-◌, ◌<◌, ◌≤◌, List, [], ◌∷◌, ◌++◌, take, drop, Option, ap, sym, subst, ◌∙◌, arith}
+use Rattle.std.proofs.Common.{◌≡◌, ℕ, suc, ◌+◌, ◌-◌, ◌<◌, ◌≤◌, List, [], ◌∷◌, ◌++◌, take, drop, Option, IsTrue, ap, sym, subst, ◌∙◌, arith}
 use Rattle.std.proofs.Math.Seq.{drop-cons, drop-length}
 use Rattle.std.proofs.lemmas.List.{take-append-drop, drop-drop}
 use Rattle.trap_model.specs.Image.{volume}
 use Rattle.trap_model.specs.declared.numbers.Geometry.{Geometry}
-use Rattle.trap_bank.specs.Disks.{Disks, View, Differs}
+use Rattle.trap_bank.specs.Disks.{Disks, View, Differs, Torn}
 use Rattle.trap_bank.specs.Steps.{Moves}
-use Rattle.trap_bank.proofs.Moves.{moves_then, moves_weaken, moves_mono, moves_again, no_moves}
+use Rattle.trap_bank.proofs.Moves.{moves_then, moves_weaken, moves_mono, moves_again, no_moves, torn_again, torn_mono}
 use Rattle.trap_bank.proofs.Regions.{differs_mono, differs_again}
 use Rattle.trap_map.specs.Layout.{parity_member, block_place}
 use Rattle.trap_map.specs.declared.places.Place.{Place}
@@ -58,6 +58,19 @@ slot_steps g lost rebuilt staged place at_parity a b c below is_place is_parity 
   where
     wide_block : (x y : Disks) → Differs (place_area g place.row place.member) x y → Differs (Covered g (staged ∷ [])) x y
     wide_block x y torn = differs_mono (place_area g place.row place.member) (Covered g (staged ∷ [])) x y (block_in g staged place below is_place) torn
+
+-- what a read gives after the one place, and after both
+pub block_torn : (g : Geometry) (staged : Staged) (place : Place) (a b : View) → staged.block < volume g → place ≡ block_place g staged.block
+    → (IsTrue a.tells → Torn (place_area g place.row place.member) a.now b.now) → IsTrue a.tells → Torn (Covered g (staged ∷ [])) a.now b.now
+block_torn g staged place a b below is_place torn told =
+    torn_mono (place_area g place.row place.member) (Covered g (staged ∷ [])) a.now b.now (block_in g staged place below is_place) (torn told)
+
+pub slot_torn : (g : Geometry) (staged : Staged) (place : Place) (at_parity : ℕ) (a b c : View) → staged.block < volume g → place ≡ block_place g staged.block → at_parity ≡ parity_member g place.row
+    → b.tells ≡ a.tells → (IsTrue a.tells → Torn (place_area g place.row place.member) a.now b.now) → (IsTrue b.tells → Torn (place_area g place.row at_parity) b.now c.now)
+    → IsTrue a.tells → Torn (Covered g (staged ∷ [])) a.now c.now
+slot_torn g staged place at_parity a b c below is_place is_parity tells first second =
+    torn_again (Covered g (staged ∷ [])) a b c tells (block_torn g staged place a b below is_place first)
+    (λ told. torn_mono (place_area g place.row at_parity) (Covered g (staged ∷ [])) b.now c.now (parity_in g staged place at_parity below is_place is_parity) (second told))
 
 -- ---- one write after the other
 -- the writes up to a number are the last of those up to a later one
@@ -126,6 +139,12 @@ module _ (g : Geometry) (lost : Option ℕ) (rebuilt : ℕ) (stage : Stage) (num
       (moves_weaken a b (Differs (Covered g (writes_to stage upto))) (Drains g lost rebuilt (writes_to stage number)) (Differs (Covered g (writes_to stage upto))) (Differs (Covered g (writes_to stage upto))) first
       (λ x y was torn. torn) (λ x y was left drains. so_far x.disks y.disks drains))
       (moves_mono (Covered g (staged_numbered stage (number + 1) ∷ [])) (Covered g (writes_to stage upto)) b c next_in second)
+
+  -- what a read gives after one write more, also where that was cut short
+  pub drain_given : (a b c : View) → b.tells ≡ a.tells → (IsTrue a.tells → Torn (Covered g (writes_to stage upto)) a.now b.now)
+      → (IsTrue b.tells → Torn (Covered g (staged_numbered stage (number + 1) ∷ [])) b.now c.now) → IsTrue a.tells → Torn (Covered g (writes_to stage upto)) a.now c.now
+  drain_given a b c tells first second = torn_again (Covered g (writes_to stage upto)) a b c tells first
+      (λ told. torn_mono (Covered g (staged_numbered stage (number + 1) ∷ [])) (Covered g (writes_to stage upto)) b.now c.now next_in (second told))
 
 -- all were written
 pub drain_moves : (g : Geometry) (lost : Option ℕ) (rebuilt : ℕ) (writes : List Staged) (a b : View) → Moves a b (Differs (Covered g writes)) (Drains g lost rebuilt writes) → Moves a b (Differs (Covered g writes)) (Differs (Covered g writes))

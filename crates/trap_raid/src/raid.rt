@@ -4,7 +4,7 @@ ghost use Rattle.std.specs.Prelude.{◌≡◌, ◌<◌, ◌≤◌, ℕ, List, Op
 ghost use Rattle.std.specs.Option.{ForSome};
 ghost use Rattle.trap_model.specs.Image.{volume};
 ghost use Rattle.trap_map.specs.Table.{table};
-ghost use Rattle.trap_bank.specs.Disks.{Differs};
+ghost use Rattle.trap_bank.specs.Disks.{Differs, Torn};
 ghost use Rattle.trap_bank.specs.Steps.{Moves};
 ghost use Rattle.trap_model.specs.Image.{IsImage};
 ghost use Rattle.trap_stage.specs.Slots.{last_of};
@@ -170,6 +170,8 @@ impl Raid {
         ensures ok { OnOk result (Moves (B.view bank.old) (B.view bank.new)
             (Differs (Covered self.now.g (writes_to stage.now upto)))
             (Drains self.now.g self.now.lost self.now.rebuilt (writes_to stage.now upto))) }
+        ensures contents { IsTrue (B.view bank.old).tells
+            → Torn (Covered self.now.g (writes_to stage.now upto)) (B.view bank.old).now (B.view bank.new).now }
         ensures sizes { (e : ℕ) → (B.view bank.new).sizes e ≡ (B.view bank.old).sizes e }
         ensures cause { IfErr result (λ failed. HasFailed self.now.g None
             (B.view bank.old) (B.view bank.new) failed.member) }

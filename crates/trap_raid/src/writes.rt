@@ -1,7 +1,7 @@
 //! Writes of the members' places.
 
 ghost use Rattle.std.specs.Prelude.{◌≡◌, ◌↔◌, ◌<◌, ℕ, List, [], ◌∷◌, None, length, IsTrue, OnOk, IfErr};
-ghost use Rattle.trap_bank.specs.Disks.{Differs};
+ghost use Rattle.trap_bank.specs.Disks.{Differs, Torn};
 ghost use Rattle.trap_bank.specs.Steps.{Moves};
 ghost use Rattle.trap_model.specs.Image.{volume};
 ghost use Rattle.trap_raid.specs.Members.{IsPlace, Counts, MembersFit, Covered};
@@ -35,6 +35,8 @@ pub(crate) fn write_place<B: Bank>(
     ensures ok { OnOk result (Moves (B.view bank.old) (B.view bank.new)
         (Differs (place_area g.now place.row place.member))
         (PlaceWritten g.now lost rebuilt place.row place.member bytes.now)) }
+    ensures contents { IsTrue (B.view bank.old).tells
+        → Torn (place_area g.now place.row place.member) (B.view bank.old).now (B.view bank.new).now }
     ensures sizes { (e : ℕ) → (B.view bank.new).sizes e ≡ (B.view bank.old).sizes e }
     ensures cause { IfErr result (λ failed.
         HasFailed g.now None (B.view bank.old) (B.view bank.new) failed.member) }
@@ -75,6 +77,9 @@ pub(crate) fn write_slot<B: Bank>(
     ensures ok { OnOk result (Moves (B.view bank.old) (B.view bank.new)
         (Differs (Covered g.now ((record { block = block; bytes = bytes.now; parity = parity.now }) ∷ [])))
         (Drains g.now lost rebuilt ((record { block = block; bytes = bytes.now; parity = parity.now }) ∷ []))) }
+    ensures contents { IsTrue (B.view bank.old).tells
+        → Torn (Covered g.now ((record { block = block; bytes = bytes.now; parity = parity.now }) ∷ []))
+        (B.view bank.old).now (B.view bank.new).now }
     ensures sizes { (e : ℕ) → (B.view bank.new).sizes e ≡ (B.view bank.old).sizes e }
     ensures cause { IfErr result (λ failed.
         HasFailed g.now None (B.view bank.old) (B.view bank.new) failed.member) }

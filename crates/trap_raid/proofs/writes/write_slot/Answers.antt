@@ -1,6 +1,6 @@
 use Rattle.std.proofs.lemmas.Result.{on_ok_weaker}
 use Rattle.trap_raid.proofs.FitLemmas.{fit_along}
-use Rattle.trap_raid.proofs.DrainSteps.{block_step, slot_step, slot_steps}
+use Rattle.trap_raid.proofs.DrainSteps.{block_torn, slot_torn, block_step, slot_step, slot_steps}
 use Rattle.trap_raid.proofs.writes.write_slot.Goals as goal
 
 pub write_place-requires-2-clause-disks : goal.write_place-requires-2-clause-disks
@@ -21,3 +21,14 @@ returns-clause-ok g c = on_ok_weaker c.write_place-2.result
     (λ second. slot_steps c.args.g.now c.args.lost c.args.rebuilt (record { block = c.args.block; bytes = c.args.bytes.now; parity = c.args.parity.now }) c.place_of-place.result c.parity_of.result _ _ _
     c.requires.block c.place_of-place.ensures.place c.parity_of.ensures.parity c.in_ok-write_place.ensures.ok second)
     c.write_place-2.ensures.ok
+
+pub returns-in_err-write_place-clause-contents : goal.returns-in_err-write_place-clause-contents
+returns-in_err-write_place-clause-contents g c =
+    block_torn c.args.g.now (record { block = c.args.block; bytes = c.args.bytes.now; parity = c.args.parity.now }) c.place_of-place.result (g.B.Bank.view c.args.bank.now) (g.B.Bank.view c.write_place.new.bank)
+    c.requires.block c.place_of-place.ensures.place c.write_place.ensures.contents
+
+pub returns-clause-contents : goal.returns-clause-contents
+returns-clause-contents g c =
+    slot_torn c.args.g.now (record { block = c.args.block; bytes = c.args.bytes.now; parity = c.args.parity.now }) c.place_of-place.result c.parity_of.result
+    (g.B.Bank.view c.args.bank.now) (g.B.Bank.view c.write_place.new.bank) (g.B.Bank.view c.write_place-2.new.bank)
+    c.requires.block c.place_of-place.ensures.place c.parity_of.ensures.parity c.write_place.ensures.any_moment.tells c.write_place.ensures.contents c.write_place-2.ensures.contents
