@@ -24,6 +24,7 @@ use Rattle.trap_model.proofs.Adding.{not_refused}
 use Rattle.trap_raid.specs.Plan.{IsPlan}
 use Rattle.trap_raid.specs.Reads.{OnlyReads, HasFailed}
 use Rattle.trap_raid.proofs.FitLemmas.{others_count}
+use Rattle.trap_array.specs.Beside.{StaysFrom}
 use Rattle.trap_array.specs.Calls.{Mounted, StandsFor, GoesOn, MayTurn, going}
 use Rattle.trap_array.specs.Log.{Log}
 use Rattle.trap_array.specs.NextHead.{entry_for, IsPlanned}
@@ -31,6 +32,7 @@ use Rattle.trap_array.specs.Ready.{CanCommit, CanDrain}
 use Rattle.trap_array.specs.Turning.{IsFaultOf, Turns, IsFull, early_refusal}
 use Rattle.trap_array.specs.declared.fault.Denied.{Denied}
 use Rattle.trap_array.specs.declared.fault.Denied.TheVariants.{Refused, MemberFault}
+use Rattle.trap_array.proofs.Beside.{stays_same}
 use Rattle.trap_array.proofs.NextHeads.{head_committed}
 use Rattle.trap_array.proofs.Turns.{holds_still, same_keeps}
 use Rattle.trap_array.proofs.TurnSteps.{goes_still, turns_failed, turns_after, turns_same, turns_refused, none_moves, back_refused, worn_refused, full_refused, goes_on, planned_from}
@@ -65,11 +67,11 @@ member_fault a v w m failed = record {
 
 pub plan_failed : (a : Log) (v w : View) (next : State → State) (replies : State → Reply) (m : ℕ) → HasFailed a.g a.head.lost v w m → OnlyReads v w → Turns a a next replies (Err (MemberFault m m)) v w
 plan_failed a v w next replies m failed reads =
-    turns_failed a a next replies (MemberFault m m) v w (member_fault (going a) v w m failed) (goes_still (going a)) reads.sizes (same_may (going a) v w next reads.moves)
+    turns_failed a a next replies (MemberFault m m) v w (member_fault (going a) v w m failed) (goes_still (going a)) reads.sizes (stays_same (a.g.members + 1) v w reads.same) (same_may (going a) v w next reads.moves)
 
-pub room_failed : (a b : Log) (v w : View) (next : State → State) (replies : State → Reply) (e : Denied) → IsFaultOf (going a) v w e → GoesOn (going a) (going b) → ((d : ℕ) → w.sizes d ≡ v.sizes d)
+pub room_failed : (a b : Log) (v w : View) (next : State → State) (replies : State → Reply) (e : Denied) → IsFaultOf (going a) v w e → GoesOn (going a) (going b) → ((d : ℕ) → w.sizes d ≡ v.sizes d) → StaysFrom (a.g.members + 1) v w
     → Moves v w (MayTurn (going a) v (λ s. s)) (MayTurn (going a) v (λ s. s)) → Turns a b next replies (Err e) v w
-room_failed a b v w next replies e fault on sizes moves = turns_failed a b next replies e v w fault on sizes (kept_may (going a) v w next moves)
+room_failed a b v w next replies e fault on sizes others moves = turns_failed a b next replies e v w fault on sizes others (kept_may (going a) v w next moves)
 
 -- ---- refusals by time and number
 picked : (b : Bool) (x y : Refusal) (other : Option Refusal) → (if b then Some x else other) ≡ Some y → ((b ≡ true) × (y ≡ x)) ⊎ ((b ≡ false) × (other ≡ Some y))
@@ -85,10 +87,10 @@ early_none h time none =
 pub early_turns : (a : Log) (v : View) (time block : ℕ) (bytes : List ℕ) (why : Refusal) → CanDrain a v → block < volume a.g → early_refusal a.head time ≡ Some why → Turns a a (next_of a.g time block bytes) (reply_of a.g time block bytes) (Err (Refused why)) v v
 early_turns a v time block bytes why can inside is =
     ⊎_elim
-    (λ back. subst P (sym back.1) (turns_refused a next replies (TimeBack a.head.last_time) v v (λ e. cc) (none_moves v) (λ d. refl) can.in_step can.stands
+    (λ back. subst P (sym back.1) (turns_refused a next replies (TimeBack a.head.last_time) v v (λ e. cc) (none_moves v) (λ told. refl) (λ d. refl) can.in_step can.stands
     (λ s told stands. back_refused a.g s time block bytes v.now.disks a refl stands inside (ltb-true time a.head.last_time back.0))))
     (λ later. ⊎_elim
-    (λ worn. subst P (sym worn.1) (turns_refused a next replies Worn v v (λ e. cc) (none_moves v) (λ d. refl) can.in_step can.stands
+    (λ worn. subst P (sym worn.1) (turns_refused a next replies Worn v v (λ e. cc) (none_moves v) (λ told. refl) (λ d. refl) can.in_step can.stands
     (λ s told stands. worn_refused a.g s time block bytes v.now.disks a refl stands inside (ltb-false time a.head.last_time later.0) (eqb-true a.head.last (2 ^ 40) worn.0))))
     (λ none. absurd (nothing why none.1))
     (picked (a.head.last == 2 ^ 40) Worn why None later.1))
@@ -132,7 +134,7 @@ module _ (a : Log) (v w : View) (time block size : ℕ) (bytes delta parity spel
 
   pub full_turns : IsFull a.g a.head size → Turns a a (next_of a.g time block bytes) (reply_of a.g time block bytes) (Err (Refused Full)) v w
   full_turns full =
-      turns_refused a (next_of a.g time block bytes) (reply_of a.g time block bytes) Full v w (λ e. cc) reads.moves reads.sizes can.in_step stands_still
+      turns_refused a (next_of a.g time block bytes) (reply_of a.g time block bytes) Full v w (λ e. cc) reads.moves reads.same reads.sizes can.in_step stands_still
       (λ s told stands. full_refused a.g s time block bytes v.now.disks a refl stands inside later not_worn size (size_is s told stands) full)
 
   pub can_commit : (IsFull a.g a.head size → ⊥) → CanCommit a w (entry_for time block bytes) parity spelled
@@ -159,4 +161,4 @@ module _ (a : Log) (v w : View) (time block size : ℕ) (bytes delta parity spel
       let replies : State → Reply = λ (s : State). Kept (last s + 1) in
       turns_same a b next replies (next_of a.g time block bytes) (reply_of a.g time block bytes) result v x
       (λ s told stands. goes_on a.g s time block bytes v.now.disks a refl stands inside later not_worn size (size_is s told stands) not_full)
-      (turns_after a b next replies a result v w x (goes_still (going a)) (same_keeps (going a) v w reads.moves) reads.sizes turns)
+      (turns_after a b next replies a result v w x (goes_still (going a)) (same_keeps (going a) v w reads.moves) reads.sizes (stays_same (a.g.members + 1) v w reads.same) turns)

@@ -1,3 +1,4 @@
+pub mod Beside
 pub mod Frames
 pub mod Puts
 pub mod NextHeads

@@ -28,12 +28,14 @@ use Rattle.trap_model.proofs.Records.{length-record_of}
 use Rattle.trap_model.proofs.Refusals.{is_block, write_back, write_worn, write_many, write_big, write_goes}
 use Rattle.trap_raid.specs.Members.{Counts}
 use Rattle.trap_raid.specs.Plan.{IsPlan}
+use Rattle.trap_array.specs.Beside.{StaysFrom}
 use Rattle.trap_array.specs.Calls.{Mounted, StandsFor, HoldsLike, GoesOn, MayTurn, HasTurned, MemberFails, WriteReplies, is_done, going}
 use Rattle.trap_array.specs.Log.{Log, AreInStep}
 use Rattle.trap_array.specs.NextHead.{entry_for, IsPlanned}
 use Rattle.trap_array.specs.Turning.{IsFaultOf, Denies, Turns, IsFull}
 use Rattle.trap_array.specs.declared.fault.Denied.{Denied}
 use Rattle.trap_array.specs.declared.fault.Denied.TheVariants.{Refused, LogFault, MemberFault, Damaged, Stopped}
+use Rattle.trap_array.proofs.Beside.{stays_same, both_stay}
 use Rattle.trap_array.proofs.Turns.{holds_still, turned_may, always_turned, keep_then_may, keep_then_has}
 
 pub goes_still : (a : Mounted) → GoesOn a a
@@ -96,43 +98,46 @@ if_err_since (Err e) P Q more holds = more e holds
 
 -- ---- whole turns
 module _ (a b : Log) (next : State → State) (replies : State → Reply) where
-  pub turns_failed : (e : Denied) (v w : View) → IsFaultOf (going a) v w e → GoesOn (going a) (going b) → ((d : ℕ) → w.sizes d ≡ v.sizes d)
+  pub turns_failed : (e : Denied) (v w : View) → IsFaultOf (going a) v w e → GoesOn (going a) (going b) → ((d : ℕ) → w.sizes d ≡ v.sizes d) → StaysFrom (a.g.members + 1) v w
       → Moves v w (MayTurn (going a) v next) (MayTurn (going a) v next) → Turns a b next replies (Err e) v w
-  turns_failed e v w fault on sizes any = record {
+  turns_failed e v w fault on sizes others any = record {
     reply = λ told s always. fault_replies (going a) v w e fault (replies s);
     turned = λ done. absurd (fault_not_done (going a) v w e fault done);
     in_step = λ done. absurd (fault_not_done (going a) v w e fault done);
     stands = λ done. absurd (fault_not_done (going a) v w e fault done);
     goes_on = on;
     sizes = sizes;
+    others = others;
     cause = fault_denies (going a) v w e fault;
     any_moment = any;
   }
 
   pub turns_done : (seq : ℕ) (v w : View) → (IsTrue v.tells → (s : State) → Always v (StandsFor (going a) s) → replies s ≡ Kept seq)
       → Moves v w (MayTurn (going a) v next) (HasTurned (going a) (going b) v next) → AreInStep b.head b.stage b.index → Always w (Stands b.cell) → GoesOn (going a) (going b) → ((d : ℕ) → w.sizes d ≡ v.sizes d)
-      → Turns a b next replies (Ok seq) v w
-  turns_done seq v w kept moves in_step stands on sizes = record {
+      → StaysFrom (a.g.members + 1) v w → Turns a b next replies (Ok seq) v w
+  turns_done seq v w kept moves in_step stands on sizes others = record {
     reply = kept;
     turned = λ done. moves;
     in_step = λ done. in_step;
     stands = λ done. stands;
     goes_on = on;
     sizes = sizes;
+    others = others;
     cause = tt;
     any_moment = turned_may (going a) (going b) on v w next moves;
   }
 
   -- after a call that keeps the state
   pub turns_after : (m : Log) (result : Result ℕ Denied) (u v w : View) → GoesOn (going a) (going m) → Moves u v (MayTurn (going a) u (λ s. s)) (HasTurned (going a) (going m) u (λ s. s)) → ((d : ℕ) → v.sizes d ≡ u.sizes d)
-      → Turns m b next replies result v w → Turns a b next replies result u w
-  turns_after m result u v w on first sizes turns = record {
+      → StaysFrom (a.g.members + 1) u v → Turns m b next replies result v w → Turns a b next replies result u w
+  turns_after m result u v w on first sizes others turns = record {
     reply = λ told s always. turns.reply (subst (λ t. IsTrue t) (sym first.tells) told) s (always_turned (going a) (going m) u v (λ s. s) (MayTurn (going a) u (λ s. s)) first s always);
     turned = λ done. keep_then_has (going a) (going m) on u v w next first (going b) (turns.turned done);
     in_step = turns.in_step;
     stands = turns.stands;
     goes_on = goes_then (going a) (going m) (going b) on turns.goes_on;
     sizes = λ d. turns.sizes d ∙ sizes d;
+    others = both_stay (going a) (going m) u v w on first.tells others turns.others;
     cause = if_err_since result (Denies (going m) v w) (Denies (going a) u w) (denies_since (going a) (going m) u v w on first.faults) turns.cause;
     any_moment = keep_then_may (going a) (going m) on u v w next first turns.any_moment;
   }
@@ -150,6 +155,7 @@ module _ (a b : Log) (next : State → State) (replies : State → Reply) where
     stands = turns.stands;
     goes_on = turns.goes_on;
     sizes = turns.sizes;
+    others = turns.others;
     cause = turns.cause;
     any_moment = moves_weaken v w (MayTurn (going a) v next) (MayTurn (going a) v next) (MayTurn (going a) v next_too) (MayTurn (going a) v next_too) turns.any_moment
         (λ x y was step s always. may_too s y.disks was.told (always v.now (read_is_left v was.told)) (step s always))
@@ -160,15 +166,16 @@ module _ (a b : Log) (next : State → State) (replies : State → Reply) where
       may_too s y told stands either = ⊎_elim inl (λ new. inr (subst (λ (t : State). HoldsLike a.g a.head t y) (same s told stands).0 new)) either
 
 -- a refusal after calls that change nothing
-pub turns_refused : (a : Log) (next : State → State) (replies : State → Reply) (why : Refusal) (v w : View) → why ≢ NoBlock → Moves v w Same Same → ((d : ℕ) → w.sizes d ≡ v.sizes d) → AreInStep a.head a.stage a.index → Always w (Stands a.cell)
+pub turns_refused : (a : Log) (next : State → State) (replies : State → Reply) (why : Refusal) (v w : View) → why ≢ NoBlock → Moves v w Same Same → (IsTrue v.tells → w.now ≡ v.now) → ((d : ℕ) → w.sizes d ≡ v.sizes d) → AreInStep a.head a.stage a.index → Always w (Stands a.cell)
     → ((s : State) → IsTrue v.tells → StandsFor (going a) s v.now.disks → (next s ≡ s) × (replies s ≡ No why)) → Turns a a next replies (Err (Refused why)) v w
-turns_refused a next replies why v w other moves sizes in_step stands refused = record {
+turns_refused a next replies why v w other moves same sizes in_step stands refused = record {
   reply = λ told s always. (refused s told (always v.now (read_is_left v told))).1;
   turned = λ done. turned;
   in_step = λ done. in_step;
   stands = λ done. stands;
   goes_on = goes_still (going a);
   sizes = sizes;
+  others = stays_same (a.g.members + 1) v w same;
   cause = other;
   any_moment = turned_may (going a) (going a) (goes_still (going a)) v w next turned;
 }

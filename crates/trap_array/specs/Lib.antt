@@ -1,6 +1,7 @@
 pub mod Holding
 pub mod Log
 pub mod NextHead
+pub mod Beside
 pub mod Calls
 pub mod Ready
 pub mod Turning

@@ -10,6 +10,7 @@ use Rattle.trap_model.specs.declared.numbers.Geometry.{Geometry}
 use Rattle.trap_model.specs.declared.request.Refusal.{Refusal}
 use Rattle.trap_model.specs.declared.request.Refusal.TheVariants.{NoBlock, TimeBack, Worn}
 use Rattle.trap_model.specs.declared.request.Reply.{Reply}
+use Rattle.trap_array.specs.Beside.{StaysFrom}
 use Rattle.trap_array.specs.Calls.{Mounted, StandsFor, GoesOn, MayTurn, HasTurned, MemberFails, WriteReplies, is_done, going}
 use Rattle.trap_array.specs.Log.{Log, AreInStep}
 use Rattle.trap_array.specs.declared.fault.Denied.{Denied}
@@ -39,6 +40,7 @@ pub record Turns (a b : Log) (next : State → State) (replies : State → Reply
   pub stands : IsTrue (is_done result) → Always new (Stands b.cell)
   pub goes_on : GoesOn (going a) (going b)
   pub sizes : (e : ℕ) → new.sizes e ≡ old.sizes e
+  pub others : StaysFrom (a.g.members + 1) old new
   pub cause : IfErr result (Denies (going a) old new)
   pub any_moment : Moves old new (MayTurn (going a) old next) (MayTurn (going a) old next)
 

@@ -1,8 +1,9 @@
 //! The drain: pending writes onto the members.
 
-ghost use Rattle.std.specs.Prelude.{◌≡◌, ℕ, OnOk, IfErr};
+ghost use Rattle.std.specs.Prelude.{◌≡◌, ℕ, ◌+◌, OnOk, IfErr};
 ghost use Rattle.trap_bank.specs.Steps.{Moves, Always};
 ghost use Rattle.trap_cell.specs.Slots.{Stands};
+ghost use Rattle.trap_array.specs.Beside.{StaysFrom};
 ghost use Rattle.trap_array.specs.Calls.{GoesOn, MayTurn, HasTurned, going};
 ghost use Rattle.trap_array.specs.Log.{AreInStep};
 ghost use Rattle.trap_array.specs.NextHead.{drained_to};
@@ -27,6 +28,7 @@ impl Log {
         ensures stands { OnOk result (Always (B.view bank.new) (Stands self.new.cell)) }
         ensures goes_on { GoesOn (going self.old) (going self.new) }
         ensures sizes { (e : ℕ) → (B.view bank.new).sizes e ≡ (B.view bank.old).sizes e }
+        ensures others { StaysFrom (self.old.g.members + 1) (B.view bank.old) (B.view bank.new) }
         ensures cause { IfErr result (IsFaultOf (going self.old) (B.view bank.old) (B.view bank.new)) }
 
         // Stopped at any moment, the disks hold the same state.

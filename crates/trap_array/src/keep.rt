@@ -7,6 +7,7 @@ ghost use Rattle.trap_model.specs.Image.{volume};
 ghost use Rattle.trap_model.specs.State.{last};
 ghost use Rattle.trap_model.specs.declared.request.Reply.TheVariants as reply;
 ghost use Rattle.trap_model.specs.declared.request.Request.TheVariants as request;
+ghost use Rattle.trap_array.specs.Beside.{StaysFrom};
 ghost use Rattle.trap_array.specs.Calls.{GoesOn, MayTurn, HasTurned, going};
 ghost use Rattle.trap_array.specs.Log.{AreFor};
 ghost use Rattle.trap_array.specs.NextHead.{drained_to, entry_for};
@@ -56,6 +57,7 @@ impl Log {
         ensures head { OnOk result (self.new.head ≡ drained_to self.old.head self.new.head.drained) }
         ensures goes_on { GoesOn (going self.old) (going self.new) }
         ensures sizes { (e : ℕ) → (B.view bank.new).sizes e ≡ (B.view bank.old).sizes e }
+        ensures others { StaysFrom (self.old.g.members + 1) (B.view bank.old) (B.view bank.new) }
         ensures cause { IfErr result (IsFaultOf (going self.old) (B.view bank.old) (B.view bank.new)) }
         ensures any_moment { Moves (B.view bank.old) (B.view bank.new)
             (MayTurn (going self.old) (B.view bank.old) (λ s. s))

@@ -8,6 +8,7 @@ ghost use Rattle.trap_model.specs.Image.{volume};
 ghost use Rattle.trap_model.specs.declared.history.State.{State};
 ghost use Rattle.trap_model.specs.declared.request.Request.TheVariants as request;
 ghost use Rattle.trap_model.specs.declared.request.Refusal.TheVariants as refusal;
+ghost use Rattle.trap_array.specs.Beside.{StaysFrom};
 ghost use Rattle.trap_array.specs.Calls.{IsReady, GoesOn, MayTurn, HasTurned, StandsFor, WriteReplies, MemberFails, is_fault, is_done};
 
 use crate::planning::volume_of;
@@ -38,6 +39,7 @@ impl Array {
         ensures ready { IsReady self.new (B.view bank.new) }
         ensures goes_on { GoesOn self.old self.new }
         ensures sizes { (e : ℕ) → (B.view bank.new).sizes e ≡ (B.view bank.old).sizes e }
+        ensures others { StaysFrom (self.old.g.members + 1) (B.view bank.old) (B.view bank.new) }
 
         // A block that isn't there is refused first. Then a stopped array does nothing, and a fault stops the array.
         ensures no_block { IsErrOf result (Denied.Refused refusal.NoBlock) ↔ (volume self.old.g ≤ block) }

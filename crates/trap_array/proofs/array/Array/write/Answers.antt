@@ -1,6 +1,7 @@
-use Rattle.std.proofs.Common.{rules, ◌≡◌, ◌≤◌, false, sym, subst}
+use Rattle.std.proofs.Common.{rules, ◌≡◌, ◌+◌, ◌≤◌, false, sym, subst}
 use Rattle.trap_bank.specs.Steps.{Moves, Always}
 use Rattle.trap_model.specs.Image.{volume}
+use Rattle.trap_array.specs.Beside.{StaysFrom}
 use Rattle.trap_array.specs.Calls.{Mounted, StandsFor, IsReady, MayTurn, HasTurned, WriteReplies}
 use Rattle.trap_array.proofs.KeepSteps.{next_of, reply_of}
 use Rattle.trap_array.proofs.WriteSteps.{mounted, as_going, may_mounted, has_mounted, beyond_turned, beyond_any, ready_after}
@@ -49,6 +50,12 @@ returns-clause-ready g c =
     let ready = subst (λ (m : Mounted). IsReady m old) (sym c.self.view_is) c.requires.ready in
     ready_after log c.keep-result.new.self (next_of log.g c.args.time c.args.block c.args.bytes.now) (reply_of log.g c.args.time c.args.block c.args.bytes.now)
     c.keep-result.result old new c.has_failed-self-inside.result c.keep-result.ensures.turns c.has_failed-self-inside.ensures ready.sizes
+
+pub returns-clause-others : goal.returns-clause-others
+returns-clause-others g c =
+    let old = g.B.Bank.view c.args.bank.now in
+    let new = g.B.Bank.view c.keep-result.new.bank in
+    subst (λ (m : Mounted). StaysFrom (m.g.members + 1) old new) c.self.view_is c.keep-result.ensures.turns.others
 
 pub returns-clause-any_moment : goal.returns-clause-any_moment
 returns-clause-any_moment g c =

@@ -1,12 +1,14 @@
-use Rattle.std.proofs.Common.{length, refl, sym, subst, ◌∙◌}
+use Rattle.std.proofs.Common.{◌+◌, length, refl, sym, subst, ◌∙◌}
 use Rattle.trap_bank.specs.Steps.{Moves}
 use Rattle.trap_bank.proofs.Moves.{sync_steps}
 use Rattle.trap_model.specs.ArrayStep.{added}
 use Rattle.trap_model.specs.declared.history.Entry.{Entry}
+use Rattle.trap_array.specs.Beside.{StaysFrom}
 use Rattle.trap_array.specs.Calls.{MayTurn, HasTurned, going}
 use Rattle.trap_array.specs.Log.{Log}
 use Rattle.trap_array.specs.NextHead.{committed, entry_for}
 use Rattle.trap_array.specs.Ready.{CanCommit}
+use Rattle.trap_array.proofs.Beside.{append_stays, fill_stays, sync_stays, put_stays}
 use Rattle.trap_array.proofs.CommitSteps.{cell_room, append_any, fill_any, sync_any, cell_still, put_any, put_ok, settled_there}
 use Rattle.trap_array.proofs.IndexSteps.{next_in_step}
 use Rattle.trap_array.proofs.log.Log.commit.Goals as goal
@@ -130,3 +132,52 @@ returns-clause-in_step g c =
     let entry : Entry = entry_for c.args.time c.args.block c.args.bytes.now in
     let can = subst (λ (l : Log). CanCommit l old entry c.args.parity.now c.args.spelled.now) (sym c.self.view_is) c.requires.can in
     next_in_step log.head entry (length c.args.spelled.now) log.stage c.fill.new.self _ log.index c.add.new.self can.in_step c.in_ok-fill.ensures.ok c.add.ensures
+
+pub returns-in_err-append-clause-others : goal.returns-in_err-append-clause-others
+returns-in_err-append-clause-others g c =
+    let old = g.B.Bank.view c.args.bank.now in
+    let v1 = g.B.Bank.view c.append.new.bank in
+    let log : Log = record { g = c.self.inside.g; head = c.self.inside.head; cell = c.self.inside.cell; stage = c.self.inside.stage; index = c.self.inside.index } in
+    subst (λ (l : Log). StaysFrom (l.g.members + 1) old v1) c.self.view_is
+    (append_stays log c.self.invariant.place c.ring_of-ring.result c.ring_of-ring.ensures old v1 _ _ c.append.ensures.contents)
+
+pub returns-in_err-fill-clause-others : goal.returns-in_err-fill-clause-others
+returns-in_err-fill-clause-others g c =
+    let old = g.B.Bank.view c.args.bank.now in
+    let v1 = g.B.Bank.view c.append.new.bank in
+    let v2 = g.B.Bank.view c.fill.new.bank in
+    let log : Log = record { g = c.self.inside.g; head = c.self.inside.head; cell = c.self.inside.cell; stage = c.self.inside.stage; index = c.self.inside.index } in
+    subst (λ (l : Log). StaysFrom (l.g.members + 1) old v2) c.self.view_is
+    (fill_stays log c.self.invariant.place c.ring_of-ring.result c.ring_of-ring.ensures old v1 _ _ c.append.ensures.contents v2 c.append.ensures.any_moment.tells c.self.inside.stage.g _ c.fill.ensures.contents)
+
+pub returns-in_err-sync-clause-others : goal.returns-in_err-sync-clause-others
+returns-in_err-sync-clause-others g c =
+    let old = g.B.Bank.view c.args.bank.now in
+    let v1 = g.B.Bank.view c.append.new.bank in
+    let v2 = g.B.Bank.view c.fill.new.bank in
+    let v3 = g.B.Bank.view c.sync.new.self in
+    let log : Log = record { g = c.self.inside.g; head = c.self.inside.head; cell = c.self.inside.cell; stage = c.self.inside.stage; index = c.self.inside.index } in
+    subst (λ (l : Log). StaysFrom (l.g.members + 1) old v3) c.self.view_is
+    (sync_stays log c.self.invariant.place c.ring_of-ring.result c.ring_of-ring.ensures old v1 _ _ c.append.ensures.contents v2 c.append.ensures.any_moment.tells c.self.inside.stage.g _ c.fill.ensures.contents v3 c.fill.ensures.any_moment.tells c.sync.ensures.call.same)
+
+pub returns-in_err-put-clause-others : goal.returns-in_err-put-clause-others
+returns-in_err-put-clause-others g c =
+    let old = g.B.Bank.view c.args.bank.now in
+    let v1 = g.B.Bank.view c.append.new.bank in
+    let v2 = g.B.Bank.view c.fill.new.bank in
+    let v3 = g.B.Bank.view c.sync.new.self in
+    let v4 = g.B.Bank.view c.put.new.bank in
+    let log : Log = record { g = c.self.inside.g; head = c.self.inside.head; cell = c.self.inside.cell; stage = c.self.inside.stage; index = c.self.inside.index } in
+    subst (λ (l : Log). StaysFrom (l.g.members + 1) old v4) c.self.view_is
+    (put_stays log c.self.invariant.place c.ring_of-ring.result c.ring_of-ring.ensures old v1 _ _ c.append.ensures.contents v2 c.append.ensures.any_moment.tells c.self.inside.stage.g _ c.fill.ensures.contents v3 c.fill.ensures.any_moment.tells c.sync.ensures.call.same v4 _ c.sync.ensures.call.goes.tells c.put.ensures.contents)
+
+pub returns-clause-others : goal.returns-clause-others
+returns-clause-others g c =
+    let old = g.B.Bank.view c.args.bank.now in
+    let v1 = g.B.Bank.view c.append.new.bank in
+    let v2 = g.B.Bank.view c.fill.new.bank in
+    let v3 = g.B.Bank.view c.sync.new.self in
+    let v4 = g.B.Bank.view c.put.new.bank in
+    let log : Log = record { g = c.self.inside.g; head = c.self.inside.head; cell = c.self.inside.cell; stage = c.self.inside.stage; index = c.self.inside.index } in
+    subst (λ (l : Log). StaysFrom (l.g.members + 1) old v4) c.self.view_is
+    (put_stays log c.self.invariant.place c.ring_of-ring.result c.ring_of-ring.ensures old v1 _ _ c.append.ensures.contents v2 c.append.ensures.any_moment.tells c.self.inside.stage.g _ c.fill.ensures.contents v3 c.fill.ensures.any_moment.tells c.sync.ensures.call.same v4 _ c.sync.ensures.call.goes.tells c.put.ensures.contents)

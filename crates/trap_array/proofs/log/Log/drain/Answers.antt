@@ -1,12 +1,14 @@
-use Rattle.std.proofs.Common.{sym, subst, ◌∙◌}
+use Rattle.std.proofs.Common.{◌+◌, sym, subst, ◌∙◌}
 use Rattle.trap_bank.specs.Steps.{Moves}
 use Rattle.trap_raid.specs.Condition.{Condition}
 use Rattle.trap_raid.specs.Members.{MembersFit}
 use Rattle.trap_raid.proofs.FitLemmas.{fits_from_sizes}
+use Rattle.trap_array.specs.Beside.{StaysFrom}
 use Rattle.trap_array.specs.Calls.{MayTurn, HasTurned, going}
 use Rattle.trap_array.specs.Log.{Log}
 use Rattle.trap_array.specs.NextHead.{drained_to}
 use Rattle.trap_array.specs.Ready.{CanDrain}
+use Rattle.trap_array.proofs.Beside.{raid_stays, drain_stays}
 use Rattle.trap_array.proofs.CommitSteps.{cell_room}
 use Rattle.trap_array.proofs.DrainSteps.{drain_any, cell_still, put_any, put_ok}
 use Rattle.trap_array.proofs.log.Log.drain.Goals as goal
@@ -85,3 +87,29 @@ returns-clause-any_moment g c =
     let P : Log → Type 0 = λ (l : Log). Moves old v2 (MayTurn (going l) old (λ s. s)) (MayTurn (going l) old (λ s. s)) in
     subst P c.self.view_is
     (put_any log c.self.invariant.place c.self.invariant.is_head can.in_step old c.new-raid.result c.new-raid.ensures v1 c.drain.ensures.any_moment c.in_ok-drain.ensures.ok v2 c.value_of-value.result c.value_of-value.ensures c.put.ensures.any_moment)
+
+pub returns-in_err-drain-clause-others : goal.returns-in_err-drain-clause-others
+returns-in_err-drain-clause-others g c =
+    let old = g.B.Bank.view c.args.bank.now in
+    let v1 = g.B.Bank.view c.drain.new.bank in
+    let log : Log = record { g = c.self.inside.g; head = c.self.inside.head; cell = c.self.inside.cell; stage = c.self.inside.stage; index = c.self.inside.index } in
+    subst (λ (l : Log). StaysFrom (l.g.members + 1) old v1) c.self.view_is
+    (raid_stays log old v1 c.new-raid.result c.new-raid.ensures _ c.drain.ensures.contents)
+
+pub returns-in_err-put-clause-others : goal.returns-in_err-put-clause-others
+returns-in_err-put-clause-others g c =
+    let old = g.B.Bank.view c.args.bank.now in
+    let v1 = g.B.Bank.view c.drain.new.bank in
+    let v2 = g.B.Bank.view c.put.new.bank in
+    let log : Log = record { g = c.self.inside.g; head = c.self.inside.head; cell = c.self.inside.cell; stage = c.self.inside.stage; index = c.self.inside.index } in
+    subst (λ (l : Log). StaysFrom (l.g.members + 1) old v2) c.self.view_is
+    (drain_stays log c.self.invariant.place old v1 v2 c.new-raid.result c.new-raid.ensures _ _ c.drain.ensures.any_moment.tells c.drain.ensures.contents c.put.ensures.contents)
+
+pub returns-clause-others : goal.returns-clause-others
+returns-clause-others g c =
+    let old = g.B.Bank.view c.args.bank.now in
+    let v1 = g.B.Bank.view c.drain.new.bank in
+    let v2 = g.B.Bank.view c.put.new.bank in
+    let log : Log = record { g = c.self.inside.g; head = c.self.inside.head; cell = c.self.inside.cell; stage = c.self.inside.stage; index = c.self.inside.index } in
+    subst (λ (l : Log). StaysFrom (l.g.members + 1) old v2) c.self.view_is
+    (drain_stays log c.self.invariant.place old v1 v2 c.new-raid.result c.new-raid.ensures _ _ c.drain.ensures.any_moment.tells c.drain.ensures.contents c.put.ensures.contents)

@@ -22,7 +22,7 @@ returns-in_err-make_room-clause-turns g c =
     let replies = reply_of here.g c.args.time c.args.block c.args.bytes.now in
     let is : Err c.in_err-make_room.field-0.0 ≡ c.from_residual.result = search rules in
     let P : Result ℕ Denied → Type 0 = λ (r : Result ℕ Denied). Turns here c.make_room.new.self next replies r old new in
-    subst P is (room_failed here c.make_room.new.self old new next replies c.in_err-make_room.field-0.0 c.in_err-make_room.ensures.cause c.make_room.ensures.goes_on c.make_room.ensures.sizes c.make_room.ensures.any_moment)
+    subst P is (room_failed here c.make_room.new.self old new next replies c.in_err-make_room.field-0.0 c.in_err-make_room.ensures.cause c.make_room.ensures.goes_on c.make_room.ensures.sizes c.make_room.ensures.others c.make_room.ensures.any_moment)
 
 pub keep_in_room-requires-clause-not_worn : goal.keep_in_room-requires-clause-not_worn
 keep_in_room-requires-clause-not_worn g c =
@@ -41,5 +41,5 @@ returns-clause-turns g c =
     let between = c.make_room.new.self in
     let P : Geometry → Type 0 = λ (geometry : Geometry). Turns between c.keep_in_room.new.self (next_of geometry c.args.time c.args.block c.args.bytes.now) (reply_of geometry c.args.time c.args.block c.args.bytes.now) c.keep_in_room.result mid new in
     turns_after here c.keep_in_room.new.self (next_of here.g c.args.time c.args.block c.args.bytes.now) (reply_of here.g c.args.time c.args.block c.args.bytes.now)
-    between c.keep_in_room.result old mid new c.make_room.ensures.goes_on c.in_ok-make_room.ensures.ok c.make_room.ensures.sizes
+    between c.keep_in_room.result old mid new c.make_room.ensures.goes_on c.in_ok-make_room.ensures.ok c.make_room.ensures.sizes c.make_room.ensures.others
     (subst P c.make_room.ensures.goes_on.g c.keep_in_room.ensures.turns)

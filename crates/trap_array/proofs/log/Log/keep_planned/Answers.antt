@@ -11,6 +11,7 @@ use Rattle.trap_array.specs.Log.{Log}
 use Rattle.trap_array.specs.NextHead.{entry_for}
 use Rattle.trap_array.specs.Turning.{Turns}
 use Rattle.trap_array.specs.declared.fault.Denied.{Denied}
+use Rattle.trap_array.proofs.Beside.{both_stay}
 use Rattle.trap_array.proofs.Turns.{then_keep_may, then_keep_has}
 use Rattle.trap_array.proofs.TurnSteps.{fault_since, goes_then, turns_failed, turns_done}
 use Rattle.trap_array.proofs.log.Log.keep_planned.Goals as goal
@@ -32,6 +33,7 @@ returns-in_err-drain g c =
     (fault_since (going here) (going between) old mid new c.commit.ensures.goes_on c.in_ok-commit.ensures.ok.faults c.in_err-drain.field-0.0 c.in_err-drain.ensures.cause)
     (goes_then (going here) (going between) (going after) c.commit.ensures.goes_on c.drain.ensures.goes_on)
     (λ d. c.drain.ensures.sizes d ∙ c.commit.ensures.sizes d)
+    (both_stay (going here) (going between) old mid new c.commit.ensures.goes_on c.in_ok-commit.ensures.ok.tells c.commit.ensures.others c.drain.ensures.others)
     (then_keep_may (going here) (going between) c.commit.ensures.goes_on old mid new next c.in_ok-commit.ensures.ok c.drain.ensures.any_moment))
 
 pub returns : goal.returns
@@ -51,3 +53,4 @@ returns g c =
     c.in_ok-drain.ensures.in_step c.in_ok-drain.ensures.stands
     (goes_then (going here) (going between) (going after) c.commit.ensures.goes_on c.drain.ensures.goes_on)
     (λ d. c.drain.ensures.sizes d ∙ c.commit.ensures.sizes d)
+    (both_stay (going here) (going between) old mid new c.commit.ensures.goes_on c.in_ok-commit.ensures.ok.tells c.commit.ensures.others c.drain.ensures.others)
