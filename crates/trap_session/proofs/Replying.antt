@@ -18,9 +18,11 @@ use Rattle.trap_model.specs.declared.request.Reply.TheVariants.{No, Span}
 use Rattle.trap_script.specs.Lines.{goes_on}
 use Rattle.trap_script.specs.Replies.{reply_text}
 use Rattle.trap_array.specs.Holding.{HoldsBy}
+use Rattle.trap_array.specs.Beside.{StaysFrom}
 use Rattle.trap_array.specs.Calls.{Mounted, WriteReplies, ReadReplies, AtReplies, is_fault, MemberFails, StandsFor, HoldsLike, IsReady, GoesOn, MayTurn, HasTurned}
 use Rattle.trap_array.specs.declared.fault.Denied.{Denied}
 use Rattle.trap_array.specs.declared.fault.Denied.TheVariants.{Refused, LogFault, MemberFault, Damaged, Stopped}
+use Rattle.trap_array.proofs.Beside.{stays_none, stays_same, stays_then}
 use Rattle.trap_session.specs.Store.{Store, array_store, ComesWith, Replied, CutShort, Struck, StandsForNone, HasRisen}
 use Rattle.trap_session.specs.Denying.{EndsSession}
 use Rattle.trap_session.specs.Answers.{Answers, HasAnswered, StandsOn, AnswersLine}
@@ -101,14 +103,18 @@ rose_port : (a : Mounted) (v u w : View) (result : Result Next SessionFault) →
 rose_port a v u w (Ok next) later rose is = rose
 rose_port a v u w (Err fault) later rose is = subst (λ f. HasRisen a f v w) (sym is) (omega (arith, later, rose))
 
+-- no disk changes while a piece is said
+stays_said : (d : ℕ) (u w : View) → (IsTrue u.tells → w.now.disks ≡ u.now.disks) → StaysFrom d u w
+stays_said d u w same told e above = ap (λ (disks : Disks). disks e) (same told)
+
 -- One line whose reply is said: all that is owed of it.
 pub line_replied : (a b : Mounted) (v u w : View) (asked : Request) (reply : Reply) (result : Result Next SessionFault)
     → (IsTrue v.tells → (s : State) → Always v (StandsFor a s) → (step a.g).reply s asked ≡ reply)
     → Steps v u (Answers a v asked) (HasDone a v asked) → StandsOn a b asked v u
-    → ((e : ℕ) → u.sizes e ≡ v.sizes e) → IsReady b u → b.is_stopped ≡ false → GoesOn a b
+    → ((e : ℕ) → u.sizes e ≡ v.sizes e) → StaysFrom (a.g.members + 1) v u → IsReady b u → b.is_stopped ≡ false → GoesOn a b
     → Says (reply_text reply) result u w → IfOk result (λ next. next ≡ More) → IfErr result (λ fault. fault ≡ WriteFault)
     → AnswersLine a b result asked v w
-line_replied a b v u w asked reply result is done stands sizes ready going goes_on call ok err = record {
+line_replied a b v u w asked reply result is done stands sizes others ready going goes_on call ok err = record {
   steps = reply_behind a v u w asked reply result is done call ok err;
   stands = always_ok result (λ s was. always_said u w result (reply_text reply) (StandsFor b ((step a.g).next s asked)) call (stands s was));
   going = always_ok result going;
@@ -116,6 +122,7 @@ line_replied a b v u w asked reply result is done stands sizes ready going goes_
   goes_on = goes_on;
   cause = rose_port a v u w result done.port_faults call.cause err;
   sizes = λ e. call.sizes e ∙ sizes e;
+  others = stays_then (a.g.members + 1) v u w done.tells others (stays_said (a.g.members + 1) u w call.disks);
 }
   where
     always_ok : {T E P : Type 0} (r : Result T E) → P → OnOk r P
@@ -209,9 +216,9 @@ by_still g s time block = stays (refusal g s (By time block)) s
 -- One line in which a disk failed.
 pub line_struck : (a b : Mounted) (v u : View) (asked : Request) (denied : Denied)
     → Steps v u (Answers a v asked) (HasAnswered a v (Err (Array denied)) asked)
-    → ((e : ℕ) → u.sizes e ≡ v.sizes e) → IsReady b u → GoesOn a b → HasRisen a (Array denied) v u
+    → ((e : ℕ) → u.sizes e ≡ v.sizes e) → StaysFrom (a.g.members + 1) v u → IsReady b u → GoesOn a b → HasRisen a (Array denied) v u
     → AnswersLine a b (Err (Array denied)) asked v u
-line_struck a b v u asked denied steps sizes ready goes risen = record {
+line_struck a b v u asked denied steps sizes others ready goes risen = record {
   steps = steps;
   stands = tt;
   going = tt;
@@ -219,6 +226,7 @@ line_struck a b v u asked denied steps sizes ready goes risen = record {
   goes_on = goes;
   cause = risen;
   sizes = sizes;
+  others = others;
 }
 
 -- an array that goes on isn't stopped by a call without a fault
@@ -230,22 +238,22 @@ still_going false now is going = is
 pub write_replied : (a b : Mounted) (v u w : View) (time block : ℕ) (bytes fresh : List ℕ) → bytes ≡ fresh → (reply : Reply) (result : Result Next SessionFault)
     → (IsTrue v.tells → (s : State) → Always v (StandsFor a s) → (step a.g).reply s (Write time block bytes) ≡ reply)
     → Moves v u (MayTurn a v (λ s. (step a.g).next s (Write time block bytes))) (HasTurned a b v (λ s. (step a.g).next s (Write time block bytes)))
-    → ((e : ℕ) → u.sizes e ≡ v.sizes e) → IsReady b u → b.is_stopped ≡ false → GoesOn a b
+    → ((e : ℕ) → u.sizes e ≡ v.sizes e) → StaysFrom (a.g.members + 1) v u → IsReady b u → b.is_stopped ≡ false → GoesOn a b
     → Says (reply_text reply) result u w → IfOk result (λ next. next ≡ More) → IfErr result (λ fault. fault ≡ WriteFault)
     → AnswersLine a b result (Write time block fresh) v w
-write_replied a b v u w time block bytes fresh same reply result is moves sizes ready going goes call ok err =
+write_replied a b v u w time block bytes fresh same reply result is moves sizes others ready going goes call ok err =
     subst (λ l. AnswersLine a b result (Write time block l) v w) same
     (line_replied a b v u w (Write time block bytes) reply result is (turned_done a v u (Write time block bytes) refl b goes moves)
-    (turned_stands a v u (Write time block bytes) refl b moves) sizes ready going goes call ok err)
+    (turned_stands a v u (Write time block bytes) refl b moves) sizes others ready going goes call ok err)
 
 -- a write in which a disk failed
 pub write_struck : (a b : Mounted) (v u : View) (time block : ℕ) (bytes fresh : List ℕ) → bytes ≡ fresh → (denied : Denied)
     → Moves v u (MayTurn a v (λ s. (step a.g).next s (Write time block bytes))) (MayTurn a v (λ s. (step a.g).next s (Write time block bytes)))
-    → ((e : ℕ) → u.sizes e ≡ v.sizes e) → IsReady b u → GoesOn a b → HasRisen a (Array denied) v u
+    → ((e : ℕ) → u.sizes e ≡ v.sizes e) → StaysFrom (a.g.members + 1) v u → IsReady b u → GoesOn a b → HasRisen a (Array denied) v u
     → AnswersLine a b (Err (Array denied)) (Write time block fresh) v u
-write_struck a b v u time block bytes fresh same denied moves sizes ready goes risen =
+write_struck a b v u time block bytes fresh same denied moves sizes others ready goes risen =
     subst (λ l. AnswersLine a b (Err (Array denied)) (Write time block l) v u) same
-    (line_struck a b v u (Write time block bytes) denied (turned_struck a v u (Write time block bytes) refl denied risen moves) sizes ready goes risen)
+    (line_struck a b v u (Write time block bytes) denied (turned_struck a v u (Write time block bytes) refl denied risen moves) sizes others ready goes risen)
 
 -- a call that changes nothing of the array but perhaps whether it is stopped
 pub same_goes : (a b : Mounted) (stopped : Bool) → b ≡ record a { is_stopped = stopped } → GoesOn a b
@@ -255,19 +263,19 @@ same_goes a b stopped same = subst (GoesOn a) (sym same) (record { g = refl; los
 pub same_replied : (a b : Mounted) (v u w : View) (asked : Request) → goes_on asked ≡ true → ((s : State) → (step a.g).next s asked ≡ s)
     → (stopped : Bool) → b ≡ record a { is_stopped = stopped } → stopped ≡ false → (reply : Reply) (result : Result Next SessionFault)
     → (IsTrue v.tells → (s : State) → Always v (StandsFor a s) → (step a.g).reply s asked ≡ reply)
-    → Moves v u Same Same → ((e : ℕ) → u.sizes e ≡ v.sizes e) → IsReady b u
+    → Moves v u Same Same → ((e : ℕ) → u.sizes e ≡ v.sizes e) → (IsTrue v.tells → u.now ≡ v.now) → IsReady b u
     → Says (reply_text reply) result u w → IfOk result (λ next. next ≡ More) → IfErr result (λ fault. fault ≡ WriteFault)
     → AnswersLine a b result asked v w
-same_replied a b v u w asked more still stopped same going reply result is moves sizes ready call ok err =
+same_replied a b v u w asked more still stopped same going reply result is moves sizes alike ready call ok err =
     line_replied a b v u w asked reply result is (same_done a v u asked more moves still) (same_stands a v u asked more moves b stopped same still)
-    sizes ready (ap (λ (m : Mounted). m.is_stopped) same ∙ going) (same_goes a b stopped same) call ok err
+    sizes (stays_same (a.g.members + 1) v u alike) ready (ap (λ (m : Mounted). m.is_stopped) same ∙ going) (same_goes a b stopped same) call ok err
 
 -- a request that changes no state, in which the array failed
 pub same_failed : (a b : Mounted) (v u : View) (asked : Request) → goes_on asked ≡ true → (stopped : Bool) → b ≡ record a { is_stopped = stopped } → (denied : Denied)
-    → Moves v u Same Same → ((e : ℕ) → u.sizes e ≡ v.sizes e) → IsReady b u → HasRisen a (Array denied) v u
+    → Moves v u Same Same → ((e : ℕ) → u.sizes e ≡ v.sizes e) → (IsTrue v.tells → u.now ≡ v.now) → IsReady b u → HasRisen a (Array denied) v u
     → AnswersLine a b (Err (Array denied)) asked v u
-same_failed a b v u asked more stopped same denied moves sizes ready risen =
-    line_struck a b v u asked denied (same_struck a v u asked more moves denied risen) sizes ready (same_goes a b stopped same) risen
+same_failed a b v u asked more stopped same denied moves sizes alike ready risen =
+    line_struck a b v u asked denied (same_struck a v u asked more moves denied risen) sizes (stays_same (a.g.members + 1) v u alike) ready (same_goes a b stopped same) risen
 
 -- no call at all
 pub no_call : (v : View) → Moves v v Same Same
@@ -283,6 +291,7 @@ line_quits a v ready going = record {
   goes_on = record { g = refl; lost = refl; rebuilt = refl };
   cause = tt;
   sizes = λ e. refl;
+  others = stays_none (a.g.members + 1) v;
 }
 
 -- a refused write is replied to so,
@@ -321,7 +330,7 @@ pub bad_replied : (a : Mounted) (v w : View) (result : Result Next SessionFault)
     → Says (reply_text (No NoLine)) result v w → IfOk result (λ next. next ≡ More) → IfErr result (λ fault. fault ≡ WriteFault)
     → AnswersLine a a result Bad v w
 bad_replied a v w result ready going call ok err = same_replied a a v v w Bad refl (λ s. refl) a.is_stopped refl going (No NoLine) result
-    (λ told s stands. refl) (no_call v) (λ e. refl) ready call ok err
+    (λ told s stands. refl) (no_call v) (λ e. refl) (λ told. refl) ready call ok err
 
 -- The line asks for the numbers of the history.
 pub info_replied : (a : Mounted) (v w : View) (first last base_time last_time : ℕ) (result : Result Next SessionFault) → IsReady a v → a.is_stopped ≡ false
@@ -330,7 +339,7 @@ pub info_replied : (a : Mounted) (v w : View) (first last base_time last_time : 
     → AnswersLine a a result Info v w
 info_replied a v w first last base_time last_time result ready going span call ok err =
     same_replied a a v v w Info refl (λ s. refl) a.is_stopped refl going (Span first last base_time last_time) result
-    (λ told s stands. span s v.now.disks (stands v.now (read_is_left v told))) (no_call v) (λ e. refl) ready call ok err
+    (λ told s stands. span s v.now.disks (stands v.now (read_is_left v told))) (no_call v) (λ e. refl) (λ told. refl) ready call ok err
 
 -- an array that isn't stopped doesn't say that it is
 not_both : (b : Bool) → b ≡ false → b ≡ true → ⊥

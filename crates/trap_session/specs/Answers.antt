@@ -1,10 +1,11 @@
 -- What a line does to a mounted array: the state that it stands for is the one after the request, and the reply is said.
-use Rattle.std.specs.Prelude.{◌≡◌, ℕ, false, Result, OnOk, IfErr}
+use Rattle.std.specs.Prelude.{◌≡◌, ℕ, ◌+◌, false, Result, OnOk, IfErr}
 use Rattle.trap_bank.specs.Disks.{Contents, View}
 use Rattle.trap_bank.specs.Steps.{Steps, Always}
 use Rattle.trap_model.specs.ArrayStep.{step}
 use Rattle.trap_model.specs.declared.history.State.{State}
 use Rattle.trap_model.specs.declared.request.Request.{Request}
+use Rattle.trap_array.specs.Beside.{StaysFrom}
 use Rattle.trap_array.specs.Calls.{Mounted, IsReady, GoesOn, StandsFor}
 use Rattle.trap_session.specs.Store.{array_store, Served, Answering, HasRisen}
 use Rattle.trap_session.specs.declared.outcome.Next.{Next}
@@ -34,3 +35,4 @@ pub record AnswersLine (a b : Mounted) (result : Result Next SessionFault) (aske
   pub goes_on : GoesOn a b
   pub cause : IfErr result (λ fault. HasRisen a fault old new)
   pub sizes : (e : ℕ) → new.sizes e ≡ old.sizes e
+  pub others : StaysFrom (a.g.members + 1) old new

@@ -3,6 +3,7 @@
 ghost use Rattle.std.specs.Prelude.{◌≡◌, ◌+◌, ◌*◌, ◌^◌, ◌≤◌, ℕ, [], false};
 ghost use Rattle.trap_bank.specs.Steps.{Steps};
 ghost use Rattle.trap_lines.specs.Reader.{pending, taken, room};
+ghost use Rattle.trap_array.specs.Beside.{StaysFrom};
 ghost use Rattle.trap_array.specs.Calls.{IsReady};
 ghost use Rattle.trap_session.specs.Serving.{Serves, HasStopped, StopsBy, HadNoQuit};
 
@@ -34,6 +35,7 @@ pub fn serve<B: Bank, S: Source>(
         (S.stream source.old) (S.stream source.new) }
     ensures no_quit { result ≡ Ok Ended.Input → HadNoQuit array.old.g.block (S.stream source.old) }
     ensures sizes { (e : ℕ) → (B.view bank.new).sizes e ≡ (B.view bank.old).sizes e }
+    ensures others { StaysFrom (array.old.g.members + 1) (B.view bank.old) (B.view bank.new) }
 {
     'lines: loop {
         match reader.next(source) {

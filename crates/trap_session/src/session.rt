@@ -3,6 +3,7 @@
 ghost use Rattle.std.specs.Prelude.{◌≡◌, ◌+◌, ◌*◌, ◌^◌, ◌≤◌, ◌↔◌, [], ℕ, IsTrue, IfOk, false};
 ghost use Rattle.trap_bank.specs.Steps.{Steps};
 ghost use Rattle.trap_script.specs.Lines.{request_of, goes_on};
+ghost use Rattle.trap_array.specs.Beside.{StaysFrom};
 ghost use Rattle.trap_array.specs.Calls.{IsReady};
 ghost use Rattle.trap_session.specs.Answers.{AnswersLine};
 ghost use Rattle.trap_session.specs.Serving.{Serves, HasStopped, StopsBy, HadNoQuit};
@@ -84,6 +85,7 @@ impl Session {
             (S.stream source.old) (S.stream source.new) }
         ensures no_quit { result ≡ Ok Ended.Input → HadNoQuit array.old.g.block (S.stream source.old) }
         ensures sizes { (e : ℕ) → (B.view bank.new).sizes e ≡ (B.view bank.old).sizes e }
+        ensures others { StaysFrom (array.old.g.members + 1) (B.view bank.old) (B.view bank.new) }
     {
         let mut buffers = self.buffers;
         let mut reader = self.reader;

@@ -1,4 +1,4 @@
-use Rattle.std.proofs.Common.{◌≡◌, inl, ℕ, ◌<◌, List, [], ◌∷◌, ◌++◌, length, Some, true, false, Ok, Err, refl, sym, ap, subst, ◌∙◌, arith}
+use Rattle.std.proofs.Common.{◌≡◌, inl, ℕ, ◌+◌, ◌<◌, List, [], ◌∷◌, ◌++◌, length, Some, true, false, Ok, Err, refl, sym, ap, subst, ◌∙◌, arith}
 use Rattle.std.proofs.lemmas.List.Elements.{All-nil}
 use Rattle.trap_lines.specs.Reader.{to_come, Finds, FindsNone}
 use Rattle.trap_lines.proofs.Passing.{passes_nothing, passes_trans}
@@ -8,6 +8,7 @@ use Rattle.trap_bank.specs.Steps.{Steps}
 use Rattle.trap_model.specs.ArrayStep.{step}
 use Rattle.trap_model.specs.declared.numbers.Geometry.{Geometry}
 use Rattle.trap_script.specs.Lines.{request_of, goes_on, is_line_feed}
+use Rattle.trap_array.proofs.Beside.{stays_none, both_stay}
 use Rattle.trap_session.specs.Store.{array_store}
 use Rattle.trap_session.specs.Serving.{Serves, HasStopped, StopsBy}
 use Rattle.trap_session.proofs.Arrays.{goes_nowhere, goes_then}
@@ -30,6 +31,7 @@ lines-init g c = (
   refl,
   λ input left. ahead_start c.args.array.now.g.block input,
   (λ s. s, λ s stands. stands, run_begins c.args.array.now (g.B.Bank.view c.args.bank.now) (g.S.Source.stream c.args.source.now)),
+  stays_none (c.args.array.now.g.members + 1) (g.B.Bank.view c.args.bank.now),
 )
 
 pub returns-in-Err-Source-clause-stops : goal.returns-in-Err-Source-clause-stops
@@ -202,6 +204,46 @@ returns-in-Ok-Last-clause-no_quit g c is input left =
     (last_line c.args.reader.now c.lines.reader (stream c.args.source.now) (stream c.lines.source) c.requires.none input left inv.0 inv.1
     r' (stream c.next.new.source) found.0 found.2 found.4.0) found.1.no_feed
 
+pub returns-in_err-answer_found-in-Ok-Last-clause-others : goal.returns-in_err-answer_found-in-Ok-Last-clause-others
+returns-in_err-answer_found-in-Ok-Last-clause-others g c =
+    let view = g.B.Bank.view in
+    let stream = g.S.Source.stream in
+    let inv = c.lines.invariant in
+    let r' = c.next.new.self in
+    let found = subst (λ f. Finds f c.lines.reader r' (stream c.lines.source) (stream c.next.new.source)) c.in-Ok-Last.field-0-is c.in-Ok-Last.ensures.found in
+    both_stay c.args.array.now c.lines.array (view c.args.bank.now) (view c.lines.bank) (view c.answer_found.new.bank) inv.5 inv.10.2.tells inv.11
+    (c.answer_found.ensures.answers found.0 found.1).others
+
+pub returns-in_err-answer_found-in-Ok-Line-clause-others : goal.returns-in_err-answer_found-in-Ok-Line-clause-others
+returns-in_err-answer_found-in-Ok-Line-clause-others g c =
+    let view = g.B.Bank.view in
+    let stream = g.S.Source.stream in
+    let inv = c.lines.invariant in
+    let r' = c.next.new.self in
+    let found = subst (λ f. Finds f c.lines.reader r' (stream c.lines.source) (stream c.next.new.source)) c.in-Ok-Line.field-0-is c.in-Ok-Line.ensures.found in
+    both_stay c.args.array.now c.lines.array (view c.args.bank.now) (view c.lines.bank) (view c.answer_found-in-Ok-Line.new.bank) inv.5 inv.10.2.tells inv.11
+    (c.answer_found-in-Ok-Line.ensures.answers found.0 found.1).others
+
+pub returns-in-Ok-Last-clause-others : goal.returns-in-Ok-Last-clause-others
+returns-in-Ok-Last-clause-others g c =
+    let view = g.B.Bank.view in
+    let stream = g.S.Source.stream in
+    let inv = c.lines.invariant in
+    let r' = c.next.new.self in
+    let found = subst (λ f. Finds f c.lines.reader r' (stream c.lines.source) (stream c.next.new.source)) c.in-Ok-Last.field-0-is c.in-Ok-Last.ensures.found in
+    both_stay c.args.array.now c.lines.array (view c.args.bank.now) (view c.lines.bank) (view c.answer_found.new.bank) inv.5 inv.10.2.tells inv.11
+    (c.answer_found.ensures.answers found.0 found.1).others
+
+pub returns-in-Quit-clause-others : goal.returns-in-Quit-clause-others
+returns-in-Quit-clause-others g c =
+    let view = g.B.Bank.view in
+    let stream = g.S.Source.stream in
+    let inv = c.lines.invariant in
+    let r' = c.next.new.self in
+    let found = subst (λ f. Finds f c.lines.reader r' (stream c.lines.source) (stream c.next.new.source)) c.in-Ok-Line.field-0-is c.in-Ok-Line.ensures.found in
+    both_stay c.args.array.now c.lines.array (view c.args.bank.now) (view c.lines.bank) (view c.answer_found-in-Ok-Line.new.bank) inv.5 inv.10.2.tells inv.11
+    (c.answer_found-in-Ok-Line.ensures.answers found.0 found.1).others
+
 pub lines-preserved : goal.lines-preserved
 lines-preserved g c =
     let view = g.B.Bank.view in
@@ -232,4 +274,5 @@ lines-preserved g c =
         line_more c.args.array.now (view c.args.bank.now) (stream c.args.source.now) c.lines.array (view c.lines.bank) inv.0 inv.10.0 inv.5 inv.10.1 inv.10.2
             c.answer_found-in-Ok-Line.new.array (view c.answer_found-in-Ok-Line.new.bank) found.0 found.1.no_feed c.answer_found-in-Ok-Line.result (c.answer_found-in-Ok-Line.ensures.answers found.0 found.1) here is,
       ),
+      both_stay c.args.array.now c.lines.array (view c.args.bank.now) (view c.lines.bank) (view c.answer_found-in-Ok-Line.new.bank) inv.5 inv.10.2.tells inv.11 answers.others,
     )

@@ -1,7 +1,8 @@
-use Rattle.std.proofs.Common.{◌≡◌, ℕ, ◌-◌, ◌^◌, List, Some, false}
+use Rattle.std.proofs.Common.{◌≡◌, ℕ, ◌+◌, ◌-◌, ◌^◌, List, Some, false}
 use Rattle.trap_bank.specs.Steps.{Steps}
 use Rattle.trap_lines.specs.Reader.{Passes, IsOpen}
 use Rattle.trap_model.specs.declared.history.State.{State}
+use Rattle.trap_array.specs.Beside.{StaysFrom}
 use Rattle.trap_array.specs.Calls.{IsReady, GoesOn}
 use Rattle.trap_session.specs.Serving.{Serves, AreWholeLines}
 use Rattle.trap_session.proofs.Quits.{IsAhead}
@@ -9,7 +10,7 @@ use Rattle.trap_session.proofs.Running.{Walks, Turns}
 use Rattle.trap_session.proofs.serve.serve.Given as goal
 
 -- Whole lines were passed over. The array goes on, and whatever state it stood for on entry, it stands for that one
--- turned by them; where the input is known, each line was answered.
+-- turned by them; where the input is known, each line was answered. No disk beside the array's own changed.
 abbrev pub invariant-lines : goal.invariant-lines
 invariant-lines g l =
     let v0 = g.B.Bank.view l.fn.bank in
@@ -21,6 +22,7 @@ invariant-lines g l =
     × (l.buffers.g ≡ l.fn.buffers.g)
     × ((input : List ℕ) → from.left ≡ Some input → IsAhead l.fn.array.g.block input passed)
     × ((turn : State → State) × Turns l.fn.array l.array v0 v turn × Steps v0 v (Serves l.fn.array v0 from) (Walks l.fn.array v0 from passed turn))
+    × StaysFrom (l.fn.array.g.members + 1) v0 v
 
 abbrev pub decreases-lines : goal.decreases-lines
 decreases-lines g l = 2 ^ 40 - l.reader.used
