@@ -241,7 +241,7 @@ module _ (g : Geometry) (h k : Head) (cell : Slots) (stage : Stage) (a b c : Vie
 
       pub mount_ready : IsReady (mounted_by g k after stage index) d
       mount_ready = record {
-        sizes = record {
+        sizes = λ going. record {
           log = sizes 0 ∙ reads.sizes 0 ∙ log.header.size;
           members = λ m inside counts. sizes (m + 1) ∙ to_c.sizes (m + 1) ∙ (member_read m inside counts).size;
         };

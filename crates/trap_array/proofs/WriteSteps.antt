@@ -84,6 +84,6 @@ sizes_along a b v w on same sizes =
 pub ready_after : (a b : Log) (next : State → State) (replies : State → Reply) (result : Result ℕ Denied) (v w : View) (stopped : Bool) → Turns a b next replies result v w → stopped ≡ is_fault result
     → HasSizes a.g a.head.lost a.head.rebuilt v → IsReady (mounted b stopped) w
 ready_after a b next replies result v w stopped turns is sizes = record {
-  sizes = (let along = sizes_along (going a) (going b) v w turns.goes_on turns.sizes sizes in record { log = along.log; members = along.members });
+  sizes = λ none. let along = sizes_along (going a) (going b) v w turns.goes_on turns.sizes sizes in record { log = along.log; members = along.members };
   stands = λ none. turns.stands (not_failed (going a) v w result turns.cause (sym is ∙ none));
 }

@@ -47,9 +47,9 @@ pub record HasSizes (g : Geometry) (lost : Option ℕ) (rebuilt : ℕ) (v : View
   pub log : v.sizes 0 ≡ Some (log_size g)
   pub members : (m : ℕ) → m < g.members → Counts lost rebuilt 0 m → v.sizes (m + 1) ≡ Some (member_size g)
 
--- the disks have their sizes, and unless the array is stopped, every crash leaves the head's cell as it knows it
+-- unless the array is stopped, the disks have their sizes, and every crash leaves the head's cell as it knows it
 pub record IsReady (a : Mounted) (v : View) : Type 0 where
-  pub sizes : HasSizes a.g a.head.lost a.head.rebuilt v
+  pub sizes : a.is_stopped ≡ false → HasSizes a.g a.head.lost a.head.rebuilt v
   pub stands : a.is_stopped ≡ false → Always v (Stands a.cell)
 
 -- no call changes the numbers of an array, nor which member is lost

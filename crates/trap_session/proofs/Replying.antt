@@ -91,10 +91,9 @@ always_said u w result piece has call always c left =
 -- an array is ready where the disks have the same sizes, and every crash leaves its cell as before
 ready_as : (a : Mounted) (u w : View) → ((e : ℕ) → w.sizes e ≡ u.sizes e) → ((has : Disks → Type 0) → Always u has → Always w has) → IsReady a u → IsReady a w
 ready_as a u w sizes still ready = record {
-  sizes = record {
-    log = sizes 0 ∙ ready.sizes.log;
-    members = λ m inside counts. sizes (m + 1) ∙ ready.sizes.members m inside counts;
-  };
+  sizes = λ going.
+      let before = ready.sizes going in
+      record { log = sizes 0 ∙ before.log; members = λ m inside counts. sizes (m + 1) ∙ before.members m inside counts };
   stands = λ going. still _ (ready.stands going);
 }
 

@@ -22,7 +22,7 @@ pub keep-result-requires-clause-can : goal.keep-result-requires-clause-can
 keep-result-requires-clause-can g c =
     let going_ : c.self.inside.is_stopped ≡ false = search rules in
     let ready = subst (λ (m : Mounted). IsReady m (g.B.Bank.view c.args.bank.now)) (sym c.self.view_is) c.requires.ready in
-    record { in_step = c.self.invariant.in_step going_; sizes = ready.sizes; stands = ready.stands going_ }
+    record { in_step = c.self.invariant.in_step going_; sizes = ready.sizes going_; stands = ready.stands going_ }
 
 pub returns-clause-reply : goal.returns-clause-reply
 returns-clause-reply g c told s always =
@@ -47,9 +47,10 @@ returns-clause-ready g c =
     let old = g.B.Bank.view c.args.bank.now in
     let new = g.B.Bank.view c.keep-result.new.bank in
     let log = c.self.inside.log in
+    let going_ : c.self.inside.is_stopped ≡ false = search rules in
     let ready = subst (λ (m : Mounted). IsReady m old) (sym c.self.view_is) c.requires.ready in
     ready_after log c.keep-result.new.self (next_of log.g c.args.time c.args.block c.args.bytes.now) (reply_of log.g c.args.time c.args.block c.args.bytes.now)
-    c.keep-result.result old new c.has_failed-self-inside.result c.keep-result.ensures.turns c.has_failed-self-inside.ensures ready.sizes
+    c.keep-result.result old new c.has_failed-self-inside.result c.keep-result.ensures.turns c.has_failed-self-inside.ensures (ready.sizes going_)
 
 pub returns-clause-others : goal.returns-clause-others
 returns-clause-others g c =
