@@ -1,10 +1,11 @@
 -- Places fit on disks that have all rows.
-use Rattle.std.proofs.Common.{◌≡◌, ◌≢◌, ℕ, ◌+◌, ◌*◌, ◌/◌, ◌<◌, ◌≤◌, Option, Some, ◌∙◌, arith}
+use Rattle.std.proofs.Common.{◌≡◌, ◌≢◌, ℕ, ◌+◌, ◌*◌, ◌/◌, ◌<◌, ◌≤◌, List, Option, Some, ◌∙◌, arith}
 use Rattle.trap_format.specs.MemberDisk.{row_at, member_size}
 use Rattle.trap_model.specs.Image.{volume}
 use Rattle.trap_model.specs.declared.numbers.Geometry.{Geometry}
 use Rattle.trap_bank.specs.Disks.{View}
 use Rattle.trap_bank.specs.Calls.{Fits}
+use Rattle.trap_stage.specs.Staged.{Staged}
 use Rattle.trap_map.specs.Layout.{parity_member, block_place}
 use Rattle.trap_map.proofs.LeftLemmas.{parity_in-lt}
 use Rattle.trap_map.proofs.PlaceLemmas.{member_within, row_of-within}
@@ -37,23 +38,23 @@ row_fits g lost rebuilt v row member fit below inside counts =
     in_row g v row member below (fit member inside (counts_first lost rebuilt row member counts))
 
 -- so do the disks that stand for any place
-pub place_fits : (g : Geometry) (lost : Option ℕ) (rebuilt : ℕ) (v : View) (row member : ℕ) → MembersFit g lost rebuilt v → row < g.rows → member < g.members → PlaceFits g lost v row member
-place_fits g lost rebuilt v row member fit below inside = record {
-  own = λ apart. row_fits g lost rebuilt v row member fit below inside (others_count lost rebuilt row member apart);
-  others = λ gone m less other. row_fits g lost rebuilt v row m fit below less (others_count lost rebuilt row m (λ e. other (same_lost m e gone)));
+pub place_fits : (g : Geometry) (lost : Option ℕ) (rebuilt : ℕ) (writes : List Staged) (v : View) (row member : ℕ) → MembersFit g lost rebuilt v → row < g.rows → member < g.members → PlaceFits g lost writes v row member
+place_fits g lost rebuilt writes v row member fit below inside = record {
+  own = λ apart bare. row_fits g lost rebuilt v row member fit below inside (others_count lost rebuilt row member apart);
+  others = λ gone none m less other bare. row_fits g lost rebuilt v row m fit below less (others_count lost rebuilt row m (λ e. other (same_lost m e gone)));
 }
   where
     same_lost : (m : ℕ) → lost ≡ Some m → lost ≡ Some member → m ≡ member
     same_lost m e gone = cc
 
 -- and for a block's place and the parity of its row
-pub block_fits : (g : Geometry) (lost : Option ℕ) (rebuilt : ℕ) (v : View) (block : ℕ) → MembersFit g lost rebuilt v → block < volume g → BlockFits g lost v block
-block_fits g lost rebuilt v block fit below =
+pub block_fits : (g : Geometry) (lost : Option ℕ) (rebuilt : ℕ) (writes : List Staged) (v : View) (block : ℕ) → MembersFit g lost rebuilt v → block < volume g → BlockFits g lost writes v block
+block_fits g lost rebuilt writes v block fit below =
     let row = (block_place g block).row in
     let in_rows = row_of-within g block below in
     record {
-      place = place_fits g lost rebuilt v row (block_place g block).member fit in_rows (member_within g block);
-      parity = place_fits g lost rebuilt v row (parity_member g row) fit in_rows (parity_in-lt g.members (row / g.chunk) (omega arith));
+      place = place_fits g lost rebuilt writes v row (block_place g block).member fit in_rows (member_within g block);
+      parity = place_fits g lost rebuilt writes v row (parity_member g row) fit in_rows (parity_in-lt g.members (row / g.chunk) (omega arith));
     }
 
 -- members of their exact sizes have all rows

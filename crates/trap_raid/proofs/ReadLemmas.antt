@@ -41,10 +41,10 @@ still_tells old new reads told = subst IsTrue (sym reads.moves.tells) told
 pub row_fits_along : (g : Geometry) (old new : View) (row member : ℕ) → OnlyReads old new → RowFits g old row member → RowFits g new row member
 row_fits_along g old new row member reads fits = (fits.0, reads.sizes (member + 1) ∙ fits.1, fits.2)
 
-pub place_fits_along : (g : Geometry) (lost : Option ℕ) (old new : View) (row member : ℕ) → OnlyReads old new → PlaceFits g lost old row member → PlaceFits g lost new row member
-place_fits_along g lost old new row member reads fits = record {
-  own = λ apart. row_fits_along g old new row member reads (fits.own apart);
-  others = λ gone m inside other. row_fits_along g old new row m reads (fits.others gone m inside other);
+pub place_fits_along : (g : Geometry) (lost : Option ℕ) (writes : List Staged) (old new : View) (row member : ℕ) → OnlyReads old new → PlaceFits g lost writes old row member → PlaceFits g lost writes new row member
+place_fits_along g lost writes old new row member reads fits = record {
+  own = λ apart bare. row_fits_along g old new row member reads (fits.own apart bare);
+  others = λ gone none m inside other bare. row_fits_along g old new row m reads (fits.others gone none m inside other bare);
 }
 
 -- ---- a failure of a part is one of the whole
@@ -73,8 +73,8 @@ pub others_but : (size one n : ℕ) (block_of : ℕ → List ℕ) → n ≡ one 
 others_but size one n block_of e = rw add-one (xor_but_here size one n block_of e)
 
 -- the same place by other names
-pub place_fits_at : (g : Geometry) (lost : Option ℕ) (v : View) (row member row' member' : ℕ) → row ≡ row' → member ≡ member' → PlaceFits g lost v row member → PlaceFits g lost v row' member'
-place_fits_at g lost v row member row' member' e f fits =
-    let P : ℕ → Type 0 = λ r. PlaceFits g lost v r member' in
-    let Q : ℕ → Type 0 = λ m. PlaceFits g lost v row m in
+pub place_fits_at : (g : Geometry) (lost : Option ℕ) (writes : List Staged) (v : View) (row member row' member' : ℕ) → row ≡ row' → member ≡ member' → PlaceFits g lost writes v row member → PlaceFits g lost writes v row' member'
+place_fits_at g lost writes v row member row' member' e f fits =
+    let P : ℕ → Type 0 = λ r. PlaceFits g lost writes v r member' in
+    let Q : ℕ → Type 0 = λ m. PlaceFits g lost writes v row m in
     subst P e (subst Q f fits)

@@ -22,16 +22,22 @@ pub record IsPlace (g : Geometry) (place : Place) : Type 0 where
 abbrev pub RowFits : Geometry → View → ℕ → ℕ → Type 0
 RowFits g v row member = Fits v (member + 1) (row_at g row + g.block)
 
--- so do the disks that stand for a place: its member's own, or where that one is lost, all others
-pub record PlaceFits (g : Geometry) (lost : Option ℕ) (v : View) (row member : ℕ) : Type 0 where
-  pub own : lost ≢ Some member → RowFits g v row member
-  pub others : lost ≡ Some member → (m : ℕ) → m < g.members → m ≢ member → RowFits g v row m
+-- so does the disk of a place, unless bytes are pending for it
+abbrev pub BareFits : Geometry → List Staged → View → ℕ → ℕ → Type 0
+BareFits g writes v row member = newest_at g writes row member ≡ None → RowFits g v row member
+
+-- so do the disks that stand for a place, unless bytes are pending for it: its member's own, or where that one is lost,
+-- those of all others, each unless bytes are pending for its own place of the row
+pub record PlaceFits (g : Geometry) (lost : Option ℕ) (writes : List Staged) (v : View) (row member : ℕ) : Type 0 where
+  pub own : lost ≢ Some member → BareFits g writes v row member
+  pub others : lost ≡ Some member → newest_at g writes row member ≡ None
+      → (m : ℕ) → m < g.members → m ≢ member → BareFits g writes v row m
 
 -- so do those for a block's place and for the parity of its row
-pub record BlockFits (g : Geometry) (lost : Option ℕ) (v : View) (block : ℕ) : Type 0 where
-  pub place : PlaceFits g lost v (block_place g block).row (block_place g block).member
+pub record BlockFits (g : Geometry) (lost : Option ℕ) (writes : List Staged) (v : View) (block : ℕ) : Type 0 where
+  pub place : PlaceFits g lost writes v (block_place g block).row (block_place g block).member
   pub parity :
-      PlaceFits g lost v (block_place g block).row (parity_member g (block_place g block).row)
+      PlaceFits g lost writes v (block_place g block).row (parity_member g (block_place g block).row)
 
 -- a row of a member counts: all of them do, but of the lost member those alone that are rebuilt
 abbrev pub Counts : Option ℕ → ℕ → ℕ → ℕ → Type 0

@@ -90,7 +90,7 @@ impl Raid {
     ) -> Result<(), MemberFailed>
         requires stage { stage.now.g ≡ self.now.g }
         requires place { IsPlace self.now.g place }
-        requires disks { PlaceFits self.now.g self.now.lost (B.view bank.old)
+        requires disks { PlaceFits self.now.g self.now.lost stage.now.pending (B.view bank.old)
             place.row place.member }
         requires into { length into.old ≡ self.now.g.block }
         requires scratch { length scratch.old ≡ self.now.g.block }
@@ -133,7 +133,7 @@ impl Raid {
     ) -> Result<(), MemberFailed>
         requires stage { stage.now.g ≡ self.now.g }
         requires block { block < volume self.now.g }
-        requires disks { BlockFits self.now.g self.now.lost (B.view bank.old) block }
+        requires disks { BlockFits self.now.g self.now.lost stage.now.pending (B.view bank.old) block }
         requires blocks { AreBlocks self.now.g fresh.now delta.old parity.old scratch.old }
         ensures plan { IsTrue (B.view bank.old).tells → (image : List (List ℕ))
             → IsImage self.now.g image

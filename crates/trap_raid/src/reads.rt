@@ -3,7 +3,7 @@
 ghost use Rattle.std.specs.Prelude.{◌≡◌, ◌≢◌, ℕ, ◌-◌, ◌<◌, Option, Some, None, length, IsTrue, OnOk, IfErr};
 ghost use Rattle.trap_block.specs.Xor.{xor_but};
 ghost use Rattle.trap_stage.specs.Staged.{newest_at, laid_over};
-ghost use Rattle.trap_raid.specs.Members.{IsPlace, RowFits, member_place};
+ghost use Rattle.trap_raid.specs.Members.{IsPlace, RowFits, BareFits, member_place};
 ghost use Rattle.trap_raid.specs.Reads.{OnlyReads, HasFailed, Costs, CostsAtMost, NonePending, calls_for};
 
 use trap_bank::{Bank, Failed};
@@ -56,7 +56,7 @@ pub(crate) fn read_standing<B: Bank>(
 ) -> Result<(), MemberFailed>
     requires stage { stage.now.g ≡ g.now }
     requires place { IsPlace g.now place }
-    requires disk { RowFits g.now (B.view bank.old) place.row place.member }
+    requires disk { BareFits g.now stage.now.pending (B.view bank.old) place.row place.member }
     requires into { length into.old ≡ g.now.block }
     ensures bytes { IsTrue (B.view bank.old).tells → OnOk result
         (into.new ≡ laid_over g.now stage.now.pending (member_place g.now (B.view bank.old).now.disks)
@@ -89,7 +89,7 @@ pub(crate) fn read_others<B: Bank>(
     requires stage { stage.now.g ≡ g.now }
     requires place { IsPlace g.now place }
     requires disks { (m : ℕ) → m < g.now.members → m ≢ place.member
-        → RowFits g.now (B.view bank.old) place.row m }
+        → BareFits g.now stage.now.pending (B.view bank.old) place.row m }
     requires into { length into.old ≡ g.now.block }
     requires scratch { length scratch.old ≡ g.now.block }
     ensures others { IsTrue (B.view bank.old).tells → OnOk result (into.new ≡ xor_but g.now.block

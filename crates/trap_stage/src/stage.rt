@@ -1,6 +1,6 @@
 //! The pending writes, in memory and in their slots on disk 0.
 
-ghost use Rattle.std.specs.Prelude.{◌≡◌, ◌+◌, ◌-◌, ◌^◌, ◌<◌, ◌≤◌, ℕ, ◌∷◌, length, take, max, Some, None};
+ghost use Rattle.std.specs.Prelude.{◌≡◌, ◌+◌, ◌-◌, ◌<◌, ◌≤◌, ℕ, ◌∷◌, length, take, max, Some, None};
 ghost use Rattle.std.specs.Prelude.{IsTrue, OnOk, OnErr, IfOk, IsErrOf, IfSome, IfNone};
 ghost use Rattle.trap_bank.specs.Faults.{Rose};
 ghost use Rattle.trap_bank.specs.Disks.{Differs, Torn};
@@ -99,7 +99,6 @@ impl Stage {
         parity: &[u8],
     ) -> Result<(), DiskFault>
         requires next { seq ≡ last_of self.old + 1 }
-        requires below { seq < 2 ^ 64 }
         requires free { length self.old.pending < self.old.g.slots }
         requires block { block < volume self.old.g }
         requires fresh { length fresh.now ≡ self.old.g.block }

@@ -7,8 +7,8 @@ use Rattle.trap_raid.proofs.reads.read_others.Goals.{then-member-place+in_ok-rea
 
 pub read_standing-requires-clause-disk : goal.read_standing-requires-clause-disk
 read_standing-requires-clause-disk g c =
-    row_fits_along c.args.g.now (g.B.Bank.view c.args.bank.now) (g.B.Bank.view c.loop-member.bank) c.args.place.row c.loop-member.member
-    c.loop-member.invariant.reads (c.requires.disks c.loop-member.member (omega arith) c.if-member-place.true)
+    λ bare. row_fits_along c.args.g.now (g.B.Bank.view c.args.bank.now) (g.B.Bank.view c.loop-member.bank) c.args.place.row c.loop-member.member
+    c.loop-member.invariant.reads (c.requires.disks c.loop-member.member (omega arith) c.if-member-place.true bare)
 
 pub loop-member-preserved : goal.loop-member-preserved
 loop-member-preserved g c =

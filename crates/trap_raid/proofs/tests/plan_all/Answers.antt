@@ -14,5 +14,5 @@ write_plan-requires-clause-disks g c =
     let fit : MembersFit c.args.g.now c.args.lost 0 v = c.members_fit.ensures yes in
     let there : IsTrue c.is_block.result = search rules in
     let below : block < volume c.args.g.now = c.is_block.ensures there in
-    let P : Condition → Type 0 = λ k. BlockFits k.g k.lost v block in
-    subst P (sym c.new-raid.ensures) (block_fits c.args.g.now c.args.lost 0 v block fit below)
+    let P : Condition → Type 0 = λ k. BlockFits k.g k.lost c.args.stage.now.pending v block in
+    subst P (sym c.new-raid.ensures) (block_fits c.args.g.now c.args.lost 0 c.args.stage.now.pending v block fit below)

@@ -10,5 +10,5 @@ read_place-requires-clause-disks g c =
     let v = g.B.Bank.view c.loop-member.bank in
     let yes : IsTrue c.members_fit.result = search rules in
     let fit : MembersFit c.args.g.now c.args.lost 0 v = c.members_fit.ensures yes in
-    let P : Condition → Type 0 = λ k. PlaceFits k.g k.lost v c.loop-row.row-counter c.loop-member.member-counter in
-    subst P (sym c.new-raid.ensures) (place_fits c.args.g.now c.args.lost 0 v c.loop-row.row-counter c.loop-member.member-counter fit (omega arith) (omega arith))
+    let P : Condition → Type 0 = λ k. PlaceFits k.g k.lost c.args.stage.now.pending v c.loop-row.row-counter c.loop-member.member-counter in
+    subst P (sym c.new-raid.ensures) (place_fits c.args.g.now c.args.lost 0 c.args.stage.now.pending v c.loop-row.row-counter c.loop-member.member-counter fit (omega arith) (omega arith))

@@ -18,9 +18,9 @@ read_place-requires-clause-disks g c =
     let here : Log = record { g = c.self.inside.g; head = c.self.inside.head; cell = c.self.inside.cell; stage = c.self.inside.stage; index = c.self.inside.index } in
     let place = c.place_of-place.result in
     let sizes = subst (λ (l : Log). HasSizes l.g l.head.lost l.head.rebuilt old) (sym c.self.view_is) c.requires.sizes in
-    let P : Condition → Type 0 = λ (k : Condition). PlaceFits k.g k.lost old place.row place.member in
+    let P : Condition → Type 0 = λ (k : Condition). PlaceFits k.g k.lost here.stage.pending old place.row place.member in
     subst P (sym c.new-raid.ensures)
-    (place_fits here.g here.head.lost here.head.rebuilt old place.row place.member (fits_from_sizes here.g here.head.lost here.head.rebuilt old sizes.members) c.place_of-place.ensures.row c.place_of-place.ensures.member)
+    (place_fits here.g here.head.lost here.head.rebuilt here.stage.pending old place.row place.member (fits_from_sizes here.g here.head.lost here.head.rebuilt old sizes.members) c.place_of-place.ensures.row c.place_of-place.ensures.member)
 
 pub returns-clause-bytes : goal.returns-clause-bytes
 returns-clause-bytes g c told s stands =

@@ -15,11 +15,11 @@ pub write_plan-requires-clause-disks : goal.write_plan-requires-clause-disks
 write_plan-requires-clause-disks g c =
     let old = g.B.Bank.view c.args.bank.now in
     let here = c.args.self.now in
-    let P : Condition → Type 0 = λ (k : Condition). BlockFits k.g k.lost old c.args.block in
-    let Q : Log → Type 0 = λ (l : Log). BlockFits l.g l.head.lost old c.args.block in
+    let P : Condition → Type 0 = λ (k : Condition). BlockFits k.g k.lost c.self.inside.stage.pending old c.args.block in
+    let Q : Log → Type 0 = λ (l : Log). BlockFits l.g l.head.lost l.stage.pending old c.args.block in
     subst P (sym c.new-raid.ensures)
     (subst Q (sym c.self.view_is)
-    (block_fits here.g here.head.lost here.head.rebuilt old c.args.block (fits_from_sizes here.g here.head.lost here.head.rebuilt old c.requires.sizes.members) c.requires.block))
+    (block_fits here.g here.head.lost here.head.rebuilt here.stage.pending old c.args.block (fits_from_sizes here.g here.head.lost here.head.rebuilt old c.requires.sizes.members) c.requires.block))
 
 pub returns-clause-plan : goal.returns-clause-plan
 returns-clause-plan g c told s stands =

@@ -9,10 +9,10 @@ use Rattle.trap_raid.proofs.raid.Raid.read_place.Goals as goal
 
 pub read_others-requires-clause-disks : goal.read_others-requires-clause-disks
 read_others-requires-clause-disks g c =
-    let P : Condition → Type 0 = λ k. PlaceFits k.g k.lost (g.B.Bank.view c.args.bank.now) c.args.place.row c.args.place.member in
+    let P : Condition → Type 0 = λ k. PlaceFits k.g k.lost c.args.stage.now.pending (g.B.Bank.view c.args.bank.now) c.args.place.row c.args.place.member in
     let gone : c.self.inside.lost ≡ Some c.args.place.member = search rules in
     let fits = subst P (sym c.self.view_is) c.requires.disks in
-    fits.others gone
+    fits.others gone (search rules)
 
 -- the others' places give the lost member's
 pub returns-then-eq-clause-table : goal.returns-then-eq-clause-table

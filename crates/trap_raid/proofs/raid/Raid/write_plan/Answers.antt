@@ -16,9 +16,9 @@ read_place-requires-2-clause-disks g c =
     let is_row : c.place_of-place.result.row ≡ (block_place c.args.self.now.g c.args.block).row = ap (λ (p : Place). p.row) is_place in
     let is_member : c.parity_of.result ≡ parity_member c.args.self.now.g (block_place c.args.self.now.g c.args.block).row =
     c.parity_of.ensures.parity ∙ ap (λ h. parity_member h c.place_of-place.result.row) is_g ∙ ap (λ (r : ℕ). parity_member c.args.self.now.g r) is_row in
-    place_fits_along c.args.self.now.g c.args.self.now.lost (g.B.Bank.view c.args.bank.now) (g.B.Bank.view c.read_place.new.bank) c.place_of-place.result.row c.parity_of.result
+    place_fits_along c.args.self.now.g c.args.self.now.lost c.args.stage.now.pending (g.B.Bank.view c.args.bank.now) (g.B.Bank.view c.read_place.new.bank) c.place_of-place.result.row c.parity_of.result
     c.read_place.ensures.any_moment
-    (place_fits_at c.args.self.now.g c.args.self.now.lost (g.B.Bank.view c.args.bank.now) (block_place c.args.self.now.g c.args.block).row (parity_member c.args.self.now.g (block_place c.args.self.now.g c.args.block).row)
+    (place_fits_at c.args.self.now.g c.args.self.now.lost c.args.stage.now.pending (g.B.Bank.view c.args.bank.now) (block_place c.args.self.now.g c.args.block).row (parity_member c.args.self.now.g (block_place c.args.self.now.g c.args.block).row)
     c.place_of-place.result.row c.parity_of.result (sym is_row) (sym is_member) c.requires.disks.parity)
 
 pub returns-in_err-read_place-2-clause-any_moment : goal.returns-in_err-read_place-2-clause-any_moment

@@ -45,7 +45,7 @@ invariant_of-self-2 g c =
     (record { block = c.requires.block; bytes = c.requires.fresh; parity = c.requires.parity }) in
     let is = with_items_is c.self.inside.slots c.fill_slot.new.slots (omega arith) in
     subst (λ items. IsHeld c.self.inside.g c.self.inside.drained c.args.seq items) (sym is)
-    (more_held c.self.inside.g c.self.inside.drained c.self.inside.last c.args.seq c.self.inside.slots.items c.fill_slot.new.slots (staged_with c.args.block c.args.fresh.now c.args.parity.now) room.0 c.requires.below room.1 (omega arith) others c.fill_slot.ensures.held sound c.self.invariant)
+    (more_held c.self.inside.g c.self.inside.drained c.self.inside.last c.args.seq c.self.inside.slots.items c.fill_slot.new.slots (staged_with c.args.block c.args.fresh.now c.args.parity.now) room.0 c.ranges.seq.fits room.1 (omega arith) others c.fill_slot.ensures.held sound c.self.invariant)
 
 pub returns-clause-ok : goal.returns-clause-ok
 returns-clause-ok g c =
