@@ -100,19 +100,20 @@ module _ (a b : Mounted) (goes : GoesOn a b) where
     pub served_first : (result : Result Next SessionFault) → Served (array_store b) result s asked x y → Served (array_store a) result s asked x y
     served_first result served = served_like result (subst (λ (g : Geometry). Served (store_by g b) result s asked x y) goes.g served)
 
-  -- what rose since then rose since the first moment; and where it stood for no state then, it stood for none first
-  pub risen_first : (u v w : View) → ((e : ℕ) → u.faults e ≤ v.faults e) → u.port_faults ≤ v.port_faults → (StandsForNone b v → StandsForNone a u)
+  -- what rose since then rose since the first moment; where it stood for no state then, it stood for none first, and where
+  -- it was stopped then, it was so first
+  pub risen_first : (u v w : View) → ((e : ℕ) → u.faults e ≤ v.faults e) → u.port_faults ≤ v.port_faults → (StandsForNone b v → StandsForNone a u) → (b.is_stopped ≡ true → a.is_stopped ≡ true)
       → (fault : SessionFault) → HasRisen b fault v w → HasRisen a fault u w
-  risen_first u v w faults port none (Array (Refused why)) risen = absurd risen
-  risen_first u v w faults port none (Array LogFault) risen = let later = faults 0 in omega (arith, later, risen)
-  risen_first u v w faults port none (Array (MemberFault first second)) risen = record {
+  risen_first u v w faults port none stopped (Array (Refused why)) risen = absurd risen
+  risen_first u v w faults port none stopped (Array LogFault) risen = let later = faults 0 in omega (arith, later, risen)
+  risen_first u v w faults port none stopped (Array (MemberFault first second)) risen = record {
     same = risen.same;
     inside = subst (λ (g : Geometry). second < g.members) goes.g risen.inside;
     counts = λ is. subst (λ (rows : ℕ). 0 < rows) goes.rebuilt (risen.counts (goes.lost ∙ is));
     rose = let later = faults (second + 1) in let rose = risen.rose in omega (arith, later, rose);
   }
-  risen_first u v w faults port none (Array (Damaged offset)) risen = none risen
-  risen_first u v w faults port none (Array Stopped) risen = absurd risen
-  risen_first u v w faults port none WriteFault risen = omega (arith, port, risen)
-  risen_first u v w faults port none ReadFault risen = absurd risen
-  risen_first u v w faults port none TooLong risen = absurd risen
+  risen_first u v w faults port none stopped (Array (Damaged offset)) risen = none risen
+  risen_first u v w faults port none stopped (Array Stopped) risen = stopped risen
+  risen_first u v w faults port none stopped WriteFault risen = omega (arith, port, risen)
+  risen_first u v w faults port none stopped ReadFault risen = absurd risen
+  risen_first u v w faults port none stopped TooLong risen = absurd risen

@@ -110,13 +110,13 @@ stays_said d u w same told e above = ap (λ (disks : Disks). disks e) (same told
 pub line_replied : (a b : Mounted) (v u w : View) (asked : Request) (reply : Reply) (result : Result Next SessionFault)
     → (IsTrue v.tells → (s : State) → Always v (StandsFor a s) → (step a.g).reply s asked ≡ reply)
     → Steps v u (Answers a v asked) (HasDone a v asked) → StandsOn a b asked v u
-    → ((e : ℕ) → u.sizes e ≡ v.sizes e) → StaysFrom (a.g.members + 1) v u → IsReady b u → b.is_stopped ≡ false → GoesOn a b
+    → ((e : ℕ) → u.sizes e ≡ v.sizes e) → StaysFrom (a.g.members + 1) v u → IsReady b u → b.is_stopped ≡ a.is_stopped → GoesOn a b
     → Says (reply_text reply) result u w → IfOk result (λ next. next ≡ More) → IfErr result (λ fault. fault ≡ WriteFault)
     → AnswersLine a b result asked v w
-line_replied a b v u w asked reply result is done stands sizes others ready going goes_on call ok err = record {
+line_replied a b v u w asked reply result is done stands sizes others ready alike goes_on call ok err = record {
   steps = reply_behind a v u w asked reply result is done call ok err;
   stands = always_ok result (λ s was. always_said u w result (reply_text reply) (StandsFor b ((step a.g).next s asked)) call (stands s was));
-  going = always_ok result going;
+  stopped = always_ok result alike;
   ready = ready_as b u w call.sizes (λ has. always_said u w result (reply_text reply) has call) ready;
   goes_on = goes_on;
   cause = rose_port a v u w result done.port_faults call.cause err;
@@ -148,7 +148,7 @@ comes a v u (Refused why) risen x was s stands claim done = absurd risen
 comes a v u LogFault risen x was s stands claim done = done
 comes a v u (MemberFault first second) risen x was s stands claim done = done
 comes a v u (Damaged offset) risen x was s stands claim done = absurd (risen was.told s stands)
-comes a v u Stopped risen x was s stands claim done = absurd risen
+comes a v u Stopped risen x was s stands claim done = done
 
 -- A request that calls of the array turn the state by.
 module _ (a : Mounted) (v u : View) (asked : Request) (more : goes_on asked ≡ true) where
@@ -220,7 +220,7 @@ pub line_struck : (a b : Mounted) (v u : View) (asked : Request) (denied : Denie
 line_struck a b v u asked denied steps sizes others ready goes risen = record {
   steps = steps;
   stands = tt;
-  going = tt;
+  stopped = tt;
   ready = ready;
   goes_on = goes;
   cause = risen;
@@ -228,22 +228,22 @@ line_struck a b v u asked denied steps sizes others ready goes risen = record {
   others = others;
 }
 
--- an array that goes on isn't stopped by a call without a fault
-pub still_going : (before now : Bool) → now ≡ (before || false) → before ≡ false → now ≡ false
-still_going true now is going = absurd (cc going)
-still_going false now is going = is
+-- a call without a fault leaves an array stopped or not, as it was
+pub still_going : (before now : Bool) → now ≡ (before || false) → now ≡ before
+still_going true now is = is
+still_going false now is = is
 
 -- a write that was done, and is replied to
 pub write_replied : (a b : Mounted) (v u w : View) (time block : ℕ) (bytes fresh : List ℕ) → bytes ≡ fresh → (reply : Reply) (result : Result Next SessionFault)
     → (IsTrue v.tells → (s : State) → Always v (StandsFor a s) → (step a.g).reply s (Write time block bytes) ≡ reply)
     → Moves v u (MayTurn a v (λ s. (step a.g).next s (Write time block bytes))) (HasTurned a b v (λ s. (step a.g).next s (Write time block bytes)))
-    → ((e : ℕ) → u.sizes e ≡ v.sizes e) → StaysFrom (a.g.members + 1) v u → IsReady b u → b.is_stopped ≡ false → GoesOn a b
+    → ((e : ℕ) → u.sizes e ≡ v.sizes e) → StaysFrom (a.g.members + 1) v u → IsReady b u → b.is_stopped ≡ a.is_stopped → GoesOn a b
     → Says (reply_text reply) result u w → IfOk result (λ next. next ≡ More) → IfErr result (λ fault. fault ≡ WriteFault)
     → AnswersLine a b result (Write time block fresh) v w
-write_replied a b v u w time block bytes fresh same reply result is moves sizes others ready going goes call ok err =
+write_replied a b v u w time block bytes fresh same reply result is moves sizes others ready alike goes call ok err =
     subst (λ l. AnswersLine a b result (Write time block l) v w) same
     (line_replied a b v u w (Write time block bytes) reply result is (turned_done a v u (Write time block bytes) refl b goes moves)
-    (turned_stands a v u (Write time block bytes) refl b moves) sizes others ready going goes call ok err)
+    (turned_stands a v u (Write time block bytes) refl b moves) sizes others ready alike goes call ok err)
 
 -- a write in which a disk failed
 pub write_struck : (a b : Mounted) (v u : View) (time block : ℕ) (bytes fresh : List ℕ) → bytes ≡ fresh → (denied : Denied)
@@ -260,14 +260,14 @@ same_goes a b stopped same = subst (GoesOn a) (sym same) (record { g = refl; los
 
 -- a request that changes no state, and is replied to
 pub same_replied : (a b : Mounted) (v u w : View) (asked : Request) → goes_on asked ≡ true → ((s : State) → (step a.g).next s asked ≡ s)
-    → (stopped : Bool) → b ≡ record a { is_stopped = stopped } → stopped ≡ false → (reply : Reply) (result : Result Next SessionFault)
+    → (stopped : Bool) → b ≡ record a { is_stopped = stopped } → stopped ≡ a.is_stopped → (reply : Reply) (result : Result Next SessionFault)
     → (IsTrue v.tells → (s : State) → Always v (StandsFor a s) → (step a.g).reply s asked ≡ reply)
     → Moves v u Same Same → ((e : ℕ) → u.sizes e ≡ v.sizes e) → (IsTrue v.tells → u.now ≡ v.now) → IsReady b u
     → Says (reply_text reply) result u w → IfOk result (λ next. next ≡ More) → IfErr result (λ fault. fault ≡ WriteFault)
     → AnswersLine a b result asked v w
-same_replied a b v u w asked more still stopped same going reply result is moves sizes alike ready call ok err =
+same_replied a b v u w asked more still stopped same is_same reply result is moves sizes alike ready call ok err =
     line_replied a b v u w asked reply result is (same_done a v u asked more moves still) (same_stands a v u asked more moves b stopped same still)
-    sizes (stays_same (a.g.members + 1) v u alike) ready (ap (λ (m : Mounted). m.is_stopped) same ∙ going) (same_goes a b stopped same) call ok err
+    sizes (stays_same (a.g.members + 1) v u alike) ready (ap (λ (m : Mounted). m.is_stopped) same ∙ is_same) (same_goes a b stopped same) call ok err
 
 -- a request that changes no state, in which the array failed
 pub same_failed : (a b : Mounted) (v u : View) (asked : Request) → goes_on asked ≡ true → (stopped : Bool) → b ≡ record a { is_stopped = stopped } → (denied : Denied)
@@ -281,11 +281,11 @@ pub no_call : (v : View) → Moves v v Same Same
 no_call v = no_moves v Same Same (λ x was. refl)
 
 -- The line ends the session.
-pub line_quits : (a : Mounted) (v : View) → IsReady a v → a.is_stopped ≡ false → AnswersLine a a (Ok Quit) Q v v
-line_quits a v ready going = record {
+pub line_quits : (a : Mounted) (v : View) → IsReady a v → AnswersLine a a (Ok Quit) Q v v
+line_quits a v ready = record {
   steps = nothing_done v (Answers a v Q) (HasAnswered a v (Ok Quit) Q) (λ x was s stands. record { ends = refl; said = refl; holds = holds_own a s x.disks (stands x was) });
   stands = λ s stands. stands;
-  going = going;
+  stopped = refl;
   ready = ready;
   goes_on = record { g = refl; lost = refl; rebuilt = refl };
   cause = tt;
@@ -312,9 +312,9 @@ pub refused_at : (a : Mounted) (v : View) (asked : Request) {T : Type 0} (read :
 refused_at a v asked read bytes why is replies told s stands = subst (λ r. AtReplies r bytes ((step a.g).reply s asked)) is (replies told s stands)
 
 -- none is a fault
-pub refused_going : {T : Type 0} {call : Result T Denied} {why : Refusal} (before : Bool) → call ≡ Err (Refused why) → before ≡ false → (before || is_fault call) ≡ false
-refused_going true is going = absurd (cc going)
-refused_going false is going = ap is_fault is
+pub refused_going : {T : Type 0} {call : Result T Denied} {why : Refusal} (before : Bool) → call ≡ Err (Refused why) → (before || is_fault call) ≡ before
+refused_going true is = refl
+refused_going false is = ap is_fault is
 
 -- a buffer that is filled whole
 pub filled_whole : (n : ℕ) (front behind : List ℕ) → length front ≡ n → take n (front ++ behind) ≡ front
@@ -325,38 +325,38 @@ pub shown : (as_reply : List ℕ → Reply) (reply : Reply) (filled bytes : List
 shown as_reply reply filled bytes is says = says ∙ ap as_reply (sym is)
 
 -- The line has no form.
-pub bad_replied : (a : Mounted) (v w : View) (result : Result Next SessionFault) → IsReady a v → a.is_stopped ≡ false
+pub bad_replied : (a : Mounted) (v w : View) (result : Result Next SessionFault) → IsReady a v
     → Says (reply_text (No NoLine)) result v w → IfOk result (λ next. next ≡ More) → IfErr result (λ fault. fault ≡ WriteFault)
     → AnswersLine a a result Bad v w
-bad_replied a v w result ready going call ok err = same_replied a a v v w Bad refl (λ s. refl) a.is_stopped refl going (No NoLine) result
+bad_replied a v w result ready call ok err = same_replied a a v v w Bad refl (λ s. refl) a.is_stopped refl refl (No NoLine) result
     (λ told s stands. refl) (no_call v) (λ e. refl) (λ told. refl) ready call ok err
 
 -- The line asks for the numbers of the history.
-pub info_replied : (a : Mounted) (v w : View) (first last base_time last_time : ℕ) (result : Result Next SessionFault) → IsReady a v → a.is_stopped ≡ false
+pub info_replied : (a : Mounted) (v w : View) (first last base_time last_time : ℕ) (result : Result Next SessionFault) → IsReady a v
     → ((s : State) (disks : Disks) → StandsFor a s disks → (step a.g).reply s Info ≡ Span first last base_time last_time)
     → Says (reply_text (Span first last base_time last_time)) result v w → IfOk result (λ next. next ≡ More) → IfErr result (λ fault. fault ≡ WriteFault)
     → AnswersLine a a result Info v w
-info_replied a v w first last base_time last_time result ready going span call ok err =
-    same_replied a a v v w Info refl (λ s. refl) a.is_stopped refl going (Span first last base_time last_time) result
+info_replied a v w first last base_time last_time result ready span call ok err =
+    same_replied a a v v w Info refl (λ s. refl) a.is_stopped refl refl (Span first last base_time last_time) result
     (λ told s stands. span s v.now.disks (stands v.now (read_is_left v told))) (no_call v) (λ e. refl) (λ told. refl) ready call ok err
 
 -- an array that isn't stopped doesn't say that it is
-not_both : (b : Bool) → b ≡ false → b ≡ true → ⊥
+pub not_both : (b : Bool) → b ≡ false → b ≡ true → ⊥
 not_both true is other = cc is
 not_both false is other = cc other
 
 -- What ended the session rose, as the array's call says.
-pub risen_of : (a : Mounted) (v u : View) {T : Type 0} (call : Result T Denied) → a.is_stopped ≡ false
+pub risen_of : (a : Mounted) (v u : View) {T : Type 0} (call : Result T Denied)
     → (call ≡ Err LogFault → Rose (v.faults 0) (u.faults 0))
     → ((first second : ℕ) → call ≡ Err (MemberFault first second) → MemberFails a first second v u)
     → ((offset : ℕ) → call ≡ Err (Damaged offset) → StandsForNone a v)
     → (call ≡ Err Stopped → a.is_stopped ≡ true)
     → (denied : Denied) → call ≡ Err denied → EndsSession denied → HasRisen a (Array denied) v u
-risen_of a v u call going log member damaged stopped (Refused why) is ends = ends
-risen_of a v u call going log member damaged stopped LogFault is ends = log is
-risen_of a v u call going log member damaged stopped (MemberFault first second) is ends = member first second is
-risen_of a v u call going log member damaged stopped (Damaged offset) is ends = damaged offset is
-risen_of a v u call going log member damaged stopped Stopped is ends = not_both a.is_stopped going (stopped is)
+risen_of a v u call log member damaged stopped (Refused why) is ends = ends
+risen_of a v u call log member damaged stopped LogFault is ends = log is
+risen_of a v u call log member damaged stopped (MemberFault first second) is ends = member first second is
+risen_of a v u call log member damaged stopped (Damaged offset) is ends = damaged offset is
+risen_of a v u call log member damaged stopped Stopped is ends = stopped is
 
 -- a fault that is handed on
 pub err_is : {T E : Type 0} (r : Result T E) (fault : E) → IsErr r × IsErrAnd r (λ e. e ≡ fault) → r ≡ Err fault

@@ -1,5 +1,5 @@
 -- The loop over lines, over a mounted array: how its run of calls begins, goes on and stops.
-use Rattle.std.proofs.Common.{◌≡◌, ℕ, ◌<◌, List, [], ◌∷◌, ◌++◌, length, drop, Some, Result, Ok, Err, OnOk, IfErr, IsTrue, refl, sym, subst}
+use Rattle.std.proofs.Common.{◌≡◌, ℕ, ◌<◌, List, [], ◌∷◌, ◌++◌, length, drop, Some, Result, Ok, Err, OnOk, IfErr, IsTrue, false, refl, sym, subst}
 use Rattle.trap_bank.specs.Disks.{Contents, View}
 use Rattle.trap_bank.specs.Calls.{MayLeave}
 use Rattle.trap_bank.specs.Steps.{Steps, Always}
@@ -11,6 +11,7 @@ use Rattle.trap_model.specs.declared.history.State.{State}
 use Rattle.trap_script.specs.Lines.{lines, line_feeds, request_of, HasNoFeed}
 use Rattle.trap_script.specs.Walk.{state_after}
 use Rattle.trap_array.specs.Calls.{Mounted, StandsFor, GoesOn}
+use Rattle.trap_array.specs.declared.fault.Denied.TheVariants.{Refused, LogFault, MemberFault, Damaged, Stopped}
 use Rattle.trap_session.specs.Store.{array_store, Answering, Served, StandsForNone, HasRisen}
 use Rattle.trap_session.specs.Answers.{Answers, HasAnswered, AnswersLine}
 use Rattle.trap_session.specs.Serving.{Serves, HasStopped, StopsAs, StopsBy, StopsAtPort}
@@ -20,7 +21,7 @@ use Rattle.trap_session.specs.declared.outcome.Ended.{Ended}
 use Rattle.trap_session.specs.declared.outcome.SessionFault.{SessionFault}
 use Rattle.trap_session.specs.declared.outcome.SessionFault.TheVariants.{Array, ReadFault, WriteFault, TooLong}
 use Rattle.trap_session.proofs.Walking.{Walked, walk_start}
-use Rattle.trap_session.proofs.Replying.{holds_own}
+use Rattle.trap_session.proofs.Replying.{holds_own, not_both}
 use Rattle.trap_session.proofs.Arrays.{array_answers, array_torn, answering_first, served_first, risen_first, goes_then}
 use Rattle.trap_session.proofs.Stopping.{part_line, more_line, more_state, quit_line, fault_line, part_last, done_last, fault_last}
 
@@ -77,8 +78,8 @@ module _ (a : Mounted) (v : View) (from : Stream) where
       pub goes_further : GoesOn a c
       goes_further = goes_then goes answers.goes_on
 
-      pub risen : (fault : SessionFault) → next ≡ Err fault → HasRisen a fault v u
-      risen fault is = risen_first a b goes v w u steps.faults steps.port_faults none_first fault (subst (λ r. IfErr r (λ f. HasRisen b f w u)) is answers.cause)
+      pub risen : b.is_stopped ≡ false → (fault : SessionFault) → next ≡ Err fault → HasRisen a fault v u
+      risen going fault is = risen_first a b goes v w u steps.faults steps.port_faults none_first (λ stopped. absurd (not_both b.is_stopped going stopped)) fault (subst (λ r. IfErr r (λ f. HasRisen b f w u)) is answers.cause)
 
       -- after another line, whatever it does
       after_line : (After : Contents → Contents → Type 0)
@@ -150,8 +151,12 @@ module _ (a : Mounted) (v : View) (from : Stream) where
             (subst (λ r. Served (array_store a) r (turn s) (request_of a.g.block line) y z) is served)))
 
 -- why a session stops so, where a line had a fault
-pub fault_stops : (a : Mounted) (v u : View) (from to : Stream) (fault : SessionFault) → HasRisen a fault v u → StopsBy a (Err fault) v u from to
-fault_stops a v u from to (Array denied) risen = risen
-fault_stops a v u from to ReadFault risen = absurd risen
-fault_stops a v u from to WriteFault risen = risen
-fault_stops a v u from to TooLong risen = absurd risen
+pub fault_stops : (a : Mounted) (v u : View) (from to : Stream) → a.is_stopped ≡ false → (fault : SessionFault) → HasRisen a fault v u → StopsBy a (Err fault) v u from to
+fault_stops a v u from to going (Array (Refused why)) risen = risen
+fault_stops a v u from to going (Array LogFault) risen = risen
+fault_stops a v u from to going (Array (MemberFault first second)) risen = risen
+fault_stops a v u from to going (Array (Damaged offset)) risen = risen
+fault_stops a v u from to going (Array Stopped) risen = not_both a.is_stopped going risen
+fault_stops a v u from to going ReadFault risen = absurd risen
+fault_stops a v u from to going WriteFault risen = risen
+fault_stops a v u from to going TooLong risen = absurd risen

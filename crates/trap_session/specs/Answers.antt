@@ -1,5 +1,5 @@
 -- What a line does to a mounted array: the state that it stands for is the one after the request, and the reply is said.
-use Rattle.std.specs.Prelude.{◌≡◌, ℕ, ◌+◌, false, Result, OnOk, IfErr}
+use Rattle.std.specs.Prelude.{◌≡◌, ℕ, ◌+◌, Result, OnOk, IfErr}
 use Rattle.trap_bank.specs.Disks.{Contents, View}
 use Rattle.trap_bank.specs.Steps.{Steps, Always}
 use Rattle.trap_model.specs.ArrayStep.{step}
@@ -30,7 +30,7 @@ StandsOn a b asked old new =
 pub record AnswersLine (a b : Mounted) (result : Result Next SessionFault) (asked : Request) (old new : View) : Type 0 where
   pub steps : Steps old new (Answers a old asked) (HasAnswered a old result asked)
   pub stands : OnOk result (StandsOn a b asked old new)
-  pub going : OnOk result (b.is_stopped ≡ false)
+  pub stopped : OnOk result (b.is_stopped ≡ a.is_stopped)
   pub ready : IsReady b new
   pub goes_on : GoesOn a b
   pub cause : IfErr result (λ fault. HasRisen a fault old new)

@@ -10,6 +10,7 @@ use Rattle.trap_script.specs.Walk.{state_after, first_texts, Answered, AnsweredA
 use Rattle.trap_bank.specs.Steps.{Always}
 use Rattle.trap_model.specs.declared.history.State.{State}
 use Rattle.trap_array.specs.Calls.{Mounted, StandsFor}
+use Rattle.trap_array.specs.declared.fault.Denied.TheVariants.{Stopped}
 use Rattle.trap_session.specs.Store.{Store, array_store, ComesWith, HasRisen}
 use Rattle.trap_session.specs.declared.outcome.Ended.{Ended}
 use Rattle.trap_session.specs.declared.outcome.Ended.TheVariants as ended
@@ -82,10 +83,11 @@ pub record TookQuit (size : ℕ) (from to : Stream) : Type 0 where
 abbrev pub HadNoQuit : ℕ → Stream → Type 0
 HadNoQuit size from = (input : List ℕ) → from.left ≡ Some input → HasQuit size input → ⊥
 
--- why a session stops so
+-- Why a session stops so. It begins with an array that isn't stopped, and no session goes on behind a fault.
 abbrev pub StopsBy : Mounted → Result Ended SessionFault → View → View → Stream → Stream → Type 0
 StopsBy a (Ok ended.Quit) old new from to = TookQuit a.g.block from to
 StopsBy a (Ok ended.Input) old new from to = to.ended ≡ true
+StopsBy a (Err (Array Stopped)) old new from to = ⊥
 StopsBy a (Err (Array denied)) old new from to = HasRisen a (Array denied) old new
 StopsBy a (Err ReadFault) old new from to = Rose from.faults to.faults
 StopsBy a (Err WriteFault) old new from to = HasRisen a WriteFault old new

@@ -95,13 +95,13 @@ abbrev pub StandsForNone : Mounted → View → Type 0
 StandsForNone a v = IsTrue v.tells → (s : State) → Always v (StandsFor a s) → ⊥
 
 -- The count of what failed rose. No disk fails where a record that was read again is damaged: the array stood for no
--- state. A refusal and a stopped array are no faults of a session.
+-- state; nor where the array was stopped on entry. A refusal is no fault of a session.
 abbrev pub HasRisen : Mounted → SessionFault → View → View → Type 0
 HasRisen a (Array (Refused why)) old new = ⊥
 HasRisen a (Array LogFault) old new = Rose (old.faults 0) (new.faults 0)
 HasRisen a (Array (MemberFault first second)) old new = MemberFails a first second old new
 HasRisen a (Array (Damaged offset)) old new = StandsForNone a old
-HasRisen a (Array Stopped) old new = ⊥
+HasRisen a (Array Stopped) old new = a.is_stopped ≡ true
 HasRisen a WriteFault old new = Rose old.port_faults new.port_faults
 HasRisen a ReadFault old new = ⊥
 HasRisen a TooLong old new = ⊥

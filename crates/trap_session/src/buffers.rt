@@ -46,7 +46,6 @@ impl Buffers {
         block: u64,
     ) -> Result<Next, SessionFault>
         requires geometry { array.old.g ≡ self.old.g }
-        requires going { array.old.is_stopped ≡ false }
         requires ready { IsReady array.old (B.view bank.old) }
         ensures answers { AnswersLine array.old array.new result
             (request.Write time block self.old.fresh.items) (B.view bank.old) (B.view bank.new) }
@@ -71,7 +70,6 @@ impl Buffers {
         block: u64,
     ) -> Result<Next, SessionFault>
         requires geometry { array.old.g ≡ self.old.g }
-        requires going { array.old.is_stopped ≡ false }
         requires ready { IsReady array.old (B.view bank.old) }
         ensures answers { AnswersLine array.old array.new result (request.Read block)
             (B.view bank.old) (B.view bank.new) }
@@ -99,7 +97,6 @@ impl Buffers {
         block: u64,
     ) -> Result<Next, SessionFault>
         requires geometry { array.old.g ≡ self.old.g }
-        requires going { array.old.is_stopped ≡ false }
         requires ready { IsReady array.old (B.view bank.old) }
         ensures answers { AnswersLine array.old array.new result (request.At seq block)
             (B.view bank.old) (B.view bank.new) }
@@ -127,7 +124,6 @@ impl Buffers {
         block: u64,
     ) -> Result<Next, SessionFault>
         requires geometry { array.old.g ≡ self.old.g }
-        requires going { array.old.is_stopped ≡ false }
         requires ready { IsReady array.old (B.view bank.old) }
         ensures answers { AnswersLine array.old array.new result (request.By time block)
             (B.view bank.old) (B.view bank.new) }
@@ -149,7 +145,6 @@ impl Buffers {
     // Replies with the numbers of the history.
     fn info<B: Bank>(&mut self, array: &Array, bank: &mut B) -> Result<Next, SessionFault>
         requires geometry { array.now.g ≡ self.old.g }
-        requires going { array.now.is_stopped ≡ false }
         requires ready { IsReady array.now (B.view bank.old) }
         ensures answers { AnswersLine array.now array.now result request.Info
             (B.view bank.old) (B.view bank.new) }
@@ -175,7 +170,6 @@ impl Buffers {
     ) -> Result<Next, SessionFault>
         requires form { IsAsked line }
         requires geometry { array.old.g ≡ self.old.g }
-        requires going { array.old.is_stopped ≡ false }
         requires ready { IsReady array.old (B.view bank.old) }
         ensures answers { AnswersLine array.old array.new result
             (request_with line self.old.fresh.items) (B.view bank.old) (B.view bank.new) }
@@ -203,7 +197,6 @@ impl Buffers {
         line: &[u8],
     ) -> Result<Next, SessionFault>
         requires geometry { array.old.g ≡ self.old.g }
-        requires going { array.old.is_stopped ≡ false }
         requires ready { IsReady array.old (B.view bank.old) }
         ensures answers { AnswersLine array.old array.new result
             (request_of array.old.g.block line.now) (B.view bank.old) (B.view bank.new) }
@@ -224,7 +217,6 @@ impl Buffers {
     ) -> Result<Next, SessionFault>
         requires room { room reader.now ≡ 44 + 2 * self.old.g.block }
         requires geometry { array.old.g ≡ self.old.g }
-        requires going { array.old.is_stopped ≡ false }
         requires ready { IsReady array.old (B.view bank.old) }
         ensures answers { (line : List ℕ) → IsLine line len reader.now → AnswersLine array.old array.new result
             (request_of array.old.g.block line) (B.view bank.old) (B.view bank.new) }

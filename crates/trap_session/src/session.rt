@@ -49,7 +49,8 @@ impl Session {
         Ok(Session { buffers, reader })
     }
 
-    /// Answers one line that stands outside an input, with its reply in one call.
+    /// Answers one line that stands outside an input, with its reply in one call. A stopped array answers what needs no
+    /// disk, and hands `Stopped` on else.
     pub fn one<B: Bank>(
         &mut self,
         array: &mut Array,
@@ -57,7 +58,6 @@ impl Session {
         line: &[u8],
     ) -> Result<Next, SessionFault>
         requires geometry { array.old.g ≡ self.old }
-        requires going { array.old.is_stopped ≡ false }
         requires ready { IsReady array.old (B.view bank.old) }
         ensures answers { AnswersLine array.old array.new result
             (request_of array.old.g.block line.now) (B.view bank.old) (B.view bank.new) }

@@ -104,9 +104,9 @@ returns-in_err-answer_found-in-Ok-Last-clause-cause g c =
     let fault = c.in_err-answer_found-in-Ok-Last.field-0.0 in
     subst (λ r. StopsBy c.args.array.now r (view c.args.bank.now) (view c.answer_found.new.bank) (stream c.args.source.now) (stream c.next.new.source))
     (sym (err_is c.from_residual.result fault c.from_residual.ensures))
-    (fault_stops c.args.array.now (view c.args.bank.now) (view c.answer_found.new.bank) (stream c.args.source.now) (stream c.next.new.source) fault
+    (fault_stops c.args.array.now (view c.args.bank.now) (view c.answer_found.new.bank) (stream c.args.source.now) (stream c.next.new.source) c.requires.going fault
     (risen c.args.array.now (view c.args.bank.now) (stream c.args.source.now) c.lines.array (view c.lines.bank) inv.0 inv.10.0 inv.5 inv.10.1 inv.10.2
-    c.answer_found.new.array (view c.answer_found.new.bank) found.0 found.1.no_feed c.answer_found.result (c.answer_found.ensures.answers found.0 found.1) fault c.in_err-answer_found-in-Ok-Last.was))
+    c.answer_found.new.array (view c.answer_found.new.bank) found.0 found.1.no_feed c.answer_found.result (c.answer_found.ensures.answers found.0 found.1) inv.6 fault c.in_err-answer_found-in-Ok-Last.was))
 
 pub returns-in_err-answer_found-in-Ok-Line-clause-stops : goal.returns-in_err-answer_found-in-Ok-Line-clause-stops
 returns-in_err-answer_found-in-Ok-Line-clause-stops g c =
@@ -137,9 +137,9 @@ returns-in_err-answer_found-in-Ok-Line-clause-cause g c =
     let fault = c.in_err-answer_found-in-Ok-Line.field-0.0 in
     subst (λ r. StopsBy c.args.array.now r (view c.args.bank.now) (view c.answer_found-in-Ok-Line.new.bank) (stream c.args.source.now) (stream c.next.new.source))
     (sym (err_is c.from_residual-in_err-answer_found-in-Ok-Line.result fault c.from_residual-in_err-answer_found-in-Ok-Line.ensures))
-    (fault_stops c.args.array.now (view c.args.bank.now) (view c.answer_found-in-Ok-Line.new.bank) (stream c.args.source.now) (stream c.next.new.source) fault
+    (fault_stops c.args.array.now (view c.args.bank.now) (view c.answer_found-in-Ok-Line.new.bank) (stream c.args.source.now) (stream c.next.new.source) c.requires.going fault
     (risen c.args.array.now (view c.args.bank.now) (stream c.args.source.now) c.lines.array (view c.lines.bank) inv.0 inv.10.0 inv.5 inv.10.1 inv.10.2
-    c.answer_found-in-Ok-Line.new.array (view c.answer_found-in-Ok-Line.new.bank) found.0 found.1.no_feed c.answer_found-in-Ok-Line.result (c.answer_found-in-Ok-Line.ensures.answers found.0 found.1) fault c.in_err-answer_found-in-Ok-Line.was))
+    c.answer_found-in-Ok-Line.new.array (view c.answer_found-in-Ok-Line.new.bank) found.0 found.1.no_feed c.answer_found-in-Ok-Line.result (c.answer_found-in-Ok-Line.ensures.answers found.0 found.1) inv.6 fault c.in_err-answer_found-in-Ok-Line.was))
 
 pub returns-in-Ok-Last-clause-stops : goal.returns-in-Ok-Last-clause-stops
 returns-in-Ok-Last-clause-stops g c =
@@ -263,7 +263,7 @@ lines-preserved g c =
       λ some. found.3,
       λ e. answers.sizes e ∙ inv.4 e,
       goes_then inv.5 answers.goes_on,
-      on_ok is answers.going,
+      on_ok is answers.stopped ∙ inv.6,
       answers.ready,
       c.answer_found-in-Ok-Line.ensures.same ∙ inv.8,
       λ input left. ahead_on c.args.array.now.g.block input inv.0 found.0 (here input left).0 (inv.9 input left) (here input left).1 found.1.no_feed more,

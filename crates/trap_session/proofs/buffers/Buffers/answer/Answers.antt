@@ -10,11 +10,11 @@ pub returns-in-Quit-clause-answers : goal.returns-in-Quit-clause-answers
 returns-in-Quit-clause-answers g c =
     let view = g.B.Bank.view in
     subst (λ (line : Line). AnswersLine c.args.array.now c.args.array.now (Ok Quit) (request_with line c.args.self.now.fresh.items) (view c.args.bank.now) (view c.args.bank.now))
-    (sym c.in-Quit.is) (line_quits c.args.array.now (view c.args.bank.now) c.requires.ready c.requires.going)
+    (sym c.in-Quit.is) (line_quits c.args.array.now (view c.args.bank.now) c.requires.ready)
 
 pub returns-in-Bad-clause-answers : goal.returns-in-Bad-clause-answers
 returns-in-Bad-clause-answers g c =
     let view = g.B.Bank.view in
     let said = c.say_answer-in-Bad in
     subst (λ (line : Line). AnswersLine c.args.array.now c.args.array.now said.result (request_with line c.args.self.now.fresh.items) (view c.args.bank.now) (view said.new.bank))
-    (sym c.in-Bad.is) (bad_replied c.args.array.now (view c.args.bank.now) (view said.new.bank) said.result c.requires.ready c.requires.going said.ensures.says said.ensures.more said.ensures.port)
+    (sym c.in-Bad.is) (bad_replied c.args.array.now (view c.args.bank.now) (view said.new.bank) said.result c.requires.ready said.ensures.says said.ensures.more said.ensures.port)

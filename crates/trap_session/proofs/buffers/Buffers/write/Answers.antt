@@ -11,7 +11,7 @@ returns-in-Ok-clause-answers g c =
     let done = c.in-Ok.ensures in
     write_replied c.args.array.now c.write.new.self (view c.args.bank.now) (view c.write.new.bank) (view c.say_answer.new.bank) c.args.time c.args.block
     c.as_slice.result.now _ c.as_slice.ensures.value (Kept c.in-Ok.seq) c.say_answer.result done.reply (done.turned refl) done.sizes done.others done.ready
-    (still_going c.args.array.now.is_stopped _ done.stops c.requires.going) done.goes_on c.say_answer.ensures.says c.say_answer.ensures.more c.say_answer.ensures.port
+    (still_going c.args.array.now.is_stopped _ done.stops) done.goes_on c.say_answer.ensures.says c.say_answer.ensures.more c.say_answer.ensures.port
 
 pub returns-in_ok-why-in-Err-clause-answers : goal.returns-in_ok-why-in-Err-clause-answers
 returns-in_ok-why-in-Err-clause-answers g c =
@@ -23,7 +23,7 @@ returns-in_ok-why-in-Err-clause-answers g c =
     write_replied c.args.array.now c.write.new.self (view c.args.bank.now) (view c.write.new.bank) (view said.new.bank) c.args.time c.args.block
     c.as_slice.result.now _ c.as_slice.ensures.value (No why) said.result (refused_write c.args.array.now (view c.args.bank.now) (Write c.args.time c.args.block c.as_slice.result.now) c.write.result why refused done.reply)
     (done.turned (ap is_done refused)) done.sizes done.others done.ready
-    (done.stops ∙ refused_going c.args.array.now.is_stopped refused c.requires.going) done.goes_on said.ensures.says said.ensures.more said.ensures.port
+    (done.stops ∙ refused_going c.args.array.now.is_stopped refused) done.goes_on said.ensures.says said.ensures.more said.ensures.port
 
 pub returns-in_err-why-in-Err-clause-answers : goal.returns-in_err-why-in-Err-clause-answers
 returns-in_err-why-in-Err-clause-answers g c =
@@ -35,5 +35,5 @@ returns-in_err-why-in-Err-clause-answers g c =
     c.from_residual.ensures ended.0
     (write_struck c.args.array.now c.write.new.self (view c.args.bank.now) (view c.write.new.bank) c.args.time c.args.block
     c.as_slice.result.now _ c.as_slice.ensures.value denied done.any_moment done.sizes done.others done.ready done.goes_on
-    (risen_of c.args.array.now (view c.args.bank.now) (view c.write.new.bank) c.write.result c.requires.going done.log done.member done.damaged (λ is. (done.stopped.0 is).1)
+    (risen_of c.args.array.now (view c.args.bank.now) (view c.write.new.bank) c.write.result done.log done.member done.damaged (λ is. (done.stopped.0 is).1)
     denied c.in-Err.is ended.1))
