@@ -1,7 +1,5 @@
 -- The records of a state's entries, as they are read again.
-use Rattle.std.proofs.Common.{◌≡◌, ℕ, ◌+◌, ◌-◌, ◌^◌, ◌<◌, ◌≤◌, List, [], ◌++◌, length, take, drop, refl, ap, sym, ◌∙◌, subst, arith, length-take, take_all, take_at, append-nil, Bool, true, false, ◌&&◌, eqb, IsTrue, if◌then◌else◌}
-use Rattle.std.specs.Bool.{beq}
-use Rattle.std.proofs.lemmas.Bool.{eqb-true, eq-eqb, false≢true}
+use Rattle.std.proofs.Common.{◌≡◌, ℕ, ◌+◌, ◌-◌, ◌^◌, ◌<◌, ◌≤◌, List, [], ◌++◌, length, take, drop, refl, ap, sym, ◌∙◌, subst, arith, length-take, take_all, take_at, append-nil, Bool, true, IsTrue, if◌then◌else◌}
 use Rattle.trap_bank.specs.Disks.{Disks}
 use Rattle.trap_block.specs.Xor.{xor}
 use Rattle.trap_block.proofs.XorLemmas.{length-xor}
@@ -26,9 +24,11 @@ use Rattle.trap_model.proofs.LogRecords.{same_rec, LogRecord-apart}
 use Rattle.trap_model.proofs.Records.{record_is_log_record, record_short}
 use Rattle.trap_model.proofs.ZeroRuns.{ZeroRun-apart}
 use Rattle.trap_past.specs.Undo.{parity_at}
-use Rattle.trap_record.specs.declared.reader.ReadRec.TheVariants.{Whole, Short, Bad}
-use Rattle.trap_record.specs.Reading.{record_len, parity_of, snapshot_of, IsWhole, Reads}
-use Rattle.trap_record.proofs.Getting.{Reads-one, written-whole}
+use Rattle.trap_record.specs.declared.parts.Part.{Part}
+use Rattle.trap_record.specs.declared.parts.Part.TheVariants.{Parity, Snapshot}
+use Rattle.trap_record.specs.Parts.{part_of}
+use Rattle.trap_record.specs.Reading.{record_len, parity_of, snapshot_of, IsWhole}
+use Rattle.trap_record.proofs.Getting.{written-whole}
 use Rattle.trap_ring.specs.Ring.{RingPlace, RingHas}
 use Rattle.trap_scan.proofs.Fronts.{ring_front}
 use Rattle.trap_scan.proofs.Taking.{ring_behind}
@@ -36,66 +36,7 @@ use Rattle.trap_array.specs.Calls.{StandsFor, going}
 use Rattle.trap_array.specs.Holding.{log_ring}
 use Rattle.trap_array.specs.Instants.{HasEntry}
 use Rattle.trap_array.specs.Log.{Log}
-use Rattle.trap_array.specs.Sources.{code_at, part_block}
-use Rattle.trap_array.specs.declared.source.Part.{Part}
-use Rattle.trap_array.specs.declared.source.Part.TheVariants.{Parity, Snapshot}
-
--- a record that was found is the one of a header where the headers are equal
-pub found_same : (size : ℕ) (rec found : LogRec) (used : ℕ) (bytes : List ℕ) → length bytes ≡ record_len rec → IsWhole size found used bytes → found ≡ rec → IsWhole size rec (length bytes) bytes
-found_same size rec found used bytes long whole same =
-    let used_is : used ≡ length bytes = whole.len ∙ ap record_len same ∙ sym long in
-    subst (λ (n : ℕ). IsWhole size rec n bytes) used_is (subst (λ (r : LogRec). IsWhole size r used bytes) same whole)
-
--- headers whose fields are equal are equal
-pub rec_equal : (a b : LogRec) → IsTrue (beq a.snap b.snap && (eqb a.seq b.seq && (eqb a.time b.time && (eqb a.block b.block && (eqb a.plen b.plen && eqb a.slen b.slen))))) → a ≡ b
-rec_equal a b t =
-    let one = and_both (beq a.snap b.snap) _ t in
-    let two = and_both (eqb a.seq b.seq) _ one.1 in
-    let three = and_both (eqb a.time b.time) _ two.1 in
-    let four = and_both (eqb a.block b.block) _ three.1 in
-    let five = and_both (eqb a.plen b.plen) _ four.1 in
-    same_rec a b (beq_same a.snap b.snap one.0) (eqb-true a.seq b.seq two.0) (eqb-true a.time b.time three.0) (eqb-true a.block b.block four.0) (eqb-true a.plen b.plen five.0) (eqb-true a.slen b.slen five.1)
-  where
-    and_both : (x y : Bool) → IsTrue (x && y) → IsTrue x × IsTrue y
-    and_both true y t = (refl, t)
-    and_both false y t = absurd (false≢true t)
-
-    beq_same : (x y : Bool) → IsTrue (beq x y) → x ≡ y
-    beq_same true true t = refl
-    beq_same false false t = refl
-    beq_same true false t = absurd (false≢true t)
-    beq_same false true t = absurd (false≢true t)
-
-rec_refl : (a : LogRec) → IsTrue (beq a.snap a.snap && (eqb a.seq a.seq && (eqb a.time a.time && (eqb a.block a.block && (eqb a.plen a.plen && eqb a.slen a.slen)))))
-rec_refl a =
-    both _ _ (beq_refl a.snap) (both _ _ (eq-eqb a.seq a.seq refl) (both _ _ (eq-eqb a.time a.time refl) (both _ _ (eq-eqb a.block a.block refl) (both _ _ (eq-eqb a.plen a.plen refl) (eq-eqb a.slen a.slen refl)))))
-  where
-    beq_refl : (x : Bool) → beq x x ≡ true
-    beq_refl true = refl
-    beq_refl false = refl
-
-    both : (x y : Bool) → IsTrue x → IsTrue y → IsTrue (x && y)
-    both true y one two = two
-    both false y one two = absurd (false≢true one)
-
-pub equal_rec : (a b : LogRec) → a ≡ b → IsTrue (beq a.snap b.snap && (eqb a.seq b.seq && (eqb a.time b.time && (eqb a.block b.block && (eqb a.plen b.plen && eqb a.slen b.slen)))))
-equal_rec a b same = subst (λ (r : LogRec). IsTrue (beq a.snap r.snap && (eqb a.seq r.seq && (eqb a.time r.time && (eqb a.block r.block && (eqb a.plen r.plen && eqb a.slen r.slen)))))) same (rec_refl a)
-
--- and where one is there, it is found
-pub found_one : (size : ℕ) (rec found : LogRec) (used : ℕ) (bytes : List ℕ) → size < 2 ^ 15 → Reads size bytes (Whole found used) → IsWhole size rec (length bytes) bytes → found ≡ rec
-found_one size rec found used bytes small reads whole =
-    let same = Reads-one size bytes (Whole found used) (Whole rec (length bytes)) small reads whole in
-    cc
-
-pub found_short : (size : ℕ) (rec : LogRec) (bytes : List ℕ) → size < 2 ^ 15 → Reads size bytes Short → IsWhole size rec (length bytes) bytes → ⊥
-found_short size rec bytes small reads whole =
-    let same = Reads-one size bytes Short (Whole rec (length bytes)) small reads whole in
-    cc
-
-pub found_bad : (size at : ℕ) (rec : LogRec) (bytes : List ℕ) → size < 2 ^ 15 → Reads size bytes (Bad at) → IsWhole size rec (length bytes) bytes → ⊥
-found_bad size at rec bytes small reads whole =
-    let same = Reads-one size bytes (Bad at) (Whole rec (length bytes)) small reads whole in
-    cc
+use Rattle.trap_array.specs.Sources.{part_block}
 
 module _ (g : Geometry) (i : Indexed) (s : State) (q : ℕ) (valid : IsValid g s) (describes : Describes i s) (low : i.first < q) (high : q ≤ last_seq i) (time : (item_at i q).time < 2 ^ 64) where
   entry : Entry
@@ -238,6 +179,6 @@ module _ (log : Log) (s : State) (disks : Disks) (q : ℕ) (item : Item) (stands
         (subst (λ (r : LogRec). ZeroRun into (snapshot_of r bytes)) (sym header_is) spells)
 
     -- what was decoded is what the part stands for
-    pub is_part : (part : Part) (into : List ℕ) → length into ≡ log.g.block → (part ≡ Snapshot → IsTrue (item_at log.index q).snap) → ZeroRun into (code_at part rec bytes) → into ≡ part_block part s q
+    pub is_part : (part : Part) (into : List ℕ) → length into ≡ log.g.block → (part ≡ Snapshot → IsTrue (item_at log.index q).snap) → ZeroRun into (part_of part rec bytes) → into ≡ part_block part s q
     is_part Parity into block marked spells = is_parity into block spells
     is_part Snapshot into block marked spells = is_snapshot into block (marked refl) spells

@@ -3,26 +3,19 @@ use Rattle.std.specs.Prelude.{◌≡◌, ℕ, ◌+◌, ◌-◌, ◌*◌, ◌≤�
 use Rattle.trap_bank.specs.Disks.{View}
 use Rattle.trap_index.specs.Indexed.{Indexed, last_seq, item_at, path_to}
 use Rattle.trap_model.specs.declared.history.State.{State}
-use Rattle.trap_model.specs.declared.log_record.LogRec.{LogRec}
 use Rattle.trap_model.specs.declared.numbers.Geometry.{Geometry}
 use Rattle.trap_model.specs.Image.{volume}
 use Rattle.trap_model.specs.Records.{entry_at}
 use Rattle.trap_past.specs.Past.{Past}
 use Rattle.trap_past.specs.Undo.{parity_at}
 use Rattle.trap_raid.specs.Reads.{OnlyReads}
-use Rattle.trap_record.specs.Reading.{parity_of, snapshot_of}
+use Rattle.trap_record.specs.declared.parts.Part.{Part}
+use Rattle.trap_record.specs.declared.parts.Part.TheVariants.{Parity, Snapshot}
 use Rattle.trap_array.specs.Calls.{StandsFor, going}
 use Rattle.trap_array.specs.Instants.{FailsLooking}
 use Rattle.trap_array.specs.Log.{Log}
 use Rattle.trap_array.specs.declared.fault.Denied.{Denied}
 use Rattle.trap_array.specs.declared.fault.Denied.TheVariants.{Damaged}
-use Rattle.trap_array.specs.declared.source.Part.{Part}
-use Rattle.trap_array.specs.declared.source.Part.TheVariants.{Parity, Snapshot}
-
--- the code of this part of a record
-abbrev pub code_at : Part → LogRec → List ℕ → List ℕ
-code_at Parity rec bytes = parity_of rec bytes
-code_at Snapshot rec bytes = snapshot_of rec bytes
 
 -- the block that this part of an entry's record stands for
 abbrev pub part_block : Part → State → ℕ → List ℕ

@@ -9,9 +9,9 @@ ghost use Rattle.trap_array.specs.SourceLaws.{looks_then, vain_since, vain_still
 
 use crate::Denied;
 use crate::log::Log;
-use crate::source::Part;
 use trap_bank::Bank;
 use trap_past::{Parities, Present};
+use trap_record::Part;
 
 /// A log, its bank, and room for a record. The source counts its calls and faults from 0.
 #[derive(Drop)]

@@ -1,22 +1,20 @@
 //! The records of retained entries, which are read again; and a block as it was, over the log as a source.
 
-ghost use Rattle.std.specs.Prelude.{◌≡◌, ◌↔◌, ℕ, ◌^◌, ◌<◌, ◌≤◌, length, IsTrue, IsErrOf, IfErr, OnOk};
+ghost use Rattle.std.specs.Prelude.{◌≡◌, ℕ, ◌^◌, ◌<◌, ◌≤◌, length, IsTrue, IsErrOf, IfErr, OnOk};
 ghost use Rattle.trap_index.specs.Indexed.{item_at};
 ghost use Rattle.trap_index.specs.Keeping as keeping;
 ghost use Rattle.trap_model.specs.Image.{volume, block_of};
 ghost use Rattle.trap_model.specs.Limits.{greatest_record};
 ghost use Rattle.trap_model.specs.State.{image_at};
-ghost use Rattle.trap_model.specs.ZeroRun.{ZeroRun};
 ghost use Rattle.trap_model.specs.declared.history.State.{State};
 ghost use Rattle.trap_raid.specs.Reads.{OnlyReads};
-ghost use Rattle.trap_record.specs.Reading.{IsWhole, record_len, parity_of, snapshot_of};
 ghost use Rattle.trap_ring.specs.Ring.{ring_pos};
 ghost use Rattle.trap_array.specs.Calls.{StandsFor, going};
 ghost use Rattle.trap_array.specs.Holding.{log_ring};
 ghost use Rattle.trap_array.specs.Instants.{CanLookBack, HasEntry, HasInstant, FailsLooking};
-ghost use Rattle.trap_array.specs.Sources.{CallsAtMost, code_at, part_block, reads_back};
+ghost use Rattle.trap_array.specs.Sources.{CallsAtMost, part_block, reads_back};
 ghost use Rattle.trap_array.specs.declared.fault.Denied.TheVariants as Denied;
-ghost use Rattle.trap_array.specs.declared.source.Part.TheVariants as Part;
+ghost use Rattle.trap_record.specs.declared.parts.Part.TheVariants as Part;
 
 use crate::Denied;
 use crate::log::{Log, ring_of};
@@ -25,17 +23,7 @@ use trap_bank::Bank;
 use trap_index::Item;
 use trap_model::LogRec;
 use trap_past::block_at;
-use trap_record::{ReadRec, read};
-use trap_zrun::decode;
-
-/// A part of an entry's record.
-#[derive(Debug, Clone, Copy, PartialEq, Eq)]
-pub(crate) enum Part {
-    /// The code of its block's old contents xor the new ones.
-    Parity,
-    /// The code of the contents that a marked entry writes.
-    Snapshot,
-}
+use trap_record::{Part, read_part};
 
 /// How many bytes a record's header has.
 const HEADER: usize = 26;
@@ -51,57 +39,6 @@ fn rec_of(seq: u64, item: &Item) -> LogRec
         block: item.block,
         plen: item.plen,
         slen: item.slen,
-    }
-}
-
-/// Whether the bytes are a record with this header, which tells that it is as long as they are.
-fn is_record(bytes: &[u8], rec: &LogRec, size: usize) -> bool
-    requires size { size < 2 ^ 15 }
-    requires long { length bytes.now ≡ record_len rec.now }
-    ensures { IsTrue result ↔ IsWhole size rec.now (length bytes.now) bytes.now }
-{
-    match read(bytes, size) {
-        ReadRec::Whole { rec: found, .. } => found == *rec,
-        ReadRec::Short => false,
-        ReadRec::Bad { .. } => false,
-    }
-}
-
-/// Whether the bytes are a record with this header: then `into` is filled with the block of its parity.
-fn parity_in(bytes: &[u8], rec: &LogRec, into: &mut [u8]) -> bool
-    requires size { length into.old < 2 ^ 15 }
-    requires long { length bytes.now ≡ record_len rec.now }
-    ensures whole { IsTrue result ↔ IsWhole (length into.old) rec.now (length bytes.now) bytes.now }
-    ensures parity { IsTrue result → ZeroRun into.new (parity_of rec.now bytes.now) }
-{
-    let end = HEADER + usize::from(rec.plen);
-    is_record(bytes, rec, into.len()) && decode(&bytes[HEADER..end], into).is_ok()
-}
-
-/// Whether the bytes are a record with this header of a marked entry: then `into` is filled with what the entry writes.
-fn snapshot_in(bytes: &[u8], rec: &LogRec, into: &mut [u8]) -> bool
-    requires size { length into.old < 2 ^ 15 }
-    requires long { length bytes.now ≡ record_len rec.now }
-    requires marked { IsTrue rec.now.snap }
-    ensures whole { IsTrue result ↔ IsWhole (length into.old) rec.now (length bytes.now) bytes.now }
-    ensures snapshot { IsTrue result → ZeroRun into.new (snapshot_of rec.now bytes.now) }
-{
-    let begin = HEADER + usize::from(rec.plen);
-    let end = begin + usize::from(rec.slen);
-    is_record(bytes, rec, into.len()) && decode(&bytes[begin..end], into).is_ok()
-}
-
-/// Whether the bytes are a record with this header: then `into` is filled with what this part of it stands for.
-fn part_in(bytes: &[u8], rec: &LogRec, part: Part, into: &mut [u8]) -> bool
-    requires size { length into.old < 2 ^ 15 }
-    requires long { length bytes.now ≡ record_len rec.now }
-    requires marked { part ≡ Part.Snapshot → IsTrue rec.now.snap }
-    ensures whole { IsTrue result ↔ IsWhole (length into.old) rec.now (length bytes.now) bytes.now }
-    ensures code { IsTrue result → ZeroRun into.new (code_at part rec.now bytes.now) }
-{
-    match part {
-        Part::Parity => parity_in(bytes, rec, into),
-        Part::Snapshot => snapshot_in(bytes, rec, into),
     }
 }
 
@@ -179,7 +116,7 @@ impl Log {
         let bytes = &mut spelled[..len];
         ring_of(&self.g).read(bank, item.off, bytes)?;
         // What is read again is believed only where it is the record that the array knows.
-        if !part_in(bytes, &rec, part, into) {
+        if !read_part(bytes, &rec, part, into) {
             return Err(damaged);
         }
         Ok(())

@@ -1,15 +1,15 @@
 -- What stands at the front of bytes is one of three things.
-use Rattle.std.proofs.Common.{◌≡◌, ◌⊎◌, ℕ, ◌+◌, ◌-◌, ◌^◌, ◌<◌, ◌≤◌, Bool, true, false, not, List, [], ◌∷◌, ◌++◌, length, take, drop, slice_range, refl, sym, ◌∙◌, ap, subst, inl, inr, ⊎_elim, arith, append_assoc, length-append, length-take-le, take_at, drop_at, drop-drop, take-append-drop, take-add}
+use Rattle.std.proofs.Common.{◌≡◌, ℕ, ◌+◌, ◌-◌, ◌^◌, ◌<◌, ◌≤◌, Bool, true, false, not, IsTrue, List, ◌++◌, length, take, drop, slice_range, refl, sym, ◌∙◌, ap, subst, inl, inr, arith, append_assoc, length-append, take_at, drop_at, drop-drop, take-append-drop, take-add}
 use Rattle.std.proofs.lemmas.List.{nil_from_length}
 use Rattle.std.proofs.lemmas.List.Edits.{length-between}
 use Rattle.trap_model.specs.declared.log_record.LogRec.{LogRec}
 use Rattle.trap_model.specs.ZeroRun.{IsCode, IsRefused}
-use Rattle.trap_model.specs.LogRecord.{header, SnapshotLength, KeepsRanges, IsSnapshot, LogRecord}
+use Rattle.trap_model.specs.LogRecord.{header, SnapshotLength, IsSnapshot, LogRecord}
 use Rattle.trap_model.proofs.ZeroRuns.{IsRefused-not, IsRefused-same}
 use Rattle.trap_model.proofs.LogRecords.{header-same}
 use Rattle.trap_record.specs.declared.reader.ReadRec.{ReadRec}
 use Rattle.trap_record.specs.declared.reader.ReadRec.TheVariants.{Whole, Short, Bad}
-use Rattle.trap_record.specs.Reading.{BeginsWith, record_len, parity_of, snapshot_of, IsThere, IsWhole, IsShort, IsBadHeader, IsBadParity, IsBadSnapshot, Reads}
+use Rattle.trap_record.specs.Reading.{BeginsWith, record_len, parity_of, snapshot_of, IsThere, IsWhole, IsShort, IsBadParity, IsBadSnapshot, Reads}
 
 -- a front of a list and the bytes behind it
 front-more : (bytes : List ℕ) (at end : ℕ) → at ≤ end → take at bytes ++ slice_range bytes at end ≡ take end bytes
@@ -74,6 +74,19 @@ read_marked size p s r bytes plen slen begins there two parity snapshot =
     (whole-by size r bytes begins room
     (subst (λ (n : ℕ). IsCode size (slice_range bytes 26 (26 + n))) plen parity)
     (subst (λ (b : Bool). IsSnapshot size b (snapshot_of r bytes)) (sym snap) (snapshot-at size p s r bytes (λ l. IsCode size l) plen slen snapshot)))
+
+-- bytes that are as long as the record of their header, and whose codes are right, are that record
+pub whole_codes : (size p s : ℕ) (r : LogRec) (bytes : List ℕ) → p ≡ r.plen → s ≡ r.slen → length bytes ≡ record_len r → BeginsWith size r bytes
+    → IsCode size (slice_range bytes 26 (26 + p)) → IsSnapshot size r.snap (slice_range bytes (26 + p) (26 + p + s)) → IsWhole size r (length bytes) bytes
+whole_codes size p s r bytes plen slen long begins parity snapshot =
+    subst (λ (n : ℕ). IsWhole size r n bytes) (sym long)
+    (whole-by size r bytes begins (omega arith)
+    (subst (λ (n : ℕ). IsCode size (slice_range bytes 26 (26 + n))) plen parity)
+    (snapshot-at size p s r bytes (λ l. IsSnapshot size r.snap l) plen slen snapshot))
+
+-- where the flag is set, the second code is a snapshot
+pub code-snapshot : (size : ℕ) (snap : Bool) (bytes : List ℕ) → IsTrue snap → IsCode size bytes → IsSnapshot size snap bytes
+code-snapshot size snap bytes set code = subst (λ (b : Bool). IsSnapshot size b bytes) (sym set) code
 
 -- reading found that the second code is refused
 pub read_bad : (size p s inner : ℕ) (r : LogRec) (bytes : List ℕ) → p ≡ r.plen → s ≡ r.slen → BeginsWith size r bytes → 26 + p + s ≤ length bytes

@@ -1,5 +1,5 @@
 -- A record written piece by piece.
-use Rattle.std.proofs.Common.{◌≡◌, ℕ, ◌+◌, ◌≤◌, ◌^◌, ◌<◌, Bool, true, false, List, [], ◌∷◌, ◌++◌, length, take, drop, set, refl, sym, ◌∙◌, ap, subst, arith, w16, w32, w64, append_assoc, length-append, length-take-le, take_at, drop_at, drop-drop}
+use Rattle.std.proofs.Common.{◌≡◌, ℕ, ◌+◌, ◌≤◌, ◌^◌, ◌<◌, Bool, true, false, List, [], ◌∷◌, ◌++◌, length, take, drop, set, refl, sym, ◌∙◌, ap, arith, w16, w32, w64, append_assoc, length-append, length-take-le, take_at, drop_at, drop-drop}
 use Rattle.std.specs.Int.{to_be_bytes}
 use Rattle.std.proofs.lemmas.Slice.{take-put_mid}
 use mir.Val.{bool_byte}
@@ -7,7 +7,7 @@ use borrow.Rule.Slice.PartMut.{put_mid, post_of}
 use Rattle.trap_block.specs.Fields.{put_over}
 use Rattle.trap_model.specs.declared.log_record.LogRec.{LogRec}
 use Rattle.trap_model.specs.ZeroRun.{IsCode}
-use Rattle.trap_model.specs.LogRecord.{flag, header, SnapshotLength, KeepsRanges, IsSnapshot, LogRecord}
+use Rattle.trap_model.specs.LogRecord.{flag, header, SnapshotLength, IsSnapshot, LogRecord}
 use Rattle.trap_model.proofs.ZeroRuns.{ZeroRun-length}
 
 -- a piece written behind what is done

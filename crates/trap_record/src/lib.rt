@@ -3,9 +3,11 @@
 
 mod header;
 pub mod laws;
+mod parts;
 mod reader;
 mod writer;
 
+pub use parts::{Part, read_part};
 pub use reader::{ReadRec, read};
 pub use trap_model::LogRec;
 pub use writer::spell;

@@ -1,4 +1,4 @@
-use Rattle.std.proofs.Common.{refl, inl, inr, arith}
+use Rattle.std.proofs.Common.{refl, inr}
 use Rattle.trap_record.proofs.Getting.{read_plain, read_marked, read_bad}
 use Rattle.trap_record.proofs.reader.read.Goals as goal
 

@@ -24,8 +24,8 @@ read-requires-clause-there g c =
     subst (λ (r : RingPlace). Fits v r.disk (r.at + r.len)) (sym c.ring_of.ensures)
     (subst (λ (l : Log). Fits v 0 (ring_at l.g + l.g.ring)) (sym c.self.view_is) (log_size log.g, c.requires.can.sizes.log, omega arith))
 
-pub returns-then-not-part_in-clause-damaged : goal.returns-then-not-part_in-clause-damaged
-returns-then-not-part_in-clause-damaged g c offset is told s stands =
+pub returns-then-not-read_part-clause-damaged : goal.returns-then-not-read_part-clause-damaged
+returns-then-not-read_part-clause-damaged g c offset is told s stands =
     let disks = (g.B.Bank.view c.args.bank.now).now.disks in
     let log = c.args.self.now in
     let item = c.item-item.result in
@@ -33,7 +33,7 @@ returns-then-not-part_in-clause-damaged g c offset is told s stands =
     let ring : c.ring_of.result ≡ log_ring log.g = c.ring_of.ensures ∙ ap (λ (l : Log). log_ring l.g) c.self.view_is in
     let there = subst (λ (r : RingPlace). RingHas r item.off c.read.new.buf disks) ring (c.in_ok-read.ensures.bytes told) in
     let whole = is_whole log s disks c.args.seq item stands c.requires.entry c.item-item.ensures.item c.item-item.ensures.time c.rec_of-rec.result c.read.new.buf c.requires.can.in_step.offset there long c.rec_of-rec.ensures in
-    false≢true (c.if-not-part_in.ensures.whole.1 (subst (λ (n : ℕ). IsWhole n c.rec_of-rec.result (length c.read.new.buf) c.read.new.buf) (sym c.requires.into) whole))
+    false≢true (c.if-not-read_part.ensures.whole.1 (subst (λ (n : ℕ). IsWhole n c.rec_of-rec.result (length c.read.new.buf) c.read.new.buf) (sym c.requires.into) whole))
 
 pub returns-clause-part : goal.returns-clause-part
 returns-clause-part g c told s stands =
@@ -43,5 +43,5 @@ returns-clause-part g c told s stands =
     let long : length c.read.new.buf ≡ 26 + item.plen + item.slen = search rules in
     let ring : c.ring_of.result ≡ log_ring log.g = c.ring_of.ensures ∙ ap (λ (l : Log). log_ring l.g) c.self.view_is in
     let there = subst (λ (r : RingPlace). RingHas r item.off c.read.new.buf disks) ring (c.in_ok-read.ensures.bytes told) in
-    let block : length c.part_in.new.into ≡ log.g.block = search rules in
-    is_part log s disks c.args.seq item stands c.requires.entry c.item-item.ensures.item c.item-item.ensures.time c.rec_of-rec.result c.read.new.buf c.requires.can.in_step.offset there long c.rec_of-rec.ensures c.args.part c.part_in.new.into block c.requires.marked (c.if-not-part_in.ensures.code refl)
+    let block : length c.read_part.new.into ≡ log.g.block = search rules in
+    is_part log s disks c.args.seq item stands c.requires.entry c.item-item.ensures.item c.item-item.ensures.time c.rec_of-rec.result c.read.new.buf c.requires.can.in_step.offset there long c.rec_of-rec.ensures c.args.part c.read_part.new.into block c.requires.marked (c.if-not-read_part.ensures.spelled refl)
