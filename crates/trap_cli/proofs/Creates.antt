@@ -94,7 +94,8 @@ module _ (asked : Asked) (a : View) (lawful : IsLawful a) where
     stops = λ told. refl;
     touches = record { tells = refl; sizes = λ e beyond. refl; faults = λ e. omega arith; port_faults = omega arith };
     others = λ other told e beyond. refl;
-    members = λ session. absurd (cc session);
+    unread = λ other. refl;
+    members = tt;
     steps = refused_steps a from (BadGeometry field) (nothing_done a (Quiet Same) (Quiet Same) (λ x was. record { disks = refl; said = refl }));
   }
 
@@ -120,7 +121,8 @@ module _ (asked : Asked) (a : View) (lawful : IsLawful a) where
         port_faults = untouched.moves.port_faults;
       };
       others = λ other told e beyond. ap (λ (c : Contents). c.disks e) (untouched.same told);
-      members = λ session. absurd (cc session);
+      unread = λ other. refl;
+      members = tt;
       steps = refused_steps b from (NotCreated (Exists d)) untouched.moves;
     }
 
@@ -176,7 +178,8 @@ module _ (asked : Asked) (a : View) (lawful : IsLawful a) where
         });
         touches = touched moves.tells moves.faults moves.port_faults;
         others = λ other told e beyond. others told e (omega (arith, g.within.members_most, beyond));
-        members = λ session. absurd (cc session);
+        unread = λ other. refl;
+        members = tt;
         steps = weaken a b (Quiet (Creates g)) (Quiet (Creates g)) (Leaves (command_create asked) a from) (LeavesBefore (last_line (NotCreated why)) (command_create asked) a from) moves
             (λ x y was step. record { part = []; said = step.said ∙ sym (append-nil x.said); leaves = making [] x y (Done, [], refl) step.disks })
             (λ x y was left step front rest is. record {
@@ -242,7 +245,8 @@ module _ (asked : Asked) (a : View) (lawful : IsLawful a) where
           };
           touches = touched_end;
           others = λ other. others_end;
-          members = λ session. absurd (cc session);
+          unread = λ other. refl;
+          members = tt;
           steps = created_steps [];
         }
 
@@ -262,7 +266,8 @@ module _ (asked : Asked) (a : View) (lawful : IsLawful a) where
               };
           touches = touched_end;
           others = λ other. others_end;
-          members = λ session. absurd (cc session);
+          unread = λ other. refl;
+          members = tt;
           steps = created_steps [];
         }
 

@@ -5,6 +5,8 @@ pub mod Lines
 pub mod Heads
 pub mod Stopping
 pub mod Crashing
+pub mod Listings
+pub mod Histories
 pub mod Sessions
 pub mod Creates
 pub mod Running

@@ -15,19 +15,20 @@ use Rattle.trap_array.specs.declared.fault.Denied.TheVariants as denied
 use Rattle.trap_session.specs.declared.outcome.SessionFault.{SessionFault}
 use Rattle.trap_session.specs.declared.outcome.SessionFault.TheVariants as serving
 use Rattle.trap_cli.specs.declared.command.Command.{Command}
-use Rattle.trap_cli.specs.declared.command.Command.TheVariants.{Create, Session}
+use Rattle.trap_cli.specs.declared.command.Command.TheVariants.{Create, Session, History}
 use Rattle.trap_cli.specs.declared.outcome.Ended.{Ended}
 use Rattle.trap_cli.specs.declared.outcome.Ended.TheVariants.{Done, Usage, BadGeometry, NotCreated, NotMounted, Stopped, Port, Memory}
 use Rattle.trap_cli.specs.Command.{IsCommand}
 use Rattle.trap_cli.specs.Ended.{status_of, last_line, is_refused}
-use Rattle.trap_cli.specs.Cause.{CauseOf, SessionCause, CreateCause, StoppedBy}
+use Rattle.trap_cli.specs.Cause.{CauseOf, SessionCause, HistoryCause, CreateCause, StoppedBy}
 use Rattle.trap_cli.specs.Stops.{StopsBefore}
 use Rattle.trap_cli.specs.Crash.{LeftBy, Leaves, LeavesBefore}
-use Rattle.trap_cli.specs.Run.{Works, Runs, Ends, Spoken, Refuses, TouchesBelow, StaysFrom, MembersStay}
+use Rattle.trap_cli.specs.Run.{Works, Runs, Ends, Spoken, Refuses, TouchesBelow, StaysFrom, MembersStay, MembersStayFor}
 use Rattle.trap_cli.proofs.Words.{one_command}
 use Rattle.trap_cli.proofs.Saying.{rose_later, last_since, run_leaves}
 use Rattle.trap_cli.proofs.Crashing.{no_front, mount_leaves}
 use Rattle.trap_cli.proofs.Creates.{entry_creates}
+use Rattle.trap_cli.proofs.Histories.{mount_lists}
 
 -- causes stay
 mount_later : (why : MountFault) (old mid new : View) → ((e : ℕ) → mid.faults e ≤ new.faults e) → MountFails why old mid → MountFails why old new
@@ -65,6 +66,14 @@ cause_later (Some Session) (NotMounted why) old mid new from to later port by = 
 cause_later (Some Session) (Stopped why) old mid new from to later port by = (by.0, stopped_later why old mid new from to later port by.1)
 cause_later (Some Session) Port old mid new from to later port by = by
 cause_later (Some Session) Memory old mid new from to later port by = by
+cause_later (Some History) Done old mid new from to later port by = by
+cause_later (Some History) Usage old mid new from to later port by = by
+cause_later (Some History) (BadGeometry field) old mid new from to later port by = by
+cause_later (Some History) (NotCreated why) old mid new from to later port by = by
+cause_later (Some History) (NotMounted why) old mid new from to later port by = (by.0, mount_later why old mid new later by.1)
+cause_later (Some History) (Stopped why) old mid new from to later port by = by
+cause_later (Some History) Port old mid new from to later port by = (by.0, rose_later old.port_faults mid.port_faults new.port_faults by.1 port)
+cause_later (Some History) Memory old mid new from to later port by = by
 cause_later (Some (Create asked)) Done old mid new from to later port by = by
 cause_later (Some (Create asked)) Usage old mid new from to later port by = by
 cause_later (Some (Create asked)) (BadGeometry field) old mid new from to later port by = by
@@ -108,6 +117,7 @@ not_two Memory other two = cc two
 -- a command isn't refused as none
 no_usage : (command : Command) (ended : Ended) (old new : View) (from to : Stream) → CauseOf (Some command) ended old new from to → ended ≡ Usage → ⊥
 no_usage Session ended old new from to by is = subst (λ (ended : Ended). SessionCause ended old new from to) is by
+no_usage History ended old new from to by is = subst (λ (ended : Ended). HistoryCause ended old new) is by
 no_usage (Create asked) ended old new from to by is = subst (λ (ended : Ended). CreateCause asked ended old new) is by
 
 pub usage_exact : (status : ℕ) (words : List (String Global)) (command : Option Command) (ended : Ended) (old new : View) (from to : Stream) → IsCommand command words
@@ -127,6 +137,11 @@ at_entry (Some Session) a from lawful x was = λ g s input begins. record {
   said = sym (append-nil x.said);
   leaves = mount_leaves g s input a from begins [] no_front x x was (inl refl);
 }
+at_entry (Some History) a from lawful x was = λ g s told holds. record {
+  part = [];
+  said = sym (append-nil x.said);
+  leaves = mount_lists g s a holds [] no_front x x was (inl refl);
+}
 at_entry (Some (Create asked)) a from lawful x was = record {
   part = [];
   said = sym (append-nil x.said);
@@ -142,10 +157,30 @@ no_command a from = record {
   stops = λ told. refl;
   touches = record { tells = refl; sizes = λ e beyond. refl; faults = λ e. omega arith; port_faults = omega arith };
   others = λ other told e beyond. refl;
-  members = λ session. absurd (cc session);
+  unread = λ other. refl;
+  members = tt;
   steps = nothing_done a (Leaves None a from) (LeavesBefore (last_line Usage) None a from)
       (λ x was front rest is. record { part = front; said = refl; leaves = ((Usage, rest, is), was.torn.disks) });
 }
+
+-- what is so of the members stays so over the last line
+members_stay : (old mid new : View) → (IsTrue old.tells → new.now.disks ≡ mid.now.disks) → ((e : ℕ) → mid.faults e ≤ new.faults e)
+    → MembersStay old mid → MembersStay old new
+members_stay old mid new same later stay g s t h k told was is =
+    let keeps = stay g s t h k told was (subst (λ (disks : Disks). HoldsBy g k t disks) (same told) is) in
+    record {
+      lost = keeps.lost;
+      mark = λ m before after lower. ⊎_elim
+          (λ rose. inl (rose_later (old.faults (m + 1)) (mid.faults (m + 1)) (new.faults (m + 1)) rose (later (m + 1)))) (λ other. inr other)
+          (keeps.mark m before after lower);
+    }
+
+members_later : (command : Option Command) (old mid new : View) (from : Stream) → (IsTrue old.tells → new.now.disks ≡ mid.now.disks)
+    → ((e : ℕ) → mid.faults e ≤ new.faults e) → MembersStayFor command old mid from → MembersStayFor command old new from
+members_later None old mid new from same later stay = stay
+members_later (Some Session) old mid new from same later stay = λ input left. members_stay old mid new same later (stay input left)
+members_later (Some History) old mid new from same later stay = members_stay old mid new same later stay
+members_later (Some (Create asked)) old mid new from same later stay = stay
 
 module _ (command : Option Command) (ended : Ended) (old mid new : View) (from to : Stream) (works : Works command ended old mid from to)
     (spoken : Spoken (last_line ended) mid new) where
@@ -170,16 +205,8 @@ module _ (command : Option Command) (ended : Ended) (old mid new : View) (from t
         record { part = last.part; rest = last.rest; whole = last.whole; said = last.said ∙ ap (λ (l : List ℕ). l ++ last.part) same; port = last.port };
   }
 
-  pub run_members : command ≡ Some Session → MembersStay old new from
-  run_members session g s t input h k begins was is =
-      let keeps = works.members session g s t input h k begins was
-      (subst (λ (disks : Disks). HoldsBy g k t disks) (spoken.disks (told_mid begins.tells)) is) in
-      record {
-        lost = keeps.lost;
-        mark = λ m before after lower. ⊎_elim
-            (λ rose. inl (rose_later (old.faults (m + 1)) (mid.faults (m + 1)) (new.faults (m + 1)) rose (spoken.steps.faults (m + 1)))) (λ other. inr other)
-            (keeps.mark m before after lower);
-      }
+  pub run_members : MembersStayFor command old new from
+  run_members = members_later command old mid new from (λ told. spoken.disks (told_mid told)) spoken.steps.faults works.members
 
   pub run_runs : (status : ℕ) → status ≡ status_of ended → Runs status command old new from to
   run_runs status is = record {
@@ -188,6 +215,7 @@ module _ (command : Option Command) (ended : Ended) (old mid new : View) (from t
     cause = cause_later command ended old mid new from to spoken.steps.faults spoken.steps.port_faults works.cause;
     first = works.first;
     refused = refuses;
+    unread = works.unread;
     told = ends;
   }
 

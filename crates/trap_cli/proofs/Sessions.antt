@@ -1,5 +1,5 @@
 -- All but the last line of `session`.
-use Rattle.std.proofs.Common.{◌≡◌, inl, inr, ⊎_elim, ℕ, ◌+◌, ◌≤◌, List, true, false, IsTrue, sym, ap, subst, ◌∙◌, append-nil, arith, refl}
+use Rattle.std.proofs.Common.{◌≡◌, inl, inr, ⊎_elim, ℕ, ◌+◌, ◌≤◌, List, Some, true, false, IsTrue, sym, ap, subst, ◌∙◌, append-nil, arith, refl}
 use Rattle.trap_bank.specs.Disks.{View, Quiet}
 use Rattle.trap_bank.specs.Steps.{Steps, Moves, Always}
 use Rattle.trap_bank.specs.Stream.{Stream}
@@ -91,7 +91,8 @@ module _ (a b : View) (from : Stream) (mounted : Moves a b (Mounts a) (Mounts a)
       port_faults = mounted.port_faults;
     };
     others = λ other. absurd (other refl);
-    members = λ session g s t input h k begins was is. keeps_found g h k a b b (lost g h k s t begins.tells was is) (λ e. omega arith);
+    unread = λ other. refl;
+    members = λ input left g s t h k told was is. keeps_found g h k a b b (lost g h k s t told was is) (λ e. omega arith);
     steps = unmounted_steps a b from why mounted;
   }
 
@@ -116,14 +117,14 @@ module _ (a b : View) (from : Stream) (mounted : Moves a b (Mounts a) (Mounts a)
         (came.was.torn.said ∙ (contents begins.tells).said) (came.by s known.1 input begins.left)
 
     -- the lost member at the end
-    members_now : MembersStay a c from
-    members_now g s t input h k begins was is =
-        let known = stands g s begins.tells begins.holds in
-        let mid = (known.1 b.now (read_is_left b (told_mid begins.tells))).by in
+    members_now : (input : List ℕ) → from.left ≡ Some input → MembersStay a c
+    members_now input left g s t h k told was is =
+        let known = stands g s told (record { head = h; by = was }) in
+        let mid = (known.1 b.now (read_is_left b (told_mid told))).by in
         let by_mid = subst (λ (g : Geometry). HoldsBy g array.head s b.now.disks) known.0 mid in
-        let keeps = keeps_found g h array.head a b c (lost g h array.head s s begins.tells was by_mid) served.faults in
-        let came = served.now c.now (read_is_left c (told_end begins.tells)) in
-        let some = stops_some array.g (λ disks t. HoldsLike array.g array.head t disks) ended s input came.origin c.now from to (came.by s known.1 input begins.left) in
+        let keeps = keeps_found g h array.head a b c (lost g h array.head s s told was by_mid) served.faults in
+        let came = served.now c.now (read_is_left c (told_end told)) in
+        let some = stops_some array.g (λ disks t. HoldsLike array.g array.head t disks) ended s input came.origin c.now from to (came.by s known.1 input left) in
         let same = same_heads g k some.1.head t some.0 c.now.disks is (subst (λ (g : Geometry). HoldsBy g some.1.head some.0 c.now.disks) known.0 some.1.by) in
         keeps_like g h array.head k a c keeps (ap (λ (h : Head). h.lost) same ∙ some.1.lost) (ap (λ (h : Head). h.rebuilt) same ∙ some.1.rebuilt)
 
@@ -142,7 +143,8 @@ module _ (a b : View) (from : Stream) (mounted : Moves a b (Mounts a) (Mounts a)
         port_faults = omega (arith, mounted.port_faults, served.port_faults);
       };
       others = λ other. absurd (other refl);
-      members = λ session. members_now;
+      unread = λ other. absurd (other refl);
+      members = members_now;
       steps = session_steps a b c from to ended array stands mounted served;
     }
 

@@ -5,8 +5,8 @@ use Rattle.std.specs.declared.alloc.Global.{Global}
 use Rattle.trap_model.specs.declared.asked.Asked.{Asked}
 use Rattle.trap_script.specs.Numbers.{number_of}
 use Rattle.trap_cli.specs.declared.command.Command.{Command}
-use Rattle.trap_cli.specs.declared.command.Command.TheVariants.{Create, Session}
-use Rattle.trap_cli.specs.Command.{IsSession, IsCreate, IsCommand, AreNumbers, numbers_of}
+use Rattle.trap_cli.specs.declared.command.Command.TheVariants.{Create, Session, History}
+use Rattle.trap_cli.specs.Command.{IsSession, IsHistory, IsCreate, IsCommand, AreNumbers, numbers_of}
 
 pub one_word : (words : List (String Global)) (word : String Global) → length words ≡ 1 → word ≡ get_or words 0 word → words ≡ word ∷ []
 one_word [] word one first = absurd (omega (arith, one))
@@ -63,24 +63,45 @@ same_create words asked other is are =
     let behind : is.behind ≡ are.behind = cc in
     same_numbers is.behind asked other is.numbers (subst (λ (words : List (String Global)). AreNumbers words other) (sym behind) are.numbers)
 
--- the word `session` isn't `create`
-not_both : (words : List (String Global)) (asked : Asked) → IsSession words → IsCreate words asked → ⊥
-not_both words asked session create =
-    let both : codes "session" ∷ [] ≡ string_bytes create.first ∷ map string_bytes create.behind = sym session ∙ ap (map string_bytes) create.parts in
-    let word : codes "session" ≡ string_bytes create.first = cc in
-    let other : codes "session" ≡ codes "create" = word ∙ create.create in
-    cc
+-- one word alone that isn't `create` is no command with numbers
+not_create : (word : List ℕ) (words : List (String Global)) (asked : Asked) → map string_bytes words ≡ word ∷ [] → IsCreate words asked → word ≡ codes "create"
+not_create word words asked alone create =
+    let both : word ∷ [] ≡ string_bytes create.first ∷ map string_bytes create.behind = sym alone ∙ ap (map string_bytes) create.parts in
+    let same : word ≡ string_bytes create.first = cc in
+    same ∙ create.create
+
+no_session : (words : List (String Global)) (asked : Asked) → IsSession words → IsCreate words asked → ⊥
+no_session words asked session create =
+    let head = ap (λ (l : List ℕ). get_or l 0 0) (not_create (codes "session") words asked session create) in omega (arith, head)
+
+no_history : (words : List (String Global)) (asked : Asked) → IsHistory words → IsCreate words asked → ⊥
+no_history words asked history create =
+    let head = ap (λ (l : List ℕ). get_or l 0 0) (not_create (codes "history") words asked history create) in omega (arith, head)
+
+not_both : (words : List (String Global)) → IsSession words → IsHistory words → ⊥
+not_both words session history =
+    let both : codes "session" ∷ [] ≡ codes "history" ∷ [] = sym session ∙ history in
+    let same : codes "session" ≡ codes "history" = cc in
+    let head = ap (λ (l : List ℕ). get_or l 0 0) same in
+    omega (arith, head)
 
 -- the words are one command
 pub one_command : (words : List (String Global)) (command other : Option Command) → IsCommand command words → IsCommand other words → command ≡ other
 one_command words (Some Session) (Some Session) is are = refl
-one_command words (Some Session) (Some (Create asked)) is are = absurd (not_both words asked is are)
+one_command words (Some Session) (Some History) is are = absurd (not_both words is are)
+one_command words (Some Session) (Some (Create asked)) is are = absurd (no_session words asked is are)
 one_command words (Some Session) None is are = absurd (are.0 is)
-one_command words (Some (Create asked)) (Some Session) is are = absurd (not_both words asked are is)
+one_command words (Some History) (Some Session) is are = absurd (not_both words are is)
+one_command words (Some History) (Some History) is are = refl
+one_command words (Some History) (Some (Create asked)) is are = absurd (no_history words asked is are)
+one_command words (Some History) None is are = absurd (are.1 is)
+one_command words (Some (Create asked)) (Some Session) is are = absurd (no_session words asked are is)
+one_command words (Some (Create asked)) (Some History) is are = absurd (no_history words asked are is)
 one_command words (Some (Create asked)) (Some (Create other)) is are = ap (λ (asked : Asked). Some (Create asked)) (same_create words asked other is are)
-one_command words (Some (Create asked)) None is are = absurd (are.1 asked is)
+one_command words (Some (Create asked)) None is are = absurd (are.2 asked is)
 one_command words None (Some Session) is are = absurd (is.0 are)
-one_command words None (Some (Create other)) is are = absurd (is.1 other are)
+one_command words None (Some History) is are = absurd (is.1 are)
+one_command words None (Some (Create other)) is are = absurd (is.2 other are)
 one_command words None None is are = refl
 
 -- nine words, each a number

@@ -15,11 +15,12 @@ use Rattle.trap_array.specs.Mounting.{HasMembers, Refuses, MountFails}
 use Rattle.trap_array.specs.declared.fault.CreateFault.{CreateFault}
 use Rattle.trap_array.specs.declared.fault.CreateFault.TheVariants as creating
 use Rattle.trap_array.specs.declared.fault.Denied.TheVariants as denied
+use Rattle.trap_array.specs.declared.fault.MountFault.{MountFault}
 use Rattle.trap_session.specs.Serving.{TookQuit}
 use Rattle.trap_session.specs.declared.outcome.SessionFault.{SessionFault}
 use Rattle.trap_session.specs.declared.outcome.SessionFault.TheVariants as serving
 use Rattle.trap_cli.specs.declared.command.Command.{Command}
-use Rattle.trap_cli.specs.declared.command.Command.TheVariants.{Create, Session}
+use Rattle.trap_cli.specs.declared.command.Command.TheVariants.{Create, Session, History}
 use Rattle.trap_cli.specs.declared.outcome.Ended.{Ended}
 use Rattle.trap_cli.specs.declared.outcome.Ended.TheVariants.{Done, Usage, BadGeometry, NotCreated, NotMounted, Stopped, Port, Memory}
 
@@ -64,16 +65,31 @@ CreateFails g (creating.Exists disk) old new = IsLowest g old disk
 CreateFails g creating.LogFault old new = Rose (old.faults 0) (new.faults 0)
 CreateFails g (creating.MemberFault first second) old new = MemberRose first second old new
 
+-- why an array could not be mounted: its refusals say what stands on the disks
+abbrev pub UnmountedBy : MountFault → View → View → Type 0
+UnmountedBy why old new = (IsTrue old.tells → Refuses old why) × MountFails why old new
+
 -- Why `session` ends so. What is said of the disks holds where the bank tells.
 abbrev pub SessionCause : Ended → View → View → Stream → Stream → Type 0
 SessionCause Done old new from to = IsMountable old × TookAll old from to
 SessionCause Usage old new from to = ⊥
 SessionCause (BadGeometry field) old new from to = ⊥
 SessionCause (NotCreated why) old new from to = ⊥
-SessionCause (NotMounted why) old new from to = (IsTrue old.tells → Refuses old why) × MountFails why old new
+SessionCause (NotMounted why) old new from to = UnmountedBy why old new
 SessionCause (Stopped why) old new from to = IsMountable old × StoppedBy why old new from to
 SessionCause Port old new from to = ⊥
 SessionCause Memory old new from to = IsMountable old
+
+-- why `history` ends so
+abbrev pub HistoryCause : Ended → View → View → Type 0
+HistoryCause Done old new = IsMountable old
+HistoryCause Usage old new = ⊥
+HistoryCause (BadGeometry field) old new = ⊥
+HistoryCause (NotCreated why) old new = ⊥
+HistoryCause (NotMounted why) old new = UnmountedBy why old new
+HistoryCause (Stopped why) old new = ⊥
+HistoryCause Port old new = IsMountable old × Rose old.port_faults new.port_faults
+HistoryCause Memory old new = ⊥
 
 -- why `create` ends so
 abbrev pub CreateCause : Asked → Ended → View → View → Type 0
@@ -89,4 +105,5 @@ CreateCause asked Memory old new = ⊥
 abbrev pub CauseOf : Option Command → Ended → View → View → Stream → Stream → Type 0
 CauseOf None ended old new from to = ended ≡ Usage
 CauseOf (Some Session) ended old new from to = SessionCause ended old new from to
+CauseOf (Some History) ended old new from to = HistoryCause ended old new
 CauseOf (Some (Create asked)) ended old new from to = CreateCause asked ended old new

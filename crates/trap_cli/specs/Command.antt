@@ -4,11 +4,15 @@ use Rattle.std.specs.declared.alloc.Global.{Global}
 use Rattle.trap_model.specs.declared.asked.Asked.{Asked}
 use Rattle.trap_script.specs.Numbers.{number_of}
 use Rattle.trap_cli.specs.declared.command.Command.{Command}
-use Rattle.trap_cli.specs.declared.command.Command.TheVariants.{Create, Session}
+use Rattle.trap_cli.specs.declared.command.Command.TheVariants.{Create, Session, History}
 
 -- the words are `session` alone
 abbrev pub IsSession : List (String Global) → Type 0
 IsSession words = map string_bytes words ≡ codes "session" ∷ []
+
+-- the words are `history` alone
+abbrev pub IsHistory : List (String Global) → Type 0
+IsHistory words = map string_bytes words ≡ codes "history" ∷ []
 
 -- the nine numbers behind `create`, in their order
 abbrev pub numbers_of : Asked → List ℕ
@@ -31,11 +35,16 @@ pub record IsCreate (words : List (String Global)) (asked : Asked) : Type 0 wher
 -- the words are this command, or none
 abbrev pub IsCommand : Option Command → List (String Global) → Type 0
 IsCommand (Some Session) words = IsSession words
+IsCommand (Some History) words = IsHistory words
 IsCommand (Some (Create asked)) words = IsCreate words asked
-IsCommand None words = (IsSession words → ⊥) × ((asked : Asked) → IsCreate words asked → ⊥)
+IsCommand None words =
+    (IsSession words → ⊥) × (IsHistory words → ⊥) × ((asked : Asked) → IsCreate words asked → ⊥)
 
 abbrev pub command_session : Option Command
 command_session = Some Session
+
+abbrev pub command_history : Option Command
+command_history = Some History
 
 abbrev pub command_create : Asked → Option Command
 command_create asked = Some (Create asked)

@@ -1,5 +1,5 @@
 -- What a crash at any moment of a run leaves.
-use Rattle.std.specs.Prelude.{◌≡◌, ◌⊎◌, ℕ, ◌+◌, List, ◌++◌, Option, Some, None}
+use Rattle.std.specs.Prelude.{◌≡◌, ◌⊎◌, ℕ, ◌+◌, List, ◌++◌, Option, Some, None, IsTrue}
 use Rattle.trap_bank.specs.Disks.{Contents, Disks, View, Differs}
 use Rattle.trap_bank.specs.Stream.{Stream}
 use Rattle.trap_model.specs.Given.{given}
@@ -16,9 +16,10 @@ use Rattle.trap_array.specs.Holding.{Holds}
 use Rattle.trap_array.specs.Creating.{IsLowest, NoneIsThere, Creates}
 use Rattle.trap_array.specs.Mounting.{SameHead}
 use Rattle.trap_cli.specs.Ended.{last_line, created_line}
+use Rattle.trap_cli.specs.History.{history_text}
 use Rattle.trap_cli.specs.Stops.{BeginsTold}
 use Rattle.trap_cli.specs.declared.command.Command.{Command}
-use Rattle.trap_cli.specs.declared.command.Command.TheVariants.{Create, Session}
+use Rattle.trap_cli.specs.declared.command.Command.TheVariants.{Create, Session, History}
 use Rattle.trap_cli.specs.declared.outcome.Ended.{Ended}
 
 -- a first part of a fault line, the empty one included
@@ -51,6 +52,16 @@ SessionLeaves g s input old p disks =
     (IsFaultFront p × LeftBesideHead old disks)
     ⊎ (HoldsAfter g s input (replies_given g s input p) disks ⊎ HoldsAfter g s input (replies_given g s input p + 1) disks)
 
+-- a first part of the history's lines
+abbrev pub IsHistoryFront : State → List ℕ → Type 0
+IsHistoryFront s p = (rest : List ℕ) × (p ++ rest ≡ history_text s)
+
+-- Where these bytes were said: a crash on entry might have left the disks, perhaps beside the head's slot, and no more
+-- than a front of a fault line was said; or the disks hold the state, and such a front was said or one of its history.
+abbrev pub HistoryLeaves : Geometry → State → View → List ℕ → Disks → Type 0
+HistoryLeaves g s old p disks =
+    (IsFaultFront p × LeftBesideHead old disks) ⊎ ((IsFaultFront p ⊎ IsHistoryFront s p) × Holds g s disks)
+
 -- Where these bytes were said: no disk changed where a number breaks its limit, or a disk of the array was there.
 -- Otherwise disk 0 is no log, or the disks hold the new array, and so they do where the whole line was said.
 pub record CreateLeaves (asked : Asked) (old : View) (p : List ℕ) (disks : Disks) : Type 0 where
@@ -71,6 +82,8 @@ abbrev pub LeftBy : Option Command → View → Stream → List ℕ → Contents
 LeftBy None old from before c = LeftSaid (λ p disks. IsFaultFront p × LeftOnEntry old disks) before c
 LeftBy (Some Session) old from before c = (g : Geometry) (s : State) (input : List ℕ)
     → BeginsTold g s input old from → LeftSaid (SessionLeaves g s input old) before c
+LeftBy (Some History) old from before c = (g : Geometry) (s : State)
+    → IsTrue old.tells → Holds g s old.now.disks → LeftSaid (HistoryLeaves g s old) before c
 LeftBy (Some (Create asked)) old from before c = LeftSaid (CreateLeaves asked old) before c
 
 -- a crash on entry left the first contents; now one leaves the others

@@ -2,6 +2,8 @@ pub mod Counts
 pub mod Files
 pub mod Command
 pub mod Ended
+pub mod History
+pub mod Listing
 pub mod Cause
 pub mod Stops
 pub mod Crash

@@ -17,10 +17,10 @@ use Rattle.trap_array.specs.declared.fault.CreateFault.TheVariants.{Exists}
 use Rattle.trap_array.specs.declared.fault.MountFault.TheVariants.{NotAnArray}
 use Rattle.trap_cli.specs.Ended.{status_of, last_line, is_refused}
 use Rattle.trap_cli.specs.Cause.{CauseOf}
-use Rattle.trap_cli.specs.Stops.{BeginsTold, StopsBefore}
+use Rattle.trap_cli.specs.Stops.{StopsBefore}
 use Rattle.trap_cli.specs.Crash.{Leaves, LeavesBefore}
 use Rattle.trap_cli.specs.declared.command.Command.{Command}
-use Rattle.trap_cli.specs.declared.command.Command.TheVariants.{Create, Session}
+use Rattle.trap_cli.specs.declared.command.Command.TheVariants.{Create, Session, History}
 use Rattle.trap_cli.specs.declared.outcome.Ended.{Ended}
 use Rattle.trap_cli.specs.declared.outcome.Ended.TheVariants.{BadGeometry, NotCreated, NotMounted}
 
@@ -68,15 +68,23 @@ pub record KeepsMembers (g : Geometry) (h k : Head) (old new : View) : Type 0 wh
   pub mark : (m : ℕ) → h.lost ≡ Some m → k.lost ≡ Some m → k.rebuilt < h.rebuilt
       → Rose (old.faults (m + 1)) (new.faults (m + 1)) ⊎ (IsMember g old.now.disks m → ⊥)
 
--- where the bank and the source tell, and the disks held a state on entry: between the heads on entry and at exit
-abbrev pub MembersStay : View → View → Stream → Type 0
-MembersStay old new from = (g : Geometry) (s t : State) (input : List ℕ) (h k : Head) → BeginsTold g s input old from
+-- where the bank tells, and the disks held a state on entry: between the heads on entry and at exit
+abbrev pub MembersStay : View → View → Type 0
+MembersStay old new = (g : Geometry) (s t : State) (h k : Head) → IsTrue old.tells
     → HoldsBy g h s old.now.disks → HoldsBy g k t new.now.disks → KeepsMembers g h k old new
+
+-- so it is for what mounts; for `session` where the source tells too
+abbrev pub MembersStayFor : Option Command → View → View → Stream → Type 0
+MembersStayFor None old new from = Unit {0}
+MembersStayFor (Some Session) old new from = (input : List ℕ) → from.left ≡ Some input → MembersStay old new
+MembersStayFor (Some History) old new from = MembersStay old new
+MembersStayFor (Some (Create asked)) old new from = Unit {0}
 
 -- the refusals that are decided by what was asked and by sizes alone
 abbrev pub IsRefusedFirst : Option Command → Ended → View → Type 0
 IsRefusedFirst None ended old = Unit {0}
 IsRefusedFirst (Some Session) ended old = IsNoLog (old.sizes 0) → ended ≡ NotMounted NotAnArray
+IsRefusedFirst (Some History) ended old = IsNoLog (old.sizes 0) → ended ≡ NotMounted NotAnArray
 IsRefusedFirst (Some (Create asked)) ended old =
     ((field : Field) → first_broken asked ≡ Some field → ended ≡ BadGeometry field)
     × ((g : Geometry) (d : ℕ) → first_broken asked ≡ None → HasNumbers g asked → IsLowest g old d
@@ -90,7 +98,8 @@ pub record Works (command : Option Command) (ended : Ended) (old new : View) (fr
   pub stops : StopsBefore command ended old new.now from to
   pub touches : TouchesBelow 17 old new
   pub others : (command ≡ Some Session → ⊥) → StaysFrom 17 old new
-  pub members : command ≡ Some Session → MembersStay old new from
+  pub unread : (command ≡ Some Session → ⊥) → to ≡ from
+  pub members : MembersStayFor command old new from
   pub steps : Steps old new (Leaves command old from) (LeavesBefore (last_line ended) command old from)
 
 -- the command stopped so, and then the last line was said
@@ -106,4 +115,5 @@ pub record Runs (status : ℕ) (command : Option Command) (old new : View) (from
   pub cause : CauseOf command ended old new from to
   pub first : IsRefusedFirst command ended old
   pub refused : is_refused ended ≡ true → Refuses (last_line ended) old new
+  pub unread : (command ≡ Some Session → ⊥) → to ≡ from
   pub told : IsTrue old.tells → Ends command ended old new from to

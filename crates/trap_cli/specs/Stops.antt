@@ -1,5 +1,5 @@
 -- What was said and what the disks hold when a command is done, before its last line is said.
-use Rattle.std.specs.Prelude.{◌≡◌, ◌⊎◌, ℕ, ◌++◌, List, Some, None, Option, IsTrue, Err, true, false}
+use Rattle.std.specs.Prelude.{◌≡◌, ◌⊎◌, ℕ, ◌++◌, List, [], Some, None, Option, IsTrue, Err, true, false}
 use Rattle.trap_bank.specs.Disks.{Contents, Disks, View}
 use Rattle.trap_bank.specs.Calls.{SaysPart}
 use Rattle.trap_bank.specs.Stream.{Stream}
@@ -19,8 +19,9 @@ use Rattle.trap_array.specs.declared.fault.CreateFault.TheVariants as creating
 use Rattle.trap_session.specs.Store.{Store, array_store}
 use Rattle.trap_session.specs.Serving.{StopsDone, StopsAfter, StopsAs, StopsBy, TookQuit}
 use Rattle.trap_cli.specs.Ended.{created_line}
+use Rattle.trap_cli.specs.History.{history_text}
 use Rattle.trap_cli.specs.declared.command.Command.{Command}
-use Rattle.trap_cli.specs.declared.command.Command.TheVariants.{Create, Session}
+use Rattle.trap_cli.specs.declared.command.Command.TheVariants.{Create, Session, History}
 use Rattle.trap_cli.specs.declared.outcome.Ended.{Ended}
 use Rattle.trap_cli.specs.declared.outcome.Ended.TheVariants.{Done, Usage, BadGeometry, NotCreated, NotMounted, Stopped, Port, Memory}
 
@@ -87,6 +88,27 @@ CreateStops asked (Stopped why) old now = ⊥
 CreateStops asked Port old now = IsCreatedUnsaid asked old now
 CreateStops asked Memory old now = ⊥
 
+-- exactly this was said, and the disks hold the state
+pub record SaidOver (g : Geometry) (s : State) (text : List ℕ) (old now : Contents) : Type 0 where
+  pub said : now.said ≡ old.said ++ text
+  pub holds : Holds g s now.disks
+
+-- the port failed in this; the disks hold the state
+pub record SaidPartOver (g : Geometry) (s : State) (text : List ℕ) (old now : Contents) : Type 0 where
+  pub part : SaysPart text old now
+  pub holds : Holds g s now.disks
+
+-- `history` over disks that hold a state. None of its refusals comes.
+abbrev pub HistoryStops : Geometry → State → Ended → Contents → Contents → Type 0
+HistoryStops g s Done old now = SaidOver g s (history_text s) old now
+HistoryStops g s Usage old now = ⊥
+HistoryStops g s (BadGeometry field) old now = ⊥
+HistoryStops g s (NotCreated why) old now = ⊥
+HistoryStops g s (NotMounted why) old now = (is_refusal why ≡ false) × SaidOver g s [] old now
+HistoryStops g s (Stopped why) old now = ⊥
+HistoryStops g s Port old now = SaidPartOver g s (history_text s) old now
+HistoryStops g s Memory old now = ⊥
+
 -- the bank and the source tell, and the disks hold the state
 pub record BeginsTold (g : Geometry) (s : State) (input : List ℕ) (v : View) (from : Stream) : Type 0 where
   pub left : from.left ≡ Some input
@@ -98,6 +120,8 @@ abbrev pub StopsBefore : Option Command → Ended → View → Contents → Stre
 StopsBefore None ended old now from to = IsTrue old.tells → now ≡ old.now
 StopsBefore (Some Session) ended old now from to = (g : Geometry) (s : State) (input : List ℕ)
     → BeginsTold g s input old from → SessionStops (held_store g) ended s input old.now now from to
+StopsBefore (Some History) ended old now from to = (g : Geometry) (s : State)
+    → IsTrue old.tells → Holds g s old.now.disks → HistoryStops g s ended old.now now
 StopsBefore (Some (Create asked)) ended old now from to = IsTrue old.tells → CreateStops asked ended old.now now
 
 -- At its end, where the array stood for a state on entry and the input is known: the session ended so.

@@ -14,6 +14,8 @@ pub enum Command {
     Create(Asked),
     /// Answer the lines of the input.
     Session,
+    /// Say a line for each retained entry.
+    History,
 }
 
 /// The command that the words are, if they are one.
@@ -22,6 +24,9 @@ pub fn read_command(words: &[String]) -> Option<Command>
 {
     if words.len() == 1 && words[0].as_str() == "session" {
         return Some(Command::Session);
+    }
+    if words.len() == 1 && words[0].as_str() == "history" {
+        return Some(Command::History);
     }
     if words.len() == 10 && words[0].as_str() == "create" {
         let asked = read_numbers(&words[1..])?;

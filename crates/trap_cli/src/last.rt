@@ -66,8 +66,8 @@ fn session_status(why: SessionFault) -> u8
     }
 }
 
-// Writes the bytes at a place, and answers the place behind them.
-fn put(out: &mut [u8], at: usize, bytes: &[u8]) -> usize
+/// Writes the bytes at a place, and answers the place behind them.
+pub fn put(out: &mut [u8], at: usize, bytes: &[u8]) -> usize
     requires { at + length bytes.now ≤ length out.old }
     ensures end { result ≡ at + length bytes.now }
     ensures so_far { take result out.new ≡ take at out.old ++ bytes.now }
@@ -76,8 +76,8 @@ fn put(out: &mut [u8], at: usize, bytes: &[u8]) -> usize
     at + bytes.len()
 }
 
-// Writes the number in decimal digits, at most twenty.
-fn put_number(out: &mut [u8], at: usize, number: u64) -> usize
+/// Writes the number in decimal digits, at most twenty.
+pub fn put_number(out: &mut [u8], at: usize, number: u64) -> usize
     requires { at + 20 ≤ length out.old }
     ensures end { result ≤ at + 20 }
     ensures so_far { take result out.new ≡ take at out.old ++ decimal number }

@@ -4,6 +4,7 @@
 mod command;
 mod creating;
 mod edge;
+mod history;
 mod last;
 pub mod laws;
 mod outcome;

@@ -7,7 +7,7 @@ use trap_session::SessionFault;
 /// How a run ends.
 #[derive(Debug, Clone, Copy, PartialEq, Eq)]
 pub enum Ended {
-    /// The array was made, or the lines were answered up to the end of the input or to `Q`.
+    /// The array was made, the lines were answered up to the end of the input or to `Q`, or the history was said.
     Done,
     /// The words are no command.
     Usage,
@@ -19,7 +19,7 @@ pub enum Ended {
     NotMounted(MountFault),
     /// The session stopped.
     Stopped(SessionFault),
-    /// The reply port failed while `create` said that the array is made.
+    /// The reply port failed while `create` said that the array is made, or in the lines of `history`.
     Port,
     /// There was no memory for the session.
     Memory,

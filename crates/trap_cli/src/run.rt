@@ -6,10 +6,11 @@ ghost use Rattle.trap_cli.specs.Command.{IsCommand, IsSession};
 ghost use Rattle.trap_cli.specs.declared.command.Command.{Command};
 ghost use Rattle.trap_cli.specs.Ended.{last_line};
 ghost use Rattle.trap_cli.specs.Crash.{LeftBy};
-ghost use Rattle.trap_cli.specs.Run.{Spoken, Works, TouchesBelow, StaysFrom, MembersStay, Runs};
+ghost use Rattle.trap_cli.specs.Run.{Spoken, Works, TouchesBelow, StaysFrom, MembersStayFor, Runs};
 
 use crate::command::{Command, read_command};
 use crate::creating::run_create;
+use crate::history::run_history;
 use crate::last::{status, write_last};
 use crate::outcome::Ended;
 use crate::session::run_session;
@@ -44,6 +45,7 @@ fn run_command<B: Bank, S: Source>(
     match command {
         Command::Create(asked) => run_create(bank, asked),
         Command::Session => run_session(alloc, bank, source),
+        Command::History => run_history(alloc, bank),
     }
 }
 
@@ -81,8 +83,9 @@ pub fn run<B: Bank, S: Source, T: Turns>(
     ensures others { (IsSession words.now → ⊥) → StaysFrom 17 (B.view bank.old) (B.view bank.new) }
     ensures turns { _turns.new ≡ _turns.old }
 
-    // A session records a member lost only where its disk is absent.
-    ensures members { IsSession words.now → MembersStay (B.view bank.old) (B.view bank.new) (S.stream source.old) }
+    // What mounts an array records a member lost only where its disk is absent.
+    ensures members { (command : Option Command) → IsCommand command words.now
+        → MembersStayFor command (B.view bank.old) (B.view bank.new) (S.stream source.old) }
 
     // What a crash at any moment of the run leaves.
     ensures any_moment { (command : Option Command) → IsCommand command words.now

@@ -3,6 +3,7 @@
 ghost use Rattle.std.specs.Prelude.{◌≡◌, ◌+◌, ◌≤◌, ℕ, length, IsTrue};
 ghost use Rattle.trap_bank.specs.Calls.{Fits};
 
+mod listing;
 mod stops;
 
 use crate::{FileBank, StdinSource, run};
@@ -13,12 +14,12 @@ use trap_bank::{Bank, MemoryBank, MemorySource, Source, Steady};
 use trap_format::{Head, spell_head};
 
 /// Three members, a block a chunk, blocks of 16 bytes, four rows: eight blocks. The ring stands at byte 236.
-const CREATE: &str = "create 7 3 1 16 4 1 2 8 2048";
+pub const CREATE: &str = "create 7 3 1 16 4 1 2 8 2048";
 
 const ZEROS: &str = "is 00000000000000000000000000000000\n";
 
 /// The same write twice.
-const WRITES: &str =
+pub const WRITES: &str =
     "W 100 0 01000000000000000000000000000000\nW 100 0 01000000000000000000000000000000\n";
 
 // The status of a run of these words over that input, in pieces of that length; the source fails in that
@@ -43,7 +44,7 @@ pub fn ended(
 }
 
 // Whether a run of these words over that input ends with the status, and says just that.
-fn says(
+pub fn says(
     alloc: Global,
     bank: &mut MemoryBank,
     text: &str,

@@ -14,12 +14,19 @@ returns-then-eq c =
 
 pub returns-then-eq-2 : goal.returns-then-eq-2
 returns-then-eq-2 c =
+    let word = c.index-words-0-then-words-eq1-2.result in
+    let is = slice_eq-Decides Decides-eqb c.as_str-then-words-eq1-2.result.now (codes "history") c.eq-then-words-eq1-2.result c.eq-then-words-eq1-2.ensures in
+    ap (map string_bytes) (one_word c.args.words.now word c.if-words-eq1-2.true c.index-words-0-then-words-eq1-2.is)
+    ∙ ap (λ (t : List _). t ∷ []) (sym c.as_str-then-words-eq1-2.ensures.value ∙ is.0 c.if-eq-2.true)
+
+pub returns-then-eq-3 : goal.returns-then-eq-3
+returns-then-eq-3 c =
     let word = c.index-words-0-then-words-eq10.result in
     let is = slice_eq-Decides Decides-eqb c.as_str-then-words-eq10.result.now (codes "create") c.eq-then-words-eq10.result c.eq-then-words-eq10.ensures in
     record {
       first = word;
       behind = _;
       parts = first_word c.args.words.now word 9 c.if-words-eq10.true c.index-words-0-then-words-eq10.is;
-      create = sym c.as_str-then-words-eq10.ensures.value ∙ is.0 c.if-eq-2.true;
+      create = sym c.as_str-then-words-eq10.ensures.value ∙ is.0 c.if-eq-3.true;
       numbers = c.in_ok-asked.ensures.some;
     }

@@ -8,3 +8,9 @@ returns-in-Create g c = record {
   works = subst (λ (command : Command). Works (Some command) c.run_create.result (g.B.Bank.view c.args.bank.now) (g.B.Bank.view c.run_create.new.bank) (g.S.Source.stream c.args.source.now) (g.S.Source.stream c.args.source.now))
       (sym c.in-Create.is) (c.run_create.ensures.works (g.S.Source.stream c.args.source.now));
 }
+
+pub returns-in-History : goal.returns-in-History
+returns-in-History g c = record {
+  works = subst (λ (command : Command). Works (Some command) c.run_history.result (g.B.Bank.view c.args.bank.now) (g.B.Bank.view c.run_history.new.bank) (g.S.Source.stream c.args.source.now) (g.S.Source.stream c.args.source.now))
+      (sym c.in-History.is) (c.run_history.ensures.works (g.S.Source.stream c.args.source.now));
+}

@@ -1,0 +1,226 @@
+-- All but the last line of `history`.
+use Rattle.std.proofs.Common.{◌≡◌, ◌≢◌, inl, inr, ⊎_elim, ℕ, ◌≤◌, List, [], ◌∷◌, ◌++◌, Result, Ok, Err, true, false, IsTrue, refl, sym, ap, subst, ◌∙◌, append-nil, arith}
+use Rattle.trap_bank.specs.Disks.{Contents, Disks, View, Quiet}
+use Rattle.trap_bank.specs.Faults.{Rose}
+use Rattle.trap_bank.specs.Calls.{MayLeave}
+use Rattle.trap_bank.specs.Steps.{Steps, Moves, Always}
+use Rattle.trap_bank.specs.Stream.{Stream}
+use Rattle.trap_bank.proofs.Moves.{then_, weaken, read_is_left}
+use Rattle.trap_format.specs.declared.head.Head.{Head}
+use Rattle.trap_model.specs.declared.numbers.Geometry.{Geometry}
+use Rattle.trap_model.specs.declared.history.State.{State}
+use Rattle.trap_array.specs.Holding.{Holds, HoldsBy}
+use Rattle.trap_array.specs.Calls.{Mounted, StandsFor}
+use Rattle.trap_array.specs.Mounting.{Mounts, SameHead, Refuses, MountFails, FoundLost, HasFound, IsNoLog, is_refusal}
+use Rattle.trap_array.specs.declared.fault.MountFault.{MountFault}
+use Rattle.trap_array.specs.declared.fault.MountFault.TheVariants.{NotAnArray}
+use Rattle.trap_cli.specs.declared.outcome.Ended.{Ended}
+use Rattle.trap_cli.specs.declared.outcome.Ended.TheVariants.{Done, NotMounted, Port}
+use Rattle.trap_cli.specs.Command.{command_history}
+use Rattle.trap_cli.specs.Ended.{last_line}
+use Rattle.trap_cli.specs.History.{history_text}
+use Rattle.trap_cli.specs.Listing.{KeepsDisks, Lists, HasListed}
+use Rattle.trap_cli.specs.Cause.{IsMountable}
+use Rattle.trap_cli.specs.Crash.{IsFaultFront, HistoryLeaves, LeftSaid, Leaves, LeavesBefore}
+use Rattle.trap_cli.specs.Run.{Works, TouchesBelow, StaysFrom, MembersStay}
+use Rattle.trap_cli.proofs.Saying.{rose_since}
+use Rattle.trap_cli.proofs.Heads.{same_head_holds, mounted_holds, keeps_found}
+use Rattle.trap_cli.proofs.Crashing.{no_front}
+
+module _ (g : Geometry) (s : State) (old : View) where
+  -- while the array is mounted
+  pub mount_lists : Holds g s old.now.disks → (p : List ℕ) → IsFaultFront p → (x y : Contents) → MayLeave old x → Mounts old x.disks y.disks → HistoryLeaves g s old p y.disks
+  mount_lists holds p front x y was (inl same) = inl (front, record { entry = x.disks; left = was.torn.disks; same = inl same })
+  mount_lists holds p front x y was (inr (inl head)) = inl (front, record { entry = x.disks; left = was.torn.disks; same = inr head })
+  mount_lists holds p front x y was (inr (inr still)) = inr (inl front, still g s holds)
+
+  -- where every crash on entry leaves the state, so does every crash now
+  pub crash_lists : Always old (λ disks. Holds g s disks) → IsTrue old.tells → (p : List ℕ) (disks : Disks) → HistoryLeaves g s old p disks → Holds g s disks
+  crash_lists always told p disks (inl (front, beside)) =
+      let entry = always (record { disks = beside.entry; said = old.now.said })
+      (record { told = told; torn = record { disks = beside.left; said = refl } }) in
+      ⊎_elim (λ (same : disks ≡ beside.entry). subst (λ (disks : Disks). Holds g s disks) (sym same) entry)
+      (λ (same : SameHead beside.entry disks). same_head_holds g s beside.entry disks same entry) beside.same
+  crash_lists always told p disks (inr (front, holds)) = holds
+
+-- some first part was said, whatever was answered
+some_listed : {T E : Type 0} (a : Mounted) (result : Result T E) (x y : Contents) → HasListed a result x y → Lists a x y
+some_listed a (Ok value) x y listed = record {
+  disks = listed.disks;
+  says = λ s on stands. record { part = history_text s; rest = []; whole = append-nil (history_text s); said = listed.says s on stands };
+}
+some_listed a (Err e) x y listed = listed
+
+-- no line is said behind the history
+empty_front : (front rest line : List ℕ) → line ≡ [] → front ++ rest ≡ line → front ≡ []
+empty_front [] rest line none is = refl
+empty_front (byte ∷ front) rest line none is = absurd (cc)
+
+-- The array could not be mounted.
+unlisted_steps : (a b : View) (from : Stream) (why : MountFault) → Moves a b (Mounts a) (Mounts a)
+    → Steps a b (Leaves command_history a from) (LeavesBefore (last_line (NotMounted why)) command_history a from)
+unlisted_steps a b from why moves = weaken a b (Quiet (Mounts a)) (Quiet (Mounts a)) (Leaves command_history a from)
+    (LeavesBefore (last_line (NotMounted why)) command_history a from) moves
+    (λ x y was step g s told holds. record {
+      part = [];
+      said = step.said ∙ sym (append-nil x.said);
+      leaves = mount_lists g s a holds [] no_front x y was step.disks;
+    })
+    (λ x y was left step front rest is g s told holds. record {
+      part = front;
+      said = ap (λ (l : List ℕ). l ++ front) step.said;
+      leaves = mount_lists g s a holds front (NotMounted why, rest, is) x y was step.disks;
+    })
+
+-- what the lines leave, over a state that the array stands for
+lists_leave : (a : View) (array : Mounted) (g : Geometry) (s : State) (x y z : Contents) → y.said ≡ x.said → array.g ≡ g → StandsFor array s y.disks
+    → Lists array y z → LeftSaid (HistoryLeaves g s a) x.said z
+lists_leave a array g s x y z quiet is stands listed =
+    let says = listed.says s y.disks stands in
+    record {
+      part = says.part;
+      said = says.said ∙ ap (λ (l : List ℕ). l ++ says.part) quiet;
+      leaves = inr (
+        inr (says.rest, says.whole),
+        subst (λ (g : Geometry). Holds g s z.disks) is
+            (subst (λ (disks : Disks). Holds array.g s disks) (sym listed.disks) (record { head = array.head; by = stands.by })),
+      );
+    }
+
+-- The lines are said over the mounted array.
+listed_steps : {T E : Type 0} (a b c : View) (from : Stream) (ended : Ended) (array : Mounted) (result : Result T E) → last_line ended ≡ []
+    → ((g : Geometry) (s : State) → IsTrue a.tells → Holds g s a.now.disks → (array.g ≡ g) × Always b (StandsFor array s))
+    → Moves a b (Mounts a) (Mounts a)
+    → Steps b c (Lists array) (HasListed array result)
+    → Steps a c (Leaves command_history a from) (LeavesBefore (last_line ended) command_history a from)
+listed_steps a b c from ended array result silent stands mounted listed = then_ a b c (Quiet (Mounts a)) (Quiet (Mounts a))
+    (Lists array) (HasListed array result) (Leaves command_history a from) (LeavesBefore (last_line ended) command_history a from) mounted listed
+    (λ x y was step g s told holds. record {
+      part = [];
+      said = step.said ∙ sym (append-nil x.said);
+      leaves = mount_lists g s a holds [] no_front x y was step.disks;
+    })
+    (λ x y z was step mid lists g s told holds.
+    let known = stands g s told holds in
+    lists_leave a array g s x y z step.said known.0 (known.1 y mid) lists)
+    (λ x y z was step mid lists front rest is g s told holds.
+    let known = stands g s told holds in
+    let left = lists_leave a array g s x y z step.said known.0 (known.1 y mid) (some_listed array result y z lists) in
+    let none = empty_front front rest (last_line ended) silent is in
+    record {
+      part = left.part;
+      said = ap (λ (l : List ℕ). z.said ++ l) none ∙ append-nil z.said ∙ left.said;
+      leaves = left.leaves;
+    })
+
+module _ (a b : View) (from : Stream) (mounted : Moves a b (Mounts a) (Mounts a)) (sizes : (e : ℕ) → b.sizes e ≡ a.sizes e)
+    (contents : IsTrue a.tells → Quiet (Mounts a) a.now b.now)
+    (others : IsTrue a.tells → (e : ℕ) → e ≢ 0 → b.now.disks e ≡ a.now.disks e)
+    (lost : (g : Geometry) (h k : Head) (s t : State) → IsTrue a.tells → HoldsBy g h s a.now.disks → HoldsBy g k t b.now.disks → FoundLost g h k a b) where
+  -- The array could not be mounted.
+  pub unlisted_works : (why : MountFault) → (IsNoLog (a.sizes 0) → why ≡ NotAnArray) → (IsTrue a.tells → Refuses a why) → MountFails why a b
+      → (is_refusal why ≡ true → IsTrue a.tells → b.now ≡ a.now)
+      → ((g : Geometry) (s : State) → IsTrue a.tells → Holds g s a.now.disks → is_refusal why ≡ false)
+      → Works command_history (NotMounted why) a b from from
+  unlisted_works why no_log refuses fails unwritten held = record {
+    cause = (refuses, fails);
+    first = λ none. ap NotMounted (no_log none);
+    refused = λ is. record { sizes = sizes; contents = unwritten is };
+    stops = λ g s told holds. (
+      held g s told holds,
+      record {
+        said = (contents told).said ∙ sym (append-nil a.now.said);
+        holds = mounted_holds g s a b.now.disks (contents told).disks holds;
+      },
+    );
+    touches = record {
+      tells = mounted.tells;
+      sizes = λ e beyond. sizes e;
+      faults = mounted.faults;
+      port_faults = mounted.port_faults;
+    };
+    others = λ other told e beyond. others told e (λ zero. absurd (omega (arith, beyond, zero)));
+    unread = λ other. refl;
+    members = λ g s t h k told was is. keeps_found g h k a b b (lost g h k s t told was is) (λ e. omega arith);
+    steps = unlisted_steps a b from why mounted;
+  }
+
+  module _ (c : View) (array : Mounted)
+      (stands : (g : Geometry) (s : State) → IsTrue a.tells → Holds g s a.now.disks → (array.g ≡ g) × Always b (StandsFor array s))
+      (found : HasFound array a b) (keeps : KeepsDisks b c) (log : IsNoLog (a.sizes 0) → ⊥) where
+    told_mid : IsTrue a.tells → IsTrue b.tells
+    told_mid told = subst IsTrue (sym mounted.tells) told
+
+    mountable : IsMountable a
+    mountable told = let passed = found.passed told in (array.g, record { h = passed.0; members = passed.1; own = passed.3 })
+
+    others_now : StaysFrom 17 a c
+    others_now told e beyond = ap (λ (disks : Disks). disks e) (keeps.disks (told_mid told)) ∙ others told e (λ zero. absurd (omega (arith, beyond, zero)))
+
+    members_now : ((e : ℕ) → b.faults e ≤ c.faults e) → MembersStay a c
+    members_now later g s t h k told was is =
+        keeps_found g h k a b c (lost g h k s t told was (subst (λ (disks : Disks). HoldsBy g k t disks) (keeps.disks (told_mid told)) is)) later
+
+    module _ {T E : Type 0} (result : Result T E) (listed : Steps b c (Lists array) (HasListed array result)) where
+      told_end : IsTrue a.tells → IsTrue c.tells
+      told_end told = subst IsTrue (sym listed.tells) (told_mid told)
+
+      touched : TouchesBelow 17 a c
+      touched = record {
+        tells = listed.tells ∙ mounted.tells;
+        sizes = λ e beyond. keeps.sizes e ∙ sizes e;
+        faults = λ e. omega (arith, mounted.faults e, listed.faults e);
+        port_faults = omega (arith, mounted.port_faults, listed.port_faults);
+      }
+
+      -- what a read gives at the end
+      holds_now : (g : Geometry) (s : State) → IsTrue a.tells → Holds g s a.now.disks → Holds g s c.now.disks
+      holds_now g s told holds = subst (λ (disks : Disks). Holds g s disks) (sym (keeps.disks (told_mid told)))
+          (mounted_holds g s a b.now.disks (contents told).disks holds)
+
+    -- Every line was said.
+    pub listed_works : (T E : Type 0) (value : T) → Steps b c (Lists array) (HasListed {T = T} {E = E} array (Ok value)) → Works command_history Done a c from from
+    listed_works T E value listed = record {
+      cause = mountable;
+      first = λ none. absurd (log none);
+      refused = λ is. absurd (cc is);
+      stops = λ g s told holds.
+          let known = stands g s told holds in
+          let came = listed.now c.now (read_is_left c (told_end {T = T} {E = E} (Ok value) listed told)) in
+          record {
+            said = came.by.says s came.origin.disks (known.1 came.origin came.was)
+                ∙ ap (λ (l : List ℕ). l ++ history_text s) (came.was.torn.said ∙ (contents told).said);
+            holds = holds_now {T = T} {E = E} (Ok value) listed g s told holds;
+          };
+      touches = touched {T = T} {E = E} (Ok value) listed;
+      others = λ other. others_now;
+      unread = λ other. refl;
+      members = members_now listed.faults;
+      steps = listed_steps {T = T} {E = E} a b c from Done array (Ok value) refl stands mounted listed;
+    }
+
+    -- The port failed in the lines.
+    pub cut_works : (T E : Type 0) (e : E) → Steps b c (Lists array) (HasListed {T = T} {E = E} array (Err e)) → Rose b.port_faults c.port_faults → Works command_history Port a c from from
+    cut_works T E e listed rose = record {
+      cause = (mountable, rose_since a.port_faults b.port_faults c.port_faults mounted.port_faults rose);
+      first = λ none. absurd (log none);
+      refused = λ is. absurd (cc is);
+      stops = λ g s told holds.
+          let known = stands g s told holds in
+          let came = listed.now c.now (read_is_left c (told_end {T = T} {E = E} (Err e) listed told)) in
+          let says = came.by.says s came.origin.disks (known.1 came.origin came.was) in
+          record {
+            part = record {
+              part = says.part;
+              rest = says.rest;
+              whole = says.whole;
+              said = says.said ∙ ap (λ (l : List ℕ). l ++ says.part) (came.was.torn.said ∙ (contents told).said);
+            };
+            holds = holds_now {T = T} {E = E} (Err e) listed g s told holds;
+          };
+      touches = touched {T = T} {E = E} (Err e) listed;
+      others = λ other. others_now;
+      unread = λ other. refl;
+      members = members_now listed.faults;
+      steps = listed_steps {T = T} {E = E} a b c from Port array (Err e) refl stands mounted listed;
+    }

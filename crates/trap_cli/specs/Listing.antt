@@ -1,0 +1,45 @@
+-- How the lines of a mounted array's entries are said, piece after piece.
+use Rattle.std.specs.Prelude.{◌≡◌, ℕ, ◌+◌, List, ◌++◌, take, IsTrue, Result, Ok, Err}
+use Rattle.trap_bank.specs.Disks.{Contents, Disks, View}
+use Rattle.trap_bank.specs.Calls.{SaysPart}
+use Rattle.trap_bank.specs.Steps.{SpokePart}
+use Rattle.trap_index.specs.declared.item.Item.{Item}
+use Rattle.trap_model.specs.declared.history.State.{State}
+use Rattle.trap_array.specs.Calls.{Mounted, StandsFor}
+use Rattle.trap_cli.specs.History.{line_of, history_text}
+
+-- the line of the entry with this item: a record has a header of 26 bytes
+abbrev pub item_line : ℕ → Item → List ℕ
+item_line q item = line_of q item.time item.block (26 + item.plen + item.slen) item.snap
+
+-- no disk changed
+pub record KeepsDisks (old new : View) : Type 0 where
+  pub sizes : (e : ℕ) → new.sizes e ≡ old.sizes e
+  pub disks : IsTrue old.tells → new.now.disks ≡ old.now.disks
+
+-- some front of the piece's first bytes was said, and the rest of them is the piece's first `at`
+pub record SpokeFront (piece : List ℕ) (len at : ℕ) (old new : Contents) : Type 0 where
+  pub part : List ℕ
+  pub disks : new.disks ≡ old.disks
+  pub said : new.said ≡ old.said ++ part
+  pub whole : part ++ take at piece ≡ take len piece
+
+-- there is room for a line behind `at`, or the port failed
+abbrev pub Flushed : {E : Type 0} → List ℕ → ℕ → Result ℕ E → Contents → Contents → Type 0
+Flushed piece len (Ok at) old new = SpokeFront piece len at old new
+Flushed piece len (Err e) old new = SpokePart (take len piece) old new
+
+-- the disks are the same, and some first part was said of the text of each state that the array stands for
+pub record Lists (a : Mounted) (old new : Contents) : Type 0 where
+  pub disks : new.disks ≡ old.disks
+  pub says : (s : State) (on : Disks) → StandsFor a s on → SaysPart (history_text s) old new
+
+-- the disks are the same, and the whole text was said of each state that the array stands for
+pub record ListsWhole (a : Mounted) (old new : Contents) : Type 0 where
+  pub disks : new.disks ≡ old.disks
+  pub says : (s : State) (on : Disks) → StandsFor a s on → new.said ≡ old.said ++ history_text s
+
+-- the whole text, or a first part where the port failed
+abbrev pub HasListed : {T E : Type 0} → Mounted → Result T E → Contents → Contents → Type 0
+HasListed a (Ok value) old new = ListsWhole a old new
+HasListed a (Err e) old new = Lists a old new

@@ -1,0 +1,114 @@
+//! The command `history`.
+
+ghost use Rattle.std.specs.Prelude.{◌≡◌, ◌+◌, ◌≤◌, ◌++◌, length, take, IfOk, OnErr};
+ghost use Rattle.trap_bank.specs.Faults.{Rose};
+ghost use Rattle.trap_bank.specs.Steps.{Steps, SpokePart};
+ghost use Rattle.trap_bank.specs.Stream.{Stream};
+ghost use Rattle.trap_cli.specs.Command.{command_history};
+ghost use Rattle.trap_cli.specs.History.{word, mark};
+ghost use Rattle.trap_cli.specs.Listing.{item_line, KeepsDisks, Flushed, Lists, HasListed};
+ghost use Rattle.trap_cli.specs.Run.{Works};
+
+use crate::last::{put, put_number};
+use crate::outcome::Ended;
+use std::alloc::Global;
+use trap_array::Array;
+use trap_bank::{Bank, Failed};
+use trap_index::Item;
+
+/// So many bytes of lines are said at once, at most.
+const PIECE_BYTES: usize = 4096;
+
+/// A line has at most so many bytes.
+const LINE_BYTES: usize = 86;
+
+/// The bytes of a record's header.
+const HEADER_BYTES: u64 = 26;
+
+/// Mounts the array, and says a line for each retained entry. All but the last line of the run.
+pub fn run_history<B: Bank>(alloc: Global, bank: &mut B) -> Ended
+    ensures works { (from : Stream) → Works command_history result (B.view bank.old) (B.view bank.new) from from }
+{
+    match Array::mount(alloc, bank) {
+        Ok(array) => match say_lines(&array, bank) {
+            Ok(()) => Ended::Done,
+            Err(_) => Ended::Port,
+        },
+        Err(why) => Ended::NotMounted(why),
+    }
+}
+
+// Says the lines in their order, many at once.
+fn say_lines<B: Bank>(array: &Array, bank: &mut B) -> Result<(), Failed>
+    ensures steps { Steps (B.view bank.old) (B.view bank.new) (Lists array.now) (HasListed array.now result) }
+    ensures disks { KeepsDisks (B.view bank.old) (B.view bank.new) }
+    ensures cause { OnErr result (Rose (B.view bank.old).port_faults (B.view bank.new).port_faults) }
+{
+    let span = array.span();
+    let mut piece = [0u8; PIECE_BYTES];
+    let mut len = 0;
+    for before in span.first..span.last {
+        // Every number behind the first one is retained, up to the last.
+        if let Some(item) = array.entry(before + 1) {
+            len = make_room(bank, &piece, len)?;
+            len = put_line(&mut piece, len, before + 1, &item);
+        }
+    }
+    bank.say(&piece[..len])
+}
+
+// Says what the piece begins with where no line has room behind it, and answers where the next line goes.
+fn make_room<B: Bank>(bank: &mut B, piece: &[u8], len: usize) -> Result<usize, Failed>
+    requires within { len ≤ length piece.now }
+    requires line { 86 ≤ length piece.now }
+    ensures room { IfOk result (λ at. at + 86 ≤ length piece.now) }
+    ensures steps { Steps (B.view bank.old) (B.view bank.new)
+        (SpokePart (take len piece.now)) (Flushed piece.now len result) }
+    ensures disks { KeepsDisks (B.view bank.old) (B.view bank.new) }
+    ensures cause { OnErr result (Rose (B.view bank.old).port_faults (B.view bank.new).port_faults) }
+{
+    if LINE_BYTES <= piece.len() - len {
+        return Ok(len);
+    }
+    match bank.say(&piece[..len]) {
+        Ok(()) => Ok(0),
+        Err(failed) => Err(failed),
+    }
+}
+
+// Writes the line of the entry with this number, and answers the place behind it.
+fn put_line(out: &mut [u8], at: usize, seq: u64, item: &Item) -> usize
+    requires { at + 86 ≤ length out.old }
+    ensures end { result ≤ at + 86 }
+    ensures so_far { take result out.new ≡ take at out.old ++ item_line seq item.now }
+{
+    let size = HEADER_BYTES + u64::from(item.plen) + u64::from(item.slen);
+    let at = put_word(out, at, seq);
+    let at = put_word(out, at, item.time);
+    let at = put_word(out, at, u64::from(item.block));
+    let at = put_word(out, at, size);
+    put_mark(out, at, item.snap)
+}
+
+// Writes the number and a space.
+fn put_word(out: &mut [u8], at: usize, number: u64) -> usize
+    requires { at + 21 ≤ length out.old }
+    ensures end { result ≤ at + 21 }
+    ensures so_far { take result out.new ≡ take at out.old ++ word number }
+{
+    let at = put_number(out, at, number);
+    put(out, at, b" ")
+}
+
+// Ends the line.
+fn put_mark(out: &mut [u8], at: usize, is_snap: bool) -> usize
+    requires { at + 2 ≤ length out.old }
+    ensures end { result ≤ at + 2 }
+    ensures so_far { take result out.new ≡ take at out.old ++ mark is_snap }
+{
+    if is_snap {
+        put(out, at, b"s\n")
+    } else {
+        put(out, at, b"-\n")
+    }
+}
