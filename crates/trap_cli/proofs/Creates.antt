@@ -24,7 +24,8 @@ use Rattle.trap_cli.specs.Ended.{last_line, created_line, is_create_refusal}
 use Rattle.trap_cli.specs.Cause.{CreateFails}
 use Rattle.trap_cli.specs.Stops.{CreateStopped, IsUnfinished}
 use Rattle.trap_cli.specs.Crash.{IsFaultFront, CreateLeaves, Leaves, LeavesBefore}
-use Rattle.trap_cli.specs.Run.{Works, TouchesBelow, StaysFrom}
+use Rattle.trap_array.specs.Beside.{StaysFrom}
+use Rattle.trap_cli.specs.Run.{Works, TouchesBelow}
 use Rattle.trap_cli.proofs.Lines.{not_created}
 
 -- the numbers that were asked for are those of one array
@@ -93,7 +94,7 @@ module _ (asked : Asked) (a : View) (lawful : IsLawful a) where
     refused = λ refused. record { sizes = λ e. refl; contents = λ told. refl };
     stops = λ told. refl;
     touches = record { tells = refl; sizes = λ e beyond. refl; faults = λ e. omega arith; port_faults = omega arith };
-    others = λ other told e beyond. refl;
+    others = λ told e beyond. refl;
     unread = λ other. refl;
     members = tt;
     steps = refused_steps a from (BadGeometry field) (nothing_done a (Quiet Same) (Quiet Same) (λ x was. record { disks = refl; said = refl }));
@@ -120,7 +121,7 @@ module _ (asked : Asked) (a : View) (lawful : IsLawful a) where
         faults = untouched.moves.faults;
         port_faults = untouched.moves.port_faults;
       };
-      others = λ other told e beyond. ap (λ (c : Contents). c.disks e) (untouched.same told);
+      others = λ told e beyond. ap (λ (c : Contents). c.disks e) (untouched.same told);
       unread = λ other. refl;
       members = tt;
       steps = refused_steps b from (NotCreated (Exists d)) untouched.moves;
@@ -177,7 +178,7 @@ module _ (asked : Asked) (a : View) (lawful : IsLawful a) where
           disks = (contents none told).disks;
         });
         touches = touched moves.tells moves.faults moves.port_faults;
-        others = λ other told e beyond. others told e (omega (arith, g.within.members_most, beyond));
+        others = λ told e beyond. others told e (omega (arith, g.within.members_most, beyond));
         unread = λ other. refl;
         members = tt;
         steps = weaken a b (Quiet (Creates g)) (Quiet (Creates g)) (Leaves (command_create asked) a from) (LeavesBefore (last_line (NotCreated why)) (command_create asked) a from) moves
@@ -244,7 +245,7 @@ module _ (asked : Asked) (a : View) (lawful : IsLawful a) where
             holds = holds_now told;
           };
           touches = touched_end;
-          others = λ other. others_end;
+          others = others_end;
           unread = λ other. refl;
           members = tt;
           steps = created_steps [];
@@ -265,7 +266,7 @@ module _ (asked : Asked) (a : View) (lawful : IsLawful a) where
                 holds = holds_now told;
               };
           touches = touched_end;
-          others = λ other. others_end;
+          others = others_end;
           unread = λ other. refl;
           members = tt;
           steps = created_steps [];

@@ -22,7 +22,8 @@ use Rattle.trap_cli.specs.History.{history_text}
 use Rattle.trap_cli.specs.Listing.{KeepsDisks, Lists, HasListed}
 use Rattle.trap_cli.specs.Cause.{IsMountable}
 use Rattle.trap_cli.specs.Crash.{IsFaultFront, HistoryLeaves, LeftSaid, Leaves, LeavesBefore}
-use Rattle.trap_cli.specs.Run.{Works, TouchesBelow, StaysFrom, MembersStay}
+use Rattle.trap_array.specs.Beside.{StaysFrom}
+use Rattle.trap_cli.specs.Run.{Works, TouchesBelow, MembersStay}
 use Rattle.trap_cli.proofs.Saying.{rose_since}
 use Rattle.trap_cli.proofs.Heads.{same_head_holds, mounted_holds, keeps_found}
 use Rattle.trap_cli.proofs.Crashing.{no_front}
@@ -139,7 +140,7 @@ module _ (a b : View) (from : Stream) (mounted : Moves a b (Mounts a) (Mounts a)
       faults = mounted.faults;
       port_faults = mounted.port_faults;
     };
-    others = λ other told e beyond. others told e (λ zero. absurd (omega (arith, beyond, zero)));
+    others = λ told e beyond. others told e (λ zero. absurd (omega (arith, beyond, zero)));
     unread = λ other. refl;
     members = λ g s t h k told was is. keeps_found g h k a b b (lost g h k s t told was is) (λ e. omega arith);
     steps = unlisted_steps a b from why mounted;
@@ -193,7 +194,7 @@ module _ (a b : View) (from : Stream) (mounted : Moves a b (Mounts a) (Mounts a)
             holds = holds_now {T = T} {E = E} (Ok value) listed g s told holds;
           };
       touches = touched {T = T} {E = E} (Ok value) listed;
-      others = λ other. others_now;
+      others = others_now;
       unread = λ other. refl;
       members = members_now listed.faults;
       steps = listed_steps {T = T} {E = E} a b c from Done array (Ok value) refl stands mounted listed;
@@ -219,7 +220,7 @@ module _ (a b : View) (from : Stream) (mounted : Moves a b (Mounts a) (Mounts a)
             holds = holds_now {T = T} {E = E} (Err e) listed g s told holds;
           };
       touches = touched {T = T} {E = E} (Err e) listed;
-      others = λ other. others_now;
+      others = others_now;
       unread = λ other. refl;
       members = members_now listed.faults;
       steps = listed_steps {T = T} {E = E} a b c from Port array (Err e) refl stands mounted listed;

@@ -23,7 +23,8 @@ use Rattle.trap_cli.specs.Ended.{status_of, last_line, is_refused}
 use Rattle.trap_cli.specs.Cause.{CauseOf, SessionCause, HistoryCause, CreateCause, StoppedBy}
 use Rattle.trap_cli.specs.Stops.{StopsBefore}
 use Rattle.trap_cli.specs.Crash.{LeftBy, Leaves, LeavesBefore}
-use Rattle.trap_cli.specs.Run.{Works, Runs, Ends, Spoken, Refuses, TouchesBelow, StaysFrom, MembersStay, MembersStayFor}
+use Rattle.trap_array.specs.Beside.{StaysFrom}
+use Rattle.trap_cli.specs.Run.{Works, Runs, Ends, Spoken, Refuses, TouchesBelow, MembersStay, MembersStayFor}
 use Rattle.trap_cli.proofs.Words.{one_command}
 use Rattle.trap_cli.proofs.Saying.{rose_later, last_since, run_leaves}
 use Rattle.trap_cli.proofs.Crashing.{no_front, mount_leaves}
@@ -156,7 +157,7 @@ no_command a from = record {
   refused = λ is. record { sizes = λ e. refl; contents = λ told. refl };
   stops = λ told. refl;
   touches = record { tells = refl; sizes = λ e beyond. refl; faults = λ e. omega arith; port_faults = omega arith };
-  others = λ other told e beyond. refl;
+  others = λ told e beyond. refl;
   unread = λ other. refl;
   members = tt;
   steps = nothing_done a (Leaves None a from) (LeavesBefore (last_line Usage) None a from)
@@ -227,8 +228,8 @@ module _ (command : Option Command) (ended : Ended) (old mid new : View) (from t
     port_faults = omega (arith, works.touches.port_faults, spoken.steps.port_faults);
   }
 
-  pub run_others : (command ≡ Some Session → ⊥) → StaysFrom 17 old new
-  run_others other told e beyond = ap (λ (disks : Disks). disks e) (spoken.disks (told_mid told)) ∙ works.others other told e beyond
+  pub run_others : StaysFrom 17 old new
+  run_others told e beyond = ap (λ (disks : Disks). disks e) (spoken.disks (told_mid told)) ∙ works.others told e beyond
 
   pub run_crash : IsLawful old → (w : Contents) → new.left old.moment w → LeftBy command old from old.now.said w
   run_crash lawful = run_leaves command old mid new from (last_line ended) lawful (at_entry command old from lawful) works.steps spoken.steps

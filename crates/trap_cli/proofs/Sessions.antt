@@ -1,5 +1,5 @@
 -- All but the last line of `session`.
-use Rattle.std.proofs.Common.{◌≡◌, inl, inr, ⊎_elim, ℕ, ◌+◌, ◌≤◌, List, Some, true, false, IsTrue, sym, ap, subst, ◌∙◌, append-nil, arith, refl}
+use Rattle.std.proofs.Common.{◌≡◌, ◌≢◌, inl, inr, ⊎_elim, ℕ, ◌+◌, ◌≤◌, List, Some, true, false, IsTrue, sym, ap, subst, ◌∙◌, append-nil, arith, refl}
 use Rattle.trap_bank.specs.Disks.{View, Quiet}
 use Rattle.trap_bank.specs.Steps.{Steps, Moves, Always}
 use Rattle.trap_bank.specs.Stream.{Stream}
@@ -7,6 +7,7 @@ use Rattle.trap_bank.proofs.Moves.{read_is_left, nothing_done}
 use Rattle.trap_format.specs.declared.head.Head.{Head}
 use Rattle.trap_model.specs.declared.numbers.Geometry.{Geometry}
 use Rattle.trap_model.specs.declared.history.State.{State}
+use Rattle.trap_array.specs.Beside.{StaysFrom}
 use Rattle.trap_array.specs.Holding.{Holds, HoldsBy}
 use Rattle.trap_array.specs.Calls.{Mounted, StandsFor, HoldsLike}
 use Rattle.trap_array.specs.Mounting.{Mounts, Refuses, MountFails, FoundLost, HasFound, IsNoLog, is_refusal}
@@ -66,7 +67,8 @@ not_refused array Memory old new from to by is = cc is
 
 module _ (a b : View) (from : Stream) (mounted : Moves a b (Mounts a) (Mounts a)) (sizes : (e : ℕ) → b.sizes e ≡ a.sizes e)
     (contents : IsTrue a.tells → Quiet (Mounts a) a.now b.now)
-    (lost : (g : Geometry) (h k : Head) (s t : State) → IsTrue a.tells → HoldsBy g h s a.now.disks → HoldsBy g k t b.now.disks → FoundLost g h k a b) where
+    (lost : (g : Geometry) (h k : Head) (s t : State) → IsTrue a.tells → HoldsBy g h s a.now.disks → HoldsBy g k t b.now.disks → FoundLost g h k a b)
+    (others : IsTrue a.tells → (e : ℕ) → e ≢ 0 → b.now.disks e ≡ a.now.disks e) where
   -- The array could not be mounted.
   pub unmounted_works : (why : MountFault) → (IsNoLog (a.sizes 0) → why ≡ NotAnArray) → (IsTrue a.tells → Refuses a why) → MountFails why a b
       → (is_refusal why ≡ true → IsTrue a.tells → b.now ≡ a.now)
@@ -90,7 +92,7 @@ module _ (a b : View) (from : Stream) (mounted : Moves a b (Mounts a) (Mounts a)
       faults = mounted.faults;
       port_faults = mounted.port_faults;
     };
-    others = λ other. absurd (other refl);
+    others = λ told e beyond. others told e (λ zero. absurd (omega (arith, beyond, zero)));
     unread = λ other. refl;
     members = λ input left g s t h k told was is. keeps_found g h k a b b (lost g h k s t told was is) (λ e. omega arith);
     steps = unmounted_steps a b from why mounted;
@@ -101,7 +103,8 @@ module _ (a b : View) (from : Stream) (mounted : Moves a b (Mounts a) (Mounts a)
       (found : HasFound array a b)
       (served : Steps b c (Serves array b from) (HasEnded array b ended from to))
       (by : EndsBy array ended b c from to)
-      (same_sizes : (e : ℕ) → c.sizes e ≡ b.sizes e) where
+      (same_sizes : (e : ℕ) → c.sizes e ≡ b.sizes e)
+      (beside : StaysFrom (array.g.members + 1) b c) where
     told_mid : IsTrue a.tells → IsTrue b.tells
     told_mid told = subst IsTrue (sym mounted.tells) told
 
@@ -142,7 +145,9 @@ module _ (a b : View) (from : Stream) (mounted : Moves a b (Mounts a) (Mounts a)
         faults = λ e. omega (arith, mounted.faults e, served.faults e);
         port_faults = omega (arith, mounted.port_faults, served.port_faults);
       };
-      others = λ other. absurd (other refl);
+      others = λ told e beyond.
+          beside (told_mid told) e (omega (arith, array.g.within.members_most, beyond))
+          ∙ others told e (λ zero. absurd (omega (arith, beyond, zero)));
       unread = λ other. absurd (other refl);
       members = members_now;
       steps = session_steps a b c from to ended array stands mounted served;

@@ -10,6 +10,7 @@ use Rattle.trap_format.specs.Checked.{first_broken, HasNumbers}
 use Rattle.trap_format.specs.declared.head.Head.{Head}
 use Rattle.trap_format.specs.declared.limits.Field.{Field}
 use Rattle.trap_raid.specs.Members.{IsMember}
+use Rattle.trap_array.specs.Beside.{StaysFrom}
 use Rattle.trap_array.specs.Holding.{HoldsBy}
 use Rattle.trap_array.specs.Creating.{IsLowest}
 use Rattle.trap_array.specs.Mounting.{IsNoLog}
@@ -57,10 +58,6 @@ pub record TouchesBelow (d : ℕ) (old new : View) : Type 0 where
   pub faults : (e : ℕ) → old.faults e ≤ new.faults e
   pub port_faults : old.port_faults ≤ new.port_faults
 
--- where the bank tells, no disk from this one on changed
-abbrev pub StaysFrom : ℕ → View → View → Type 0
-StaysFrom d old new = IsTrue old.tells → (e : ℕ) → d ≤ e → new.now.disks e ≡ old.now.disks e
-
 -- A member is recorded lost only where it was so on entry, or its disk was absent. The mark of one that was lost is
 -- smaller only where the count of its disk rose, or its disk was absent or not its own.
 pub record KeepsMembers (g : Geometry) (h k : Head) (old new : View) : Type 0 where
@@ -97,7 +94,7 @@ pub record Works (command : Option Command) (ended : Ended) (old new : View) (fr
   pub refused : is_refused ended ≡ true → Untouched old new
   pub stops : StopsBefore command ended old new.now from to
   pub touches : TouchesBelow 17 old new
-  pub others : (command ≡ Some Session → ⊥) → StaysFrom 17 old new
+  pub others : StaysFrom 17 old new
   pub unread : (command ≡ Some Session → ⊥) → to ≡ from
   pub members : MembersStayFor command old new from
   pub steps : Steps old new (Leaves command old from) (LeavesBefore (last_line ended) command old from)

@@ -6,7 +6,8 @@ ghost use Rattle.trap_cli.specs.Command.{IsCommand, IsSession};
 ghost use Rattle.trap_cli.specs.declared.command.Command.{Command};
 ghost use Rattle.trap_cli.specs.Ended.{last_line};
 ghost use Rattle.trap_cli.specs.Crash.{LeftBy};
-ghost use Rattle.trap_cli.specs.Run.{Spoken, Works, TouchesBelow, StaysFrom, MembersStayFor, Runs};
+ghost use Rattle.trap_array.specs.Beside.{StaysFrom};
+ghost use Rattle.trap_cli.specs.Run.{Spoken, Works, TouchesBelow, MembersStayFor, Runs};
 
 use crate::command::{Command, read_command};
 use crate::creating::run_create;
@@ -80,7 +81,7 @@ pub fn run<B: Bank, S: Source, T: Turns>(
         → Runs result command (B.view bank.old) (B.view bank.new) (S.stream source.old) (S.stream source.new) }
     ensures usage { (result ≡ 2) ↔ IsCommand None words.now }
     ensures touches { TouchesBelow 17 (B.view bank.old) (B.view bank.new) }
-    ensures others { (IsSession words.now → ⊥) → StaysFrom 17 (B.view bank.old) (B.view bank.new) }
+    ensures others { StaysFrom 17 (B.view bank.old) (B.view bank.new) }
     ensures turns { _turns.new ≡ _turns.old }
 
     // What mounts an array records a member lost only where its disk is absent.

@@ -1,7 +1,8 @@
 //! The command `session`.
 
-ghost use Rattle.std.specs.Prelude.{◌≡◌, ◌^◌, ◌<◌, ◌≤◌, ℕ, Some, IsTrue, false};
+ghost use Rattle.std.specs.Prelude.{◌≡◌, ◌+◌, ◌^◌, ◌<◌, ◌≤◌, ℕ, Some, IsTrue, false};
 ghost use Rattle.trap_bank.specs.Steps.{Steps};
+ghost use Rattle.trap_array.specs.Beside.{StaysFrom};
 ghost use Rattle.trap_array.specs.Calls.{IsReady};
 ghost use Rattle.trap_session.specs.Serving.{Serves};
 ghost use Rattle.trap_cli.specs.Command.{command_session};
@@ -42,6 +43,7 @@ fn answer_lines<B: Bank, S: Source>(
     ensures cause { EndsBy array result (B.view bank.old) (B.view bank.new)
         (S.stream source.old) (S.stream source.new) }
     ensures sizes { (e : ℕ) → (B.view bank.new).sizes e ≡ (B.view bank.old).sizes e }
+    ensures others { StaysFrom (array.g.members + 1) (B.view bank.old) (B.view bank.new) }
 {
     let g = array.geometry();
     let Ok(session) = Session::new(alloc, &g) else {

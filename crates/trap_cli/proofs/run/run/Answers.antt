@@ -31,12 +31,11 @@ returns-clause-touches g c =
     c.work-ended.ensures.works c.say_last.ensures.spoken
 
 pub returns-clause-others : goal.returns-clause-others
-returns-clause-others g c other =
+returns-clause-others g c =
     let view = g.B.Bank.view in
     let stream = g.S.Source.stream in
     run_others c.read_command-command.result c.work-ended.result (view c.args.bank.now) (view c.work-ended.new.bank) (view c.say_last.new.bank) (stream c.args.source.now) (stream c.work-ended.new.source)
     c.work-ended.ensures.works c.say_last.ensures.spoken
-    (λ session. other (subst (λ (command : Option Command). IsCommand command c.args.words.now) session c.read_command-command.ensures))
 
 pub returns-clause-members : goal.returns-clause-members
 returns-clause-members g c command is =
