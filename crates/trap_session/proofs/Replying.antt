@@ -1,11 +1,12 @@
 -- What a crash leaves while one line is answered, from the calls that it makes.
-use Rattle.std.proofs.Common.{◌≡◌, inl, inr, ℕ, ◌+◌, ◌≤◌, Option, List, ◌++◌, length, take, Some, None, Bool, true, false, ◌||◌, IsTrue, Result, Ok, Err, OnOk, OnErr, IfOk, IfErr, IsErr, IsErrAnd, refl, sym, ap, subst, ◌∙◌, arith}
+use Rattle.std.proofs.Common.{◌≡◌, ◌↔◌, inl, inr, ℕ, ◌+◌, ◌<◌, ◌≤◌, Option, List, ◌++◌, length, take, Some, None, Bool, true, false, ◌||◌, IsTrue, Result, Ok, Err, OnOk, OnErr, IfOk, IfErr, IsErr, IsErrAnd, refl, sym, ap, subst, ◌∙◌, arith}
 use Rattle.std.proofs.Math.Seq.{take-append_seam}
 use Rattle.trap_bank.specs.Disks.{Contents, Disks, View, Quiet}
 use Rattle.trap_bank.specs.Calls.{MayLeave, Says}
 use Rattle.trap_bank.specs.Faults.{Rose}
 use Rattle.trap_bank.specs.Steps.{Steps, Moves, Same, Spoke, SpokePart, Always}
 use Rattle.trap_bank.proofs.Moves.{say_steps, said_steps, then_, weaken, nothing_done, always_same, no_moves, read_is_left}
+use Rattle.trap_model.specs.Image.{volume}
 use Rattle.trap_model.specs.ArrayStep.{step, unless, refusal}
 use Rattle.trap_model.specs.declared.history.State.{State}
 use Rattle.trap_model.specs.declared.numbers.Geometry.{Geometry}
@@ -25,7 +26,7 @@ use Rattle.trap_array.specs.declared.fault.Denied.TheVariants.{Refused, LogFault
 use Rattle.trap_array.proofs.Beside.{stays_none, stays_same, stays_then}
 use Rattle.trap_session.specs.Store.{Store, array_store, ComesWith, Replied, CutShort, Struck, StandsForNone, HasRisen}
 use Rattle.trap_session.specs.Denying.{EndsSession}
-use Rattle.trap_session.specs.Answers.{Answers, HasAnswered, StandsOn, AnswersLine}
+use Rattle.trap_session.specs.Answers.{Answers, HasAnswered, StandsOn, AsksBlock, AnswersLine}
 use Rattle.trap_session.specs.declared.outcome.Next.{Next}
 use Rattle.trap_session.specs.declared.outcome.Next.TheVariants.{More, Quit}
 use Rattle.trap_session.specs.declared.outcome.SessionFault.{SessionFault}
@@ -106,17 +107,23 @@ rose_port a v u w (Err fault) later rose is = subst (λ f. HasRisen a f v w) (sy
 stays_said : (d : ℕ) (u w : View) → (IsTrue u.tells → w.now.disks ≡ u.now.disks) → StaysFrom d u w
 stays_said d u w same told e above = ap (λ (disks : Disks). disks e) (same told)
 
+-- a fault of the port is none of the array
+port_only : (result : Result Next SessionFault) {denied : Denied} → IfErr result (λ fault. fault ≡ WriteFault) → result ≡ Err (Array denied) → ⊥
+port_only (Ok next) port is = cc is
+port_only (Err fault) port is = cc (port, is)
+
 -- One line whose reply is said: all that is owed of it.
 pub line_replied : (a b : Mounted) (v u w : View) (asked : Request) (reply : Reply) (result : Result Next SessionFault)
     → (IsTrue v.tells → (s : State) → Always v (StandsFor a s) → (step a.g).reply s asked ≡ reply)
     → Steps v u (Answers a v asked) (HasDone a v asked) → StandsOn a b asked v u
     → ((e : ℕ) → u.sizes e ≡ v.sizes e) → StaysFrom (a.g.members + 1) v u → IsReady b u → b.is_stopped ≡ a.is_stopped → GoesOn a b
-    → Says (reply_text reply) result u w → IfOk result (λ next. next ≡ More) → IfErr result (λ fault. fault ≡ WriteFault)
+    → Says (reply_text reply) result u w → IfOk result (λ next. next ≡ More) → IfErr result (λ fault. fault ≡ WriteFault) → (AsksBlock a.g asked → a.is_stopped ≡ true → ⊥)
     → AnswersLine a b result asked v w
-line_replied a b v u w asked reply result is done stands sizes others ready alike goes_on call ok err = record {
+line_replied a b v u w asked reply result is done stands sizes others ready alike goes_on call ok err asks = record {
   steps = reply_behind a v u w asked reply result is done call ok err;
   stands = always_ok result (λ s was. always_said u w result (reply_text reply) (StandsFor b ((step a.g).next s asked)) call (stands s was));
   stopped = always_ok result alike;
+  denied = (λ is. absurd (port_only result err is), λ both. absurd (asks both.0 both.1));
   ready = ready_as b u w call.sizes (λ has. always_said u w result (reply_text reply) has call) ready;
   goes_on = goes_on;
   cause = rose_port a v u w result done.port_faults call.cause err;
@@ -212,15 +219,20 @@ at_still g s seq block = stays (refusal g s (At seq block)) s
 pub by_still : (g : Geometry) (s : State) (time block : ℕ) → (step g).next s (By time block) ≡ s
 by_still g s time block = stays (refusal g s (By time block)) s
 
+-- what was denied, in a fault of the session
+same_denied : {first second : Denied} → ◌≡◌ {A = Result Next SessionFault} (Err (Array first)) (Err (Array second)) → first ≡ second
+same_denied is = cc is
+
 -- One line in which a disk failed.
 pub line_struck : (a b : Mounted) (v u : View) (asked : Request) (denied : Denied)
     → Steps v u (Answers a v asked) (HasAnswered a v (Err (Array denied)) asked)
-    → ((e : ℕ) → u.sizes e ≡ v.sizes e) → StaysFrom (a.g.members + 1) v u → IsReady b u → GoesOn a b → HasRisen a (Array denied) v u
+    → ((e : ℕ) → u.sizes e ≡ v.sizes e) → StaysFrom (a.g.members + 1) v u → IsReady b u → GoesOn a b → HasRisen a (Array denied) v u → (denied ≡ Stopped) ↔ (AsksBlock a.g asked × (a.is_stopped ≡ true))
     → AnswersLine a b (Err (Array denied)) asked v u
-line_struck a b v u asked denied steps sizes others ready goes risen = record {
+line_struck a b v u asked denied steps sizes others ready goes risen exact = record {
   steps = steps;
   stands = tt;
   stopped = tt;
+  denied = (λ is. exact.0 (same_denied is), λ both. ap (λ why. Err (Array why)) (exact.1 both));
   ready = ready;
   goes_on = goes;
   cause = risen;
@@ -238,21 +250,21 @@ pub write_replied : (a b : Mounted) (v u w : View) (time block : ℕ) (bytes fre
     → (IsTrue v.tells → (s : State) → Always v (StandsFor a s) → (step a.g).reply s (Write time block bytes) ≡ reply)
     → Moves v u (MayTurn a v (λ s. (step a.g).next s (Write time block bytes))) (HasTurned a b v (λ s. (step a.g).next s (Write time block bytes)))
     → ((e : ℕ) → u.sizes e ≡ v.sizes e) → StaysFrom (a.g.members + 1) v u → IsReady b u → b.is_stopped ≡ a.is_stopped → GoesOn a b
-    → Says (reply_text reply) result u w → IfOk result (λ next. next ≡ More) → IfErr result (λ fault. fault ≡ WriteFault)
+    → Says (reply_text reply) result u w → IfOk result (λ next. next ≡ More) → IfErr result (λ fault. fault ≡ WriteFault) → (block < volume a.g → a.is_stopped ≡ true → ⊥)
     → AnswersLine a b result (Write time block fresh) v w
-write_replied a b v u w time block bytes fresh same reply result is moves sizes others ready alike goes call ok err =
+write_replied a b v u w time block bytes fresh same reply result is moves sizes others ready alike goes call ok err asks =
     subst (λ l. AnswersLine a b result (Write time block l) v w) same
     (line_replied a b v u w (Write time block bytes) reply result is (turned_done a v u (Write time block bytes) refl b goes moves)
-    (turned_stands a v u (Write time block bytes) refl b moves) sizes others ready alike goes call ok err)
+    (turned_stands a v u (Write time block bytes) refl b moves) sizes others ready alike goes call ok err asks)
 
 -- a write in which a disk failed
 pub write_struck : (a b : Mounted) (v u : View) (time block : ℕ) (bytes fresh : List ℕ) → bytes ≡ fresh → (denied : Denied)
     → Moves v u (MayTurn a v (λ s. (step a.g).next s (Write time block bytes))) (MayTurn a v (λ s. (step a.g).next s (Write time block bytes)))
-    → ((e : ℕ) → u.sizes e ≡ v.sizes e) → StaysFrom (a.g.members + 1) v u → IsReady b u → GoesOn a b → HasRisen a (Array denied) v u
+    → ((e : ℕ) → u.sizes e ≡ v.sizes e) → StaysFrom (a.g.members + 1) v u → IsReady b u → GoesOn a b → HasRisen a (Array denied) v u → (denied ≡ Stopped) ↔ ((block < volume a.g) × (a.is_stopped ≡ true))
     → AnswersLine a b (Err (Array denied)) (Write time block fresh) v u
-write_struck a b v u time block bytes fresh same denied moves sizes others ready goes risen =
+write_struck a b v u time block bytes fresh same denied moves sizes others ready goes risen exact =
     subst (λ l. AnswersLine a b (Err (Array denied)) (Write time block l) v u) same
-    (line_struck a b v u (Write time block bytes) denied (turned_struck a v u (Write time block bytes) refl denied risen moves) sizes others ready goes risen)
+    (line_struck a b v u (Write time block bytes) denied (turned_struck a v u (Write time block bytes) refl denied risen moves) sizes others ready goes risen exact)
 
 -- a call that changes nothing of the array but perhaps whether it is stopped
 pub same_goes : (a b : Mounted) (stopped : Bool) → b ≡ record a { is_stopped = stopped } → GoesOn a b
@@ -263,18 +275,18 @@ pub same_replied : (a b : Mounted) (v u w : View) (asked : Request) → goes_on 
     → (stopped : Bool) → b ≡ record a { is_stopped = stopped } → stopped ≡ a.is_stopped → (reply : Reply) (result : Result Next SessionFault)
     → (IsTrue v.tells → (s : State) → Always v (StandsFor a s) → (step a.g).reply s asked ≡ reply)
     → Moves v u Same Same → ((e : ℕ) → u.sizes e ≡ v.sizes e) → (IsTrue v.tells → u.now ≡ v.now) → IsReady b u
-    → Says (reply_text reply) result u w → IfOk result (λ next. next ≡ More) → IfErr result (λ fault. fault ≡ WriteFault)
+    → Says (reply_text reply) result u w → IfOk result (λ next. next ≡ More) → IfErr result (λ fault. fault ≡ WriteFault) → (AsksBlock a.g asked → a.is_stopped ≡ true → ⊥)
     → AnswersLine a b result asked v w
-same_replied a b v u w asked more still stopped same is_same reply result is moves sizes alike ready call ok err =
+same_replied a b v u w asked more still stopped same is_same reply result is moves sizes alike ready call ok err asks =
     line_replied a b v u w asked reply result is (same_done a v u asked more moves still) (same_stands a v u asked more moves b stopped same still)
-    sizes (stays_same (a.g.members + 1) v u alike) ready (ap (λ (m : Mounted). m.is_stopped) same ∙ is_same) (same_goes a b stopped same) call ok err
+    sizes (stays_same (a.g.members + 1) v u alike) ready (ap (λ (m : Mounted). m.is_stopped) same ∙ is_same) (same_goes a b stopped same) call ok err asks
 
 -- a request that changes no state, in which the array failed
 pub same_failed : (a b : Mounted) (v u : View) (asked : Request) → goes_on asked ≡ true → (stopped : Bool) → b ≡ record a { is_stopped = stopped } → (denied : Denied)
-    → Moves v u Same Same → ((e : ℕ) → u.sizes e ≡ v.sizes e) → (IsTrue v.tells → u.now ≡ v.now) → IsReady b u → HasRisen a (Array denied) v u
+    → Moves v u Same Same → ((e : ℕ) → u.sizes e ≡ v.sizes e) → (IsTrue v.tells → u.now ≡ v.now) → IsReady b u → HasRisen a (Array denied) v u → (denied ≡ Stopped) ↔ (AsksBlock a.g asked × (a.is_stopped ≡ true))
     → AnswersLine a b (Err (Array denied)) asked v u
-same_failed a b v u asked more stopped same denied moves sizes alike ready risen =
-    line_struck a b v u asked denied (same_struck a v u asked more moves denied risen) sizes (stays_same (a.g.members + 1) v u alike) ready (same_goes a b stopped same) risen
+same_failed a b v u asked more stopped same denied moves sizes alike ready risen exact =
+    line_struck a b v u asked denied (same_struck a v u asked more moves denied risen) sizes (stays_same (a.g.members + 1) v u alike) ready (same_goes a b stopped same) risen exact
 
 -- no call at all
 pub no_call : (v : View) → Moves v v Same Same
@@ -286,6 +298,7 @@ line_quits a v ready = record {
   steps = nothing_done v (Answers a v Q) (HasAnswered a v (Ok Quit) Q) (λ x was s stands. record { ends = refl; said = refl; holds = holds_own a s x.disks (stands x was) });
   stands = λ s stands. stands;
   stopped = refl;
+  denied = (λ is. cc is, λ both. absurd both.0);
   ready = ready;
   goes_on = record { g = refl; lost = refl; rebuilt = refl };
   cause = tt;
@@ -329,7 +342,7 @@ pub bad_replied : (a : Mounted) (v w : View) (result : Result Next SessionFault)
     → Says (reply_text (No NoLine)) result v w → IfOk result (λ next. next ≡ More) → IfErr result (λ fault. fault ≡ WriteFault)
     → AnswersLine a a result Bad v w
 bad_replied a v w result ready call ok err = same_replied a a v v w Bad refl (λ s. refl) a.is_stopped refl refl (No NoLine) result
-    (λ told s stands. refl) (no_call v) (λ e. refl) (λ told. refl) ready call ok err
+    (λ told s stands. refl) (no_call v) (λ e. refl) (λ told. refl) ready call ok err (λ asks stopped. asks)
 
 -- The line asks for the numbers of the history.
 pub info_replied : (a : Mounted) (v w : View) (first last base_time last_time : ℕ) (result : Result Next SessionFault) → IsReady a v
@@ -338,7 +351,7 @@ pub info_replied : (a : Mounted) (v w : View) (first last base_time last_time : 
     → AnswersLine a a result Info v w
 info_replied a v w first last base_time last_time result ready span call ok err =
     same_replied a a v v w Info refl (λ s. refl) a.is_stopped refl refl (Span first last base_time last_time) result
-    (λ told s stands. span s v.now.disks (stands v.now (read_is_left v told))) (no_call v) (λ e. refl) (λ told. refl) ready call ok err
+    (λ told s stands. span s v.now.disks (stands v.now (read_is_left v told))) (no_call v) (λ e. refl) (λ told. refl) ready call ok err (λ asks stopped. asks)
 
 -- an array that isn't stopped doesn't say that it is
 pub not_both : (b : Bool) → b ≡ false → b ≡ true → ⊥
@@ -369,3 +382,11 @@ pub line_ended : (a b : Mounted) (v u : View) (asked : Request) (denied : Denied
     → AnswersLine a b (Err (Array denied)) asked v u → AnswersLine a b result asked v u
 line_ended a b v u asked denied result fault handed is answers =
     subst (λ r. AnswersLine a b r asked v u) (sym (err_is result fault handed ∙ ap Err is)) answers
+
+-- an array that refused wasn't stopped, or no such block is there
+pub refused_not_denied : {T : Type 0} {P Q : Type 0} (call : Result T Denied) (why : Refusal) → call ≡ Err (Refused why) → (call ≡ Err Stopped) ↔ (P × Q) → P → Q → ⊥
+refused_not_denied call why is exact p q = cc (is, exact.1 (p, q))
+
+-- what the array denied is what is handed on
+pub denied_as : {T : Type 0} {P : Type 0} (call : Result T Denied) (denied : Denied) → call ≡ Err denied → (call ≡ Err Stopped) ↔ P → (denied ≡ Stopped) ↔ P
+denied_as call denied is exact = (λ same. exact.0 (is ∙ ap Err same), λ p. cc (is, exact.1 p))

@@ -49,8 +49,8 @@ impl Session {
         Ok(Session { buffers, reader })
     }
 
-    /// Answers one line that stands outside an input, with its reply in one call. A stopped array answers what needs no
-    /// disk, and hands `Stopped` on else.
+    /// Answers one line that stands outside an input, with its reply in one call. Over a stopped array a request of one
+    /// of its blocks ends in `Stopped`, and every other line is answered.
     pub fn one<B: Bank>(
         &mut self,
         array: &mut Array,

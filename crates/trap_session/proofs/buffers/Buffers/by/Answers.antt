@@ -2,7 +2,7 @@ use Rattle.std.proofs.Common.{refl, ◌≡◌, ap, ◌∙◌, Err, arith}
 use Rattle.trap_model.specs.ArrayStep.{step}
 use Rattle.trap_model.specs.declared.request.Reply.TheVariants.{At, No}
 use Rattle.trap_model.specs.declared.request.Request.TheVariants.{By}
-use Rattle.trap_session.proofs.Replying.{same_replied, same_failed, by_still, still_going, refused_at, refused_going, filled_whole, shown, risen_of, line_ended}
+use Rattle.trap_session.proofs.Replying.{same_replied, same_failed, by_still, still_going, refused_at, refused_going, filled_whole, shown, risen_of, refused_not_denied, denied_as, line_ended}
 use Rattle.trap_session.proofs.buffers.Buffers.by.Goals as goal
 
 pub returns-in-Ok-clause-answers : goal.returns-in-Ok-clause-answers
@@ -14,6 +14,7 @@ returns-in-Ok-clause-answers g c =
     (λ s. by_still c.args.array.now.g s c.args.time c.args.block) _ done.same (still_going c.args.array.now.is_stopped _ refl)
     (At c.as_slice-bytes.result.now) c.say_answer.result (λ told s stands. shown At ((step c.args.array.now.g).reply s (By c.args.time c.args.block)) c.at_time.new.into c.as_slice-bytes.result.now filled (done.reply told s stands)) done.any_moment done.sizes done.contents done.ready
     c.say_answer.ensures.says c.say_answer.ensures.more c.say_answer.ensures.port
+    (λ asks stopped. cc (done.stopped.1 (asks, stopped)))
 
 pub returns-in_ok-why-in-Err-clause-answers : goal.returns-in_ok-why-in-Err-clause-answers
 returns-in_ok-why-in-Err-clause-answers g c =
@@ -26,6 +27,7 @@ returns-in_ok-why-in-Err-clause-answers g c =
     (λ s. by_still c.args.array.now.g s c.args.time c.args.block) _ done.same (refused_going c.args.array.now.is_stopped refused)
     (No why) said.result (refused_at c.args.array.now (view c.args.bank.now) (By c.args.time c.args.block) c.at_time.result c.at_time.new.into why refused done.reply)
     done.any_moment done.sizes done.contents done.ready said.ensures.says said.ensures.more said.ensures.port
+    (refused_not_denied c.at_time.result why refused done.stopped)
 
 pub returns-in_err-why-in-Err-clause-answers : goal.returns-in_err-why-in-Err-clause-answers
 returns-in_err-why-in-Err-clause-answers g c =
@@ -37,4 +39,5 @@ returns-in_err-why-in-Err-clause-answers g c =
     c.from_residual.ensures ended.0
     (same_failed c.args.array.now c.at_time.new.self (view c.args.bank.now) (view c.at_time.new.bank) (By c.args.time c.args.block) refl _ done.same denied done.any_moment done.sizes done.contents done.ready
     (risen_of c.args.array.now (view c.args.bank.now) (view c.at_time.new.bank) c.at_time.result done.log done.member done.damaged (λ is. (done.stopped.0 is).1)
-    denied c.in-Err.is ended.1))
+    denied c.in-Err.is ended.1)
+    (denied_as c.at_time.result denied c.in-Err.is done.stopped))
