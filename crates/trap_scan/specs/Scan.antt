@@ -70,6 +70,13 @@ pub record TakesNext (old new : Scan) (r : LogRec) : Type 0 where
   pub time : new.time ≡ r.time
   pub at : old.window.at ≤ new.window.at
 
+-- no record was taken, and the same bytes are ahead
+pub record TakesNone (old new : Scan) : Type 0 where
+  pub seq : new.seq ≡ old.seq
+  pub time : new.time ≡ old.time
+  pub at : new.window.at ≡ old.window.at
+  pub end : new.window.end ≡ old.window.end
+
 -- the record is one that may follow, by its numbers
 pub record IsChecked (s : Scan) (r : LogRec) : Type 0 where
   pub ranges : KeepsRanges s.expected.size r

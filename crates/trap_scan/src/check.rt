@@ -61,6 +61,7 @@ pub fn check_records<B: Bank>(
         → BreaksAt expected.now bytes at }
     ensures of_none { expected.now.first ≡ expected.now.last
         → IsOk result × (bank.new ≡ bank.old) }
+    ensures out_of_memory { IsErrOf result CheckFault.OutOfMemory → bank.new ≡ bank.old }
     ensures sizes { (e : ℕ) → (B.view bank.new).sizes e ≡ (B.view bank.old).sizes e }
     ensures contents { IsTrue (B.view bank.old).tells
         → (B.view bank.new).now ≡ (B.view bank.old).now }

@@ -1,11 +1,11 @@
 //! How a scan takes records.
 
-ghost use Rattle.std.specs.Prelude.{◌≡◌, ℕ, ◌+◌, ◌-◌, ◌<◌, ◌≤◌, ◌↔◌, List, IfOk, IsErrOf, IsTrue};
+ghost use Rattle.std.specs.Prelude.{◌≡◌, ℕ, ◌+◌, ◌-◌, ◌<◌, ◌≤◌, ◌↔◌, List, IfOk, IsErrOf, IsTrue, OnErr};
 ghost use Rattle.trap_bank.specs.Faults.{Rose};
 ghost use Rattle.trap_bank.specs.Calls.{Fits};
 ghost use Rattle.trap_model.specs.Limits.{greatest_record};
 ghost use Rattle.trap_scan.specs.Window.{IsLoaded, IsHeld, Looks};
-ghost use Rattle.trap_scan.specs.Scan.{IsAtFirst, IsLast, MayFollow, Takes, TakesNext, IsChecked, GivesNext, IsDamaged};
+ghost use Rattle.trap_scan.specs.Scan.{IsAtFirst, IsLast, MayFollow, Takes, TakesNext, TakesNone, IsChecked, GivesNext, IsDamaged};
 
 use super::Scan;
 use crate::window::{Front, Window};
@@ -111,7 +111,7 @@ impl Scan {
     }
 
     /// Takes the next record, where one that may come next stands there. No byte is read for one that
-    /// stands in the buffer already.
+    /// stands in the buffer already. After a fault or a refusal it may be asked for again.
     pub fn next<B: Bank>(&mut self, bank: &mut B, ring: &Ring) -> Result<LogRec, ScanFault>
         requires more { self.old.seq < self.old.expected.last }
         requires room { self.old.window.end ≤ self.old.window.at + ring.now.len }
@@ -123,6 +123,7 @@ impl Scan {
         ensures checked { IfOk result (IsChecked self.old) }
         ensures right { IsTrue (B.view bank.old).tells
             → IfOk result (GivesNext ring.now self.old self.new (B.view bank.old).now.disks) }
+        ensures err { OnErr result (TakesNone self.old self.new) }
         ensures damaged { IsTrue (B.view bank.old).tells → (at : ℕ)
             → IsErrOf result (ScanFault.Damaged at)
             → IsDamaged ring.now self.old (B.view bank.old).now.disks at }
