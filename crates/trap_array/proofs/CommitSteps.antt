@@ -1,5 +1,5 @@
 -- The steps of a commit, one after the other.
-use Rattle.std.proofs.Common.{◌≡◌, ℕ, ◌+◌, List, ◌∷◌, length, Some, Ok, false, IsTrue, refl, sym, ap, subst, ◌∙◌, arith}
+use Rattle.std.proofs.Common.{◌≡◌, ℕ, ◌+◌, List, ◌∷◌, length, Ok, false, IsTrue, refl, sym, ap, subst, ◌∙◌, arith}
 use Rattle.trap_bank.specs.Disks.{Disks, Contents, View, Differs, Torn, byte}
 use Rattle.trap_bank.specs.Calls.{MayLeave, Syncs, Fits as FitsIn}
 use Rattle.trap_bank.specs.Steps.{Moves, Same, Always}
@@ -33,14 +33,14 @@ use Rattle.trap_array.proofs.Commits.{record_outside, slot_outside, next_fits}
 use Rattle.trap_array.proofs.Turns.{StillIf, still_beside, still_same, still_then_still, still_may, still_then_may, still_then_has, asked_may, asked_has, put_may, put_has}
 
 -- the log's disk has room for the head's cell
-pub cell_room : (g : Geometry) (v : View) (place : Place) → place ≡ head_place → v.sizes 0 ≡ Some (log_size g) → FitsIn v place.disk (place.at + cell_len place)
-cell_room g v place is_head size =
+pub cell_room : (g : Geometry) (v : View) (place : Place) → place ≡ head_place → FitsIn v 0 (log_size g) → FitsIn v place.disk (place.at + cell_len place)
+cell_room g v place is_head there =
     subst (λ (p : Place). FitsIn v p.disk (p.at + cell_len p)) (sym is_head)
-    (log_size g, size, omega arith)
+    (there.0, there.1, omega (arith, there.2))
 
 -- and for the slots
-pub slots_room : (g : Geometry) (v : View) → v.sizes 0 ≡ Some (log_size g) → FitsIn v 0 (ring_at g)
-slots_room g v size = (log_size g, size, omega arith)
+pub slots_room : (g : Geometry) (v : View) → FitsIn v 0 (log_size g) → FitsIn v 0 (ring_at g)
+slots_room g v there = (there.0, there.1, omega (arith, there.2))
 
 -- a change apart from the cell, whatever the state
 pub stands_apart : (area : ℕ → ℕ → Type 0) (cell : Slots) (v w : View) → cell.place ≡ head_place → ((e i : ℕ) → InCell e i → area e i → ⊥) → Moves v w (Differs area) (Differs area) → Always v (Stands cell) → Always w (Stands cell)

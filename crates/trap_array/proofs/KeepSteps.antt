@@ -34,6 +34,7 @@ use Rattle.trap_array.specs.declared.fault.Denied.{Denied}
 use Rattle.trap_array.specs.declared.fault.Denied.TheVariants.{Refused, MemberFault}
 use Rattle.trap_array.proofs.Beside.{stays_same}
 use Rattle.trap_array.proofs.NextHeads.{head_committed}
+use Rattle.trap_array.proofs.Sizes.{sizes_still}
 use Rattle.trap_array.proofs.Turns.{holds_still, same_keeps}
 use Rattle.trap_array.proofs.TurnSteps.{goes_still, turns_failed, turns_after, turns_same, turns_refused, none_moves, back_refused, worn_refused, full_refused, goes_on, planned_from}
 
@@ -142,7 +143,7 @@ module _ (a : Log) (v w : View) (time block size : ℕ) (bytes delta parity spel
       let left = room_left a.g a.head size is_head not_full in
       record {
         in_step = can.in_step;
-        sizes = record { log = reads.sizes 0 ∙ can.sizes.log; members = λ m within counts. reads.sizes (m + 1) ∙ can.sizes.members m within counts };
+        sizes = sizes_still a.g a.head.lost a.head.rebuilt v w reads.sizes can.sizes;
         stands = stands_still;
         next = head_committed a.g a.head is_head time (length spelled) later fits not_worn free left.0 (omega (arith, long, left.1)) (omega (arith, long, short));
         later = later;

@@ -1,4 +1,5 @@
 pub mod Beside
+pub mod Sizes
 pub mod Frames
 pub mod Puts
 pub mod NextHeads

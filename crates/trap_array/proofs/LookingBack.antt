@@ -18,15 +18,13 @@ use Rattle.trap_array.specs.Log.{Log}
 use Rattle.trap_array.specs.Sources.{Counts, past_of, CallsAtMost, present_reads, LooksOn, LooksInVain}
 use Rattle.trap_array.specs.declared.fault.Denied.{Denied}
 use Rattle.trap_array.specs.declared.fault.Denied.TheVariants.{Damaged}
+use Rattle.trap_array.proofs.Sizes.{sizes_still}
 
 -- the disks have their sizes still
 pub can_still : (log : Log) (old new : View) → CanLookBack log old → OnlyReads old new → CanLookBack log new
 can_still log old new can reads = record {
   in_step = can.in_step;
-  sizes = record {
-    log = reads.sizes 0 ∙ can.sizes.log;
-    members = λ m inside counts. reads.sizes (m + 1) ∙ can.sizes.members m inside counts;
-  };
+  sizes = sizes_still log.g log.head.lost log.head.rebuilt old new reads.sizes can.sizes;
 }
 
 module _ (log : Log) (v : View) (n : Counts) (same : log.index.g ≡ log.g) where

@@ -9,6 +9,7 @@ use Rattle.trap_bank.proofs.Moves.{moves_then, moves_weaken, always_same, read_i
 use Rattle.trap_cell.specs.Slots.{Place, Slots, Stands, slot_at, value_at, current_slot, cell_value, other_slot}
 use Rattle.trap_cell.specs.Steps.{PutsIn, IsPut}
 use Rattle.trap_format.specs.LogDisk.{log_size}
+use Rattle.trap_format.specs.MemberDisk.{member_size}
 use Rattle.trap_format.specs.HeadValue.{IsHead, head_value}
 use Rattle.trap_format.specs.declared.head.Head.{Head}
 use Rattle.trap_format.proofs.Spellings.{heads_same}
@@ -242,8 +243,8 @@ module _ (g : Geometry) (h k : Head) (cell : Slots) (stage : Stage) (a b c : Vie
       pub mount_ready : IsReady (mounted_by g k after stage index) d
       mount_ready = record {
         sizes = λ going. record {
-          log = sizes 0 ∙ reads.sizes 0 ∙ log.header.size;
-          members = λ m inside counts. sizes (m + 1) ∙ to_c.sizes (m + 1) ∙ (member_read m inside counts).size;
+          log = (log_size g, sizes 0 ∙ reads.sizes 0 ∙ log.header.size, omega arith);
+          members = λ m inside counts. (member_size g, sizes (m + 1) ∙ to_c.sizes (m + 1) ∙ (member_read m inside counts).size, omega arith);
         };
         stands = λ going. cell_after;
       }

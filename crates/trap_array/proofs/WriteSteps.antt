@@ -1,8 +1,9 @@
 -- A write of a mounted array, from what it does to the log.
-use Rattle.std.proofs.Common.{◌≡◌, ℕ, ◌+◌, ◌≤◌, List, Option, Bool, false, Result, Ok, Err, IfErr, IsTrue, inl, refl, sym, ap, subst, ◌∙◌}
+use Rattle.std.proofs.Common.{◌≡◌, ℕ, ◌≤◌, List, Option, Bool, false, Result, Ok, Err, IfErr, OnOk, IsTrue, inl, refl, sym, ap, subst, ◌∙◌}
 use Rattle.trap_bank.specs.Disks.{Disks, View}
-use Rattle.trap_bank.specs.Steps.{Moves, Same}
-use Rattle.trap_bank.proofs.Moves.{moves_weaken}
+use Rattle.trap_bank.specs.Steps.{Moves, Same, Always}
+use Rattle.trap_bank.proofs.Moves.{moves_weaken, always_same}
+use Rattle.trap_cell.specs.Slots.{Stands}
 use Rattle.trap_model.specs.ArrayStep.{after, unless}
 use Rattle.trap_model.specs.Image.{volume}
 use Rattle.trap_model.specs.declared.history.State.{State}
@@ -11,12 +12,15 @@ use Rattle.trap_model.specs.declared.request.Refusal.{Refusal}
 use Rattle.trap_model.specs.declared.request.Reply.{Reply}
 use Rattle.trap_model.specs.declared.request.Request.TheVariants.{Write}
 use Rattle.trap_model.proofs.Refusals.{no_block}
+use Rattle.trap_raid.specs.Reads.{OnlyReads}
 use Rattle.trap_array.specs.Calls.{Mounted, StandsFor, HasSizes, IsReady, GoesOn, MayTurn, HasTurned, is_fault, is_done, going}
-use Rattle.trap_array.specs.Log.{Log}
+use Rattle.trap_array.specs.Log.{Log, AreInStep}
+use Rattle.trap_array.specs.Ready.{CanDrain}
 use Rattle.trap_array.specs.Turning.{Denies, Turns}
 use Rattle.trap_array.specs.declared.fault.Denied.{Denied}
 use Rattle.trap_array.specs.declared.fault.Denied.TheVariants.{Refused, LogFault, MemberFault, Damaged, Stopped}
 use Rattle.trap_array.proofs.KeepSteps.{next_of}
+use Rattle.trap_array.proofs.Sizes.{sizes_still}
 use Rattle.trap_array.proofs.TurnSteps.{none_moves}
 use Rattle.trap_array.proofs.Turns.{holds_still}
 
@@ -79,7 +83,7 @@ sizes_along a b v w on same sizes =
     subst (λ (g : Geometry). HasSizes g b.head.lost b.head.rebuilt w) (sym on.g)
     (subst (λ (lost : Option ℕ). HasSizes a.g lost b.head.rebuilt w) (sym on.lost)
     (subst (λ (n : ℕ). HasSizes a.g a.head.lost n w) (sym on.rebuilt)
-    (record { log = same 0 ∙ sizes.log; members = λ m inside counts. same (m + 1) ∙ sizes.members m inside counts })))
+    (sizes_still a.g a.head.lost a.head.rebuilt v w same sizes)))
 
 pub ready_after : (a b : Log) (next : State → State) (replies : State → Reply) (result : Result ℕ Denied) (v w : View) (stopped : Bool) → Turns a b next replies result v w → stopped ≡ is_fault result
     → HasSizes a.g a.head.lost a.head.rebuilt v → IsReady (mounted b stopped) w
@@ -87,3 +91,24 @@ ready_after a b next replies result v w stopped turns is sizes = record {
   sizes = λ none. let along = sizes_along (going a) (going b) v w turns.goes_on turns.sizes sizes in record { log = along.log; members = along.members };
   stands = λ none. turns.stands (not_failed (going a) v w result turns.cause (sym is ∙ none));
 }
+
+-- calls that only read leave an array ready
+pub ready_still : (log : Log) (stopped stopped_too : Bool) (v w : View) → OnlyReads v w → stopped ≡ false → IsReady (mounted log stopped) v → IsReady (mounted log stopped_too) w
+ready_still log stopped stopped_too v w reads going ready = record {
+  sizes = λ none. sizes_still log.g log.head.lost log.head.rebuilt v w reads.sizes (ready.sizes going);
+  stands = λ none. always_same v w (Stands log.cell) reads.moves (ready.stands going);
+}
+
+-- a log that goes on can be drained
+pub can_drain_on : (a b : Log) (v w : View) → GoesOn (going a) (going b) → ((d : ℕ) → w.sizes d ≡ v.sizes d) → HasSizes a.g a.head.lost a.head.rebuilt v → AreInStep b.head b.stage b.index → Always w (Stands b.cell) → CanDrain b w
+can_drain_on a b v w on same sizes in_step stands = record {
+  in_step = in_step;
+  sizes = (let along = sizes_along (going a) (going b) v w on same sizes in record { log = along.log; members = along.members });
+  stands = stands;
+}
+
+-- after a call that makes it so, where that is done
+pub can_drain_after : {T E : Type 0} (result : Result T E) (a b : Log) (v w : View) → GoesOn (going a) (going b) → ((d : ℕ) → w.sizes d ≡ v.sizes d) → HasSizes a.g a.head.lost a.head.rebuilt v
+    → OnOk result (AreInStep b.head b.stage b.index) → OnOk result (Always w (Stands b.cell)) → OnOk result (CanDrain b w)
+can_drain_after (Ok value) a b v w on same sizes in_step stands = can_drain_on a b v w on same sizes in_step stands
+can_drain_after (Err e) a b v w on same sizes in_step stands = tt

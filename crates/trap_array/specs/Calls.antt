@@ -1,6 +1,7 @@
 -- What the calls of a mounted array do.
-use Rattle.std.specs.Prelude.{◌≡◌, ◌⊎◌, ℕ, ◌+◌, ◌<◌, List, Option, Some, Bool, true, false, Result, Ok, Err}
+use Rattle.std.specs.Prelude.{◌≡◌, ◌⊎◌, ℕ, ◌+◌, ◌<◌, List, Option, Bool, true, false, Result, Ok, Err}
 use Rattle.trap_bank.specs.Disks.{Disks, View}
+use Rattle.trap_bank.specs.Calls.{Fits}
 use Rattle.trap_bank.specs.Faults.{Rose}
 use Rattle.trap_bank.specs.Steps.{Always}
 use Rattle.trap_cell.specs.Slots.{Slots, Stands}
@@ -42,10 +43,10 @@ pub record StandsFor (a : Mounted) (s : State) (disks : Disks) : Type 0 where
   pub pending : a.pending ≡ pending a.g s a.head.drained
   pub index : Describes a.index s
 
--- the log's disk, and each member's of which some row counts, have their sizes
+-- the log's disk, and each member's of which some row counts, are there and have at least their sizes
 pub record HasSizes (g : Geometry) (lost : Option ℕ) (rebuilt : ℕ) (v : View) : Type 0 where
-  pub log : v.sizes 0 ≡ Some (log_size g)
-  pub members : (m : ℕ) → m < g.members → Counts lost rebuilt 0 m → v.sizes (m + 1) ≡ Some (member_size g)
+  pub log : Fits v 0 (log_size g)
+  pub members : (m : ℕ) → m < g.members → Counts lost rebuilt 0 m → Fits v (m + 1) (member_size g)
 
 -- unless the array is stopped, the disks have their sizes, and every crash leaves the head's cell as it knows it
 pub record IsReady (a : Mounted) (v : View) : Type 0 where

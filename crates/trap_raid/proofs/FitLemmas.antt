@@ -57,9 +57,9 @@ block_fits g lost rebuilt writes v block fit below =
       parity = place_fits g lost rebuilt writes v row (parity_member g row) fit in_rows (parity_in-lt g.members (row / g.chunk) (omega arith));
     }
 
--- members of their exact sizes have all rows
-pub fits_from_sizes : (g : Geometry) (lost : Option ℕ) (rebuilt : ℕ) (v : View) → ((m : ℕ) → m < g.members → Counts lost rebuilt 0 m → v.sizes (m + 1) ≡ Some (member_size g)) → MembersFit g lost rebuilt v
-fits_from_sizes g lost rebuilt v sizes member inside counts = (member_size g, sizes member inside counts, omega arith)
+-- members that are long enough have all rows
+pub fits_from_sizes : (g : Geometry) (lost : Option ℕ) (rebuilt : ℕ) (v : View) → ((m : ℕ) → m < g.members → Counts lost rebuilt 0 m → Fits v (m + 1) (member_size g)) → MembersFit g lost rebuilt v
+fits_from_sizes g lost rebuilt v sizes member inside counts = let there = sizes member inside counts in (there.0, there.1, omega (arith, there.2))
 
 -- a call that keeps the sizes leaves them so
 pub fit_along : (g : Geometry) (lost : Option ℕ) (rebuilt : ℕ) (old new : View) → ((e : ℕ) → new.sizes e ≡ old.sizes e) → MembersFit g lost rebuilt old → MembersFit g lost rebuilt new

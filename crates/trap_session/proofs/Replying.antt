@@ -24,6 +24,7 @@ use Rattle.trap_array.specs.Calls.{Mounted, WriteReplies, ReadReplies, AtReplies
 use Rattle.trap_array.specs.declared.fault.Denied.{Denied}
 use Rattle.trap_array.specs.declared.fault.Denied.TheVariants.{Refused, LogFault, MemberFault, Damaged, Stopped}
 use Rattle.trap_array.proofs.Beside.{stays_none, stays_same, stays_then}
+use Rattle.trap_array.proofs.Sizes.{sizes_still}
 use Rattle.trap_session.specs.Store.{Store, array_store, ComesWith, Replied, CutShort, Struck, StandsForNone, HasRisen}
 use Rattle.trap_session.specs.Denying.{EndsSession}
 use Rattle.trap_session.specs.Answers.{Answers, HasAnswered, StandsOn, AsksBlock, AnswersLine}
@@ -92,9 +93,7 @@ always_said u w result piece has call always c left =
 -- an array is ready where the disks have the same sizes, and every crash leaves its cell as before
 ready_as : (a : Mounted) (u w : View) → ((e : ℕ) → w.sizes e ≡ u.sizes e) → ((has : Disks → Type 0) → Always u has → Always w has) → IsReady a u → IsReady a w
 ready_as a u w sizes still ready = record {
-  sizes = λ going.
-      let before = ready.sizes going in
-      record { log = sizes 0 ∙ before.log; members = λ m inside counts. sizes (m + 1) ∙ before.members m inside counts };
+  sizes = λ going. sizes_still a.g a.head.lost a.head.rebuilt u w sizes (ready.sizes going);
   stands = λ going. still _ (ready.stands going);
 }
 

@@ -11,6 +11,7 @@ use Rattle.trap_array.specs.Ready.{CanCommit}
 use Rattle.trap_array.proofs.Beside.{append_stays, fill_stays, sync_stays, put_stays}
 use Rattle.trap_array.proofs.CommitSteps.{cell_room, append_any, fill_any, sync_any, cell_still, put_any, put_ok, settled_there}
 use Rattle.trap_array.proofs.IndexSteps.{next_in_step}
+use Rattle.trap_array.proofs.Sizes.{fits_still}
 use Rattle.trap_array.proofs.log.Log.commit.Goals as goal
 
 pub returns-in_err-append-clause-any_moment : goal.returns-in_err-append-clause-any_moment
@@ -58,7 +59,7 @@ put-requires-clause-room g c =
     let log : Log = record { g = c.self.inside.g; head = c.self.inside.head; cell = c.self.inside.cell; stage = c.self.inside.stage; index = c.self.inside.index } in
     let entry : Entry = entry_for c.args.time c.args.block c.args.bytes.now in
     let can = subst (λ (l : Log). CanCommit l old entry c.args.parity.now c.args.spelled.now) (sym c.self.view_is) c.requires.can in
-    cell_room log.g v3 log.cell.place c.self.invariant.place (c.sync.ensures.call.sizes 0 ∙ c.fill.ensures.sizes 0 ∙ c.append.ensures.sizes 0 ∙ can.sizes.log)
+    cell_room log.g v3 log.cell.place c.self.invariant.place (fits_still old v3 0 _ (c.sync.ensures.call.sizes 0 ∙ c.fill.ensures.sizes 0 ∙ c.append.ensures.sizes 0) can.sizes.log)
 
 pub put-requires-clause-stands : goal.put-requires-clause-stands
 put-requires-clause-stands g c =

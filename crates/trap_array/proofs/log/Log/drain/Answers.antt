@@ -1,4 +1,4 @@
-use Rattle.std.proofs.Common.{◌+◌, sym, subst, ◌∙◌}
+use Rattle.std.proofs.Common.{◌+◌, sym, subst}
 use Rattle.trap_bank.specs.Steps.{Moves}
 use Rattle.trap_raid.specs.Condition.{Condition}
 use Rattle.trap_raid.specs.Members.{MembersFit}
@@ -11,6 +11,7 @@ use Rattle.trap_array.specs.Ready.{CanDrain}
 use Rattle.trap_array.proofs.Beside.{raid_stays, drain_stays}
 use Rattle.trap_array.proofs.CommitSteps.{cell_room}
 use Rattle.trap_array.proofs.DrainSteps.{drain_any, cell_still, put_any, put_ok}
+use Rattle.trap_array.proofs.Sizes.{fits_still}
 use Rattle.trap_array.proofs.log.Log.drain.Goals as goal
 
 pub drain-requires-clause-disks : goal.drain-requires-clause-disks
@@ -36,7 +37,7 @@ put-requires-clause-room g c =
     let v1 = g.B.Bank.view c.drain.new.bank in
     let log : Log = record { g = c.self.inside.g; head = c.self.inside.head; cell = c.self.inside.cell; stage = c.self.inside.stage; index = c.self.inside.index } in
     let can = subst (λ (l : Log). CanDrain l old) (sym c.self.view_is) c.requires.can in
-    cell_room log.g v1 log.cell.place c.self.invariant.place (c.drain.ensures.sizes 0 ∙ can.sizes.log)
+    cell_room log.g v1 log.cell.place c.self.invariant.place (fits_still old v1 0 _ (c.drain.ensures.sizes 0) can.sizes.log)
 
 pub put-requires-clause-stands : goal.put-requires-clause-stands
 put-requires-clause-stands g c =

@@ -14,7 +14,14 @@ use Rattle.trap_array.specs.declared.fault.Denied.{Denied}
 use Rattle.trap_array.proofs.Beside.{both_stay}
 use Rattle.trap_array.proofs.Turns.{then_keep_may, then_keep_has}
 use Rattle.trap_array.proofs.TurnSteps.{fault_since, goes_then, turns_failed, turns_done}
+use Rattle.trap_array.proofs.WriteSteps.{can_drain_on}
 use Rattle.trap_array.proofs.log.Log.keep_planned.Goals as goal
+
+pub drain-requires : goal.drain-requires
+drain-requires g c = record {
+  can = can_drain_on c.args.self.now c.commit.new.self (g.B.Bank.view c.args.bank.now) (g.B.Bank.view c.commit.new.bank) c.commit.ensures.goes_on c.commit.ensures.sizes c.requires.can.sizes
+      c.in_ok-commit.ensures.in_step c.in_ok-commit.ensures.stands;
+}
 
 pub returns-in_err-drain : goal.returns-in_err-drain
 returns-in_err-drain g c =

@@ -1,7 +1,7 @@
 use Rattle.std.proofs.Common.{rules, ◌≡◌, ℕ, ◌+◌, length, refl, sym, ap, subst, ◌∙◌, arith}
 use Rattle.std.proofs.lemmas.Bool.{false≢true}
 use Rattle.trap_bank.specs.Calls.{Fits}
-use Rattle.trap_format.specs.LogDisk.{ring_at, log_size}
+use Rattle.trap_format.specs.LogDisk.{ring_at}
 use Rattle.trap_record.specs.Reading.{IsWhole}
 use Rattle.trap_ring.specs.Ring.{RingPlace, RingHas}
 use Rattle.trap_array.specs.Holding.{log_ring}
@@ -20,9 +20,9 @@ returns-then-spelled-len-clause-damaged g c offset is told s stands =
 pub read-requires-clause-there : goal.read-requires-clause-there
 read-requires-clause-there g c =
     let v = g.B.Bank.view c.args.bank.now in
-    let log = c.args.self.now in
+    let there = c.requires.can.sizes.log in
     subst (λ (r : RingPlace). Fits v r.disk (r.at + r.len)) (sym c.ring_of.ensures)
-    (subst (λ (l : Log). Fits v 0 (ring_at l.g + l.g.ring)) (sym c.self.view_is) (log_size log.g, c.requires.can.sizes.log, omega arith))
+    (subst (λ (l : Log). Fits v 0 (ring_at l.g + l.g.ring)) (sym c.self.view_is) (there.0, there.1, omega (arith, there.2)))
 
 pub returns-then-not-read_part-clause-damaged : goal.returns-then-not-read_part-clause-damaged
 returns-then-not-read_part-clause-damaged g c offset is told s stands =
