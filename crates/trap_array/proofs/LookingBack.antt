@@ -1,7 +1,11 @@
 -- The log as a source: what its calls leave, and how many reads they take.
 use Rattle.std.proofs.Common.{◌≡◌, List, ℕ, ◌+◌, ◌-◌, ◌*◌, ◌<◌, ◌≤◌, Option, Some, None, Result, IfErr, IsErrOf, IsTrue, refl, ap, sym, ◌∙◌, subst, arith}
 use Rattle.std.proofs.Math.Nat.{mul-zero, mul-one, mul-le-mul_left, lt_of_not-le}
+use Rattle.std.proofs.lemmas.Bool.{le-leb, leb-true, false≢true}
 use Rattle.trap_bank.specs.Disks.{View}
+use Rattle.trap_bank.specs.Calls.{Fits}
+use Rattle.trap_format.specs.LogDisk.{log_size}
+use Rattle.trap_format.specs.MemberDisk.{member_size}
 use Rattle.trap_index.specs.Indexed.{Indexed, IsLastBy}
 use Rattle.trap_model.specs.declared.numbers.Geometry.{Geometry}
 use Rattle.trap_model.specs.Image.{volume}
@@ -15,19 +19,46 @@ use Rattle.trap_model.specs.declared.history.State.{State}
 use Rattle.trap_array.specs.Calls.{StandsFor, going}
 use Rattle.trap_array.specs.Instants.{CanLookBack}
 use Rattle.trap_array.specs.Log.{Log}
-use Rattle.trap_array.specs.Sources.{Counts, past_of, CallsAtMost, present_reads, LooksOn, LooksInVain}
+use Rattle.trap_array.specs.Sources.{CallCounts, is_long, IsFor, past_of, CallsAtMost, present_reads, LooksOn, LooksInVain}
 use Rattle.trap_array.specs.declared.fault.Denied.{Denied}
 use Rattle.trap_array.specs.declared.fault.Denied.TheVariants.{Damaged}
-use Rattle.trap_array.proofs.Sizes.{sizes_still}
 
--- the disks have their sizes still
-pub can_still : (log : Log) (old new : View) → CanLookBack log old → OnlyReads old new → CanLookBack log new
-can_still log old new can reads = record {
+-- ---- the disks are long enough
+long_of : (v : View) (d end : ℕ) → Fits v d end → IsTrue (is_long (v.sizes d) end)
+long_of v d end fits = subst (λ (o : Option ℕ). IsTrue (is_long o end)) (sym fits.1) (le-leb end fits.0 fits.2)
+
+fits_of : (v : View) (d end : ℕ) → IsTrue (is_long (v.sizes d) end) → Fits v d end
+fits_of v d end long = by_size (v.sizes d) refl
+  where
+    by_size : (o : Option ℕ) → v.sizes d ≡ o → Fits v d end
+    by_size None is = absurd (false≢true (subst (λ (o : Option ℕ). IsTrue (is_long o end)) is long))
+    by_size (Some size) is = (size, is, leb-true end size (subst (λ (o : Option ℕ). IsTrue (is_long o end)) is long))
+
+pub is_for : (log : Log) (v : View) → CanLookBack log v → IsFor log v
+is_for log v can = record {
   in_step = can.in_step;
-  sizes = sizes_still log.g log.head.lost log.head.rebuilt old new reads.sizes can.sizes;
+  log_disk = long_of v 0 (log_size log.g) can.sizes.log;
+  members = λ m inside counts. long_of v (m + 1) (member_size log.g) (can.sizes.members m inside counts);
 }
 
-module _ (log : Log) (v : View) (n : Counts) (same : log.index.g ≡ log.g) where
+pub can_look : (log : Log) (v : View) → IsFor log v → CanLookBack log v
+can_look log v is = record {
+  in_step = is.in_step;
+  sizes = record {
+    log = fits_of v 0 (log_size log.g) is.log_disk;
+    members = λ m inside counts. fits_of v (m + 1) (member_size log.g) (is.members m inside counts);
+  };
+}
+
+-- and they are so still
+pub is_for_still : (log : Log) (old new : View) → IsFor log old → OnlyReads old new → IsFor log new
+is_for_still log old new is reads = record {
+  in_step = is.in_step;
+  log_disk = subst (λ (o : Option ℕ). IsTrue (is_long o (log_size log.g))) (sym (reads.sizes 0)) is.log_disk;
+  members = λ m inside counts. subst (λ (o : Option ℕ). IsTrue (is_long o (member_size log.g))) (sym (reads.sizes (m + 1))) (is.members m inside counts);
+}
+
+module _ (log : Log) (v : View) (n : CallCounts) (same : log.index.g ≡ log.g) where
   pub index_is : IsIndexOf log.index (past_of log v n).has
   index_is = record {
     first = refl;
@@ -67,11 +98,11 @@ place_calls result g None writes row member old new costs = by_pending (newest_a
     by_pending (Some bytes) is = exact_calls 0 1 old new (omega arith) (costs.pending (λ same. cc))
 
 -- no calls yet
-abbrev pub no_counts : Counts
+abbrev pub no_counts : CallCounts
 no_counts = record { presents = 0; parities = 0; snapshots = 0; faults = 0 }
 
 -- one present block and so many parities
-pub look_calls : (log : Log) (n : Counts) (turns : ℕ) (old new : View) → n.presents ≤ 0 + 1 → n.parities ≤ 0 + turns → n.snapshots ≡ 0 → LooksOn log no_counts n old new → CallsAtMost (present_reads log.g log.head.lost + 2 * turns) old new
+pub look_calls : (log : Log) (n : CallCounts) (turns : ℕ) (old new : View) → n.presents ≤ 0 + 1 → n.parities ≤ 0 + turns → n.snapshots ≡ 0 → LooksOn log no_counts n old new → CallsAtMost (present_reads log.g log.head.lost + 2 * turns) old new
 look_calls log n turns old new one few none looks =
     let none_is : present_reads log.g log.head.lost * 0 ≡ 0 = mul-zero (present_reads log.g log.head.lost) in
     let most : present_reads log.g log.head.lost * n.presents ≤ present_reads log.g log.head.lost * 1 = mul-le-mul_left (present_reads log.g log.head.lost) (omega arith) in

@@ -7,11 +7,11 @@ use Rattle.trap_raid.proofs.ReadLemmas.{only_reads_then, still_tells}
 use Rattle.trap_array.specs.Calls.{Mounted, StandsFor, going}
 use Rattle.trap_array.specs.Instants.{FailsLooking}
 use Rattle.trap_array.specs.Log.{Log}
-use Rattle.trap_array.specs.Sources.{Counts, LooksOn, LooksInVain}
+use Rattle.trap_array.specs.Sources.{CallCounts, LooksOn, LooksInVain}
 use Rattle.trap_array.specs.declared.fault.Denied.{Denied}
 use Rattle.trap_array.specs.declared.fault.Denied.TheVariants.{Refused, LogFault, MemberFault, Damaged, Stopped}
 
-pub looks_then : (log same : Log) (x y z : Counts) (a b c : View) → log ≡ same → LooksOn log x y a b → LooksOn same y z b c → LooksOn log x z a c
+pub looks_then : (log same : Log) (x y z : CallCounts) (a b c : View) → log ≡ same → LooksOn log x y a b → LooksOn same y z b c → LooksOn log x z a c
 looks_then log same x y z a b c is first then =
     let second = subst (λ (l : Log). LooksOn l y z b c) (sym is) then in
     record {
@@ -52,7 +52,7 @@ fails_still m a b c reads (MemberFault first second) fails = record {
 fails_still m a b c reads (Damaged offset) fails = fails
 fails_still m a b c reads Stopped fails = fails
 
-pub vain_since : (log same : Log) (x y : Counts) (a b c : View) (e : Denied) → log ≡ same → LooksOn log x y a b → LooksInVain same b c e → LooksInVain log a c e
+pub vain_since : (log same : Log) (x y : CallCounts) (a b c : View) (e : Denied) → log ≡ same → LooksOn log x y a b → LooksInVain same b c e → LooksInVain log a c e
 vain_since log same x y a b c e is looks then =
     let vain = subst (λ (l : Log). LooksInVain l b c e) (sym is) then in
     record {
@@ -60,7 +60,7 @@ vain_since log same x y a b c e is looks then =
       damaged = λ offset at told s stands. vain.damaged offset at (still_tells a b looks.reads told) s (still_stands log a b s looks.reads told stands);
     }
 
-pub vain_still : (log same : Log) (x y : Counts) (a b c : View) (e : Denied) → log ≡ same → LooksInVain log a b e → LooksOn same x y b c → LooksInVain log a c e
+pub vain_still : (log same : Log) (x y : CallCounts) (a b c : View) (e : Denied) → log ≡ same → LooksInVain log a b e → LooksOn same x y b c → LooksInVain log a c e
 vain_still log same x y a b c e is vain looks = record {
   fails = fails_still (going log) a b c looks.reads e vain.fails;
   damaged = vain.damaged;

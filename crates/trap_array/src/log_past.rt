@@ -3,8 +3,7 @@
 ghost use Rattle.std.specs.Prelude.{◌≡◌, length};
 ghost use Rattle.std.proofs.Common.{◌∙◌};
 ghost use Rattle.trap_model.specs.Limits.{greatest_record};
-ghost use Rattle.trap_array.specs.Instants.{CanLookBack};
-ghost use Rattle.trap_array.specs.Sources.{past_of, LooksOn, LooksInVain};
+ghost use Rattle.trap_array.specs.Sources.{IsFor, past_of, LooksOn, LooksInVain};
 ghost use Rattle.trap_array.specs.SourceLaws.{looks_then, vain_since, vain_still};
 
 use crate::Denied;
@@ -23,7 +22,7 @@ pub(crate) struct LogPast<'l, 'b, 's, B: Bank> {
     pub(crate) parities: u64,
     pub(crate) snapshots: u64,
     pub(crate) faults: u64,
-    ghost can: { CanLookBack log.now (B.view bank.now) },
+    ghost for_log: { IsFor log.now (B.view bank.now) },
     ghost room: { length spelled.now ≡ greatest_record log.now.g.block },
 }
 

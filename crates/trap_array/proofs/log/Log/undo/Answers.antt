@@ -1,8 +1,14 @@
 use Rattle.std.proofs.Common.{rules, subst}
 use Rattle.trap_array.specs.Log.{Log}
 use Rattle.trap_array.specs.Sources.{CallsAtMost, reads_back}
-use Rattle.trap_array.proofs.LookingBack.{look_calls, look_damaged}
+use Rattle.trap_array.proofs.LookingBack.{is_for, look_calls, look_damaged}
 use Rattle.trap_array.proofs.log.Log.undo.Goals as goal
+
+pub invariant_of-past : goal.invariant_of-past
+invariant_of-past g c = record {
+  for_log = is_for c.args.self.now (g.B.Bank.view c.args.bank.now) c.requires.can;
+  room = c.requires.spelled;
+}
 
 pub returns-clause-damaged : goal.returns-clause-damaged
 returns-clause-damaged g c offset is told s stands =

@@ -1,9 +1,19 @@
 use Rattle.std.proofs.Common.{rules, Err, refl, ap}
 use Rattle.trap_array.specs.declared.fault.Denied.{Denied}
+use Rattle.trap_array.proofs.LookingBack.{can_look, is_for_still}
 use Rattle.trap_array.proofs.log_past.LogPastParities.snapshot.Goals as goal
+
+pub part-requires-clause-can : goal.part-requires-clause-can
+part-requires-clause-can g c = can_look c.args.self.now.log.now (g.B.Bank.view c.args.self.now.bank.now) c.args.self.now.for_log
 
 pub returns-in-Err-clause-blame : goal.returns-in-Err-clause-blame
 returns-in-Err-clause-blame g c = record {
   cause = search rules;
   caused = (refl, record { fails = c.in-Err.ensures.cause; damaged = λ offset is told s stands. c.in-Err.ensures.damaged offset (ap (λ (d : Denied). Err d) is) told s stands });
+}
+
+pub invariant_of-self-in-Err : goal.invariant_of-self-in-Err
+invariant_of-self-in-Err g c = record {
+  for_log = is_for_still c.args.self.now.log.now (g.B.Bank.view c.args.self.now.bank.now) (g.B.Bank.view c.part.new.bank) c.args.self.now.for_log c.part.ensures.any_moment;
+  room = search rules;
 }

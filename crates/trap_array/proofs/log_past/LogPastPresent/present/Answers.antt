@@ -1,5 +1,9 @@
-use Rattle.trap_array.proofs.LookingBack.{lawful}
+use Rattle.trap_array.proofs.LookingBack.{can_look, lawful}
 use Rattle.trap_array.proofs.log_past.LogPastPresent.present.Goals as goal
+
+pub fetch-requires-clause-sizes : goal.fetch-requires-clause-sizes
+fetch-requires-clause-sizes g c =
+    (can_look c.args.self.now.log.now (g.B.Bank.view c.args.self.now.bank.now) c.args.self.now.for_log).sizes
 
 pub returns-in-Ok-clause-told : goal.returns-in-Ok-clause-told
 returns-in-Ok-clause-told g c =
