@@ -1,5 +1,5 @@
 -- The log as a source: what its calls leave, and how many reads they take.
-use Rattle.std.proofs.Common.{◌≡◌, List, ℕ, ◌+◌, ◌-◌, ◌*◌, ◌<◌, ◌≤◌, Option, Some, None, Result, IfErr, IsErrOf, IsTrue, refl, ap, sym, ◌∙◌, subst, arith}
+use Rattle.std.proofs.Common.{◌≡◌, List, ℕ, ◌+◌, ◌-◌, ◌*◌, ◌<◌, ◌≤◌, Option, Some, None, Result, IfErr, IsErrOf, IsTrue, refl, ap, sym, subst, arith}
 use Rattle.std.proofs.Math.Nat.{mul-zero, mul-one, mul-le-mul_left, lt_of_not-le}
 use Rattle.std.proofs.lemmas.Bool.{le-leb, leb-true, false≢true}
 use Rattle.trap_bank.specs.Disks.{View}

@@ -1,6 +1,5 @@
 use Rattle.std.proofs.Common.{Option, subst}
 use Rattle.trap_cli.specs.declared.command.Command.{Command}
-use Rattle.trap_cli.specs.Command.{IsCommand}
 use Rattle.trap_cli.specs.Crash.{LeftBy}
 use Rattle.trap_cli.specs.Run.{Runs, MembersStayFor}
 use Rattle.trap_cli.proofs.Words.{one_command}
