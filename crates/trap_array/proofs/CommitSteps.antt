@@ -8,7 +8,7 @@ use Rattle.trap_bank.proofs.Regions.{byte_of_disk, region_of_disk}
 use Rattle.trap_cell.specs.Slots.{Place, Slots, Stands, cell_len}
 use Rattle.trap_cell.specs.Steps.{PutsIn, IsPut}
 use Rattle.trap_format.specs.HeadValue.{IsHead, head_value}
-use Rattle.trap_format.specs.LogDisk.{log_size, ring_at, slot_len}
+use Rattle.trap_format.specs.LogDisk.{log_size, slot_len}
 use Rattle.trap_index.specs.Indexed.{Indexed, with_record}
 use Rattle.trap_model.specs.ArrayStep.{added}
 use Rattle.trap_model.specs.Records.{next_record}
@@ -37,10 +37,6 @@ pub cell_room : (g : Geometry) (v : View) (place : Place) → place ≡ head_pla
 cell_room g v place is_head there =
     subst (λ (p : Place). FitsIn v p.disk (p.at + cell_len p)) (sym is_head)
     (there.0, there.1, omega (arith, there.2))
-
--- and for the slots
-pub slots_room : (g : Geometry) (v : View) → FitsIn v 0 (log_size g) → FitsIn v 0 (ring_at g)
-slots_room g v there = (there.0, there.1, omega (arith, there.2))
 
 -- a change apart from the cell, whatever the state
 pub stands_apart : (area : ℕ → ℕ → Type 0) (cell : Slots) (v w : View) → cell.place ≡ head_place → ((e i : ℕ) → InCell e i → area e i → ⊥) → Moves v w (Differs area) (Differs area) → Always v (Stands cell) → Always w (Stands cell)

@@ -1,6 +1,6 @@
 -- The records of a state's entries, as they are read again.
-use Rattle.std.proofs.Common.{◌≡◌, ℕ, ◌+◌, ◌-◌, ◌^◌, ◌<◌, ◌≤◌, List, [], ◌++◌, length, take, drop, refl, ap, sym, ◌∙◌, subst, arith, length-take, take_all, take_at, append-nil, Bool, true, IsTrue, if◌then◌else◌}
-use Rattle.trap_bank.specs.Disks.{Disks}
+use Rattle.std.proofs.Common.{◌≡◌, ℕ, ◌+◌, ◌-◌, ◌^◌, ◌<◌, ◌≤◌, List, [], ◌++◌, length, take, drop, refl, ap, sym, ◌∙◌, subst, arith, length-take, take_all, take_at, append-nil, Bool, true, IsTrue, Result, IfErr, IsErrOf, if◌then◌else◌}
+use Rattle.trap_bank.specs.Disks.{Disks, View}
 use Rattle.trap_block.specs.Xor.{xor}
 use Rattle.trap_block.proofs.XorLemmas.{length-xor}
 use Rattle.trap_index.specs.declared.item.Item.{Item}
@@ -29,14 +29,16 @@ use Rattle.trap_record.specs.declared.parts.Part.TheVariants.{Parity, Snapshot}
 use Rattle.trap_record.specs.Parts.{part_of}
 use Rattle.trap_record.specs.Reading.{record_len, parity_of, snapshot_of, IsWhole}
 use Rattle.trap_record.proofs.Getting.{written-whole}
-use Rattle.trap_ring.specs.Ring.{RingPlace, RingHas}
-use Rattle.trap_scan.proofs.Fronts.{ring_front}
+use Rattle.trap_ring.specs.Ring.{RingPlace, RingHas, ring_pos}
+use Rattle.trap_scan.proofs.Fronts.{ring_front, snapshot_most}
 use Rattle.trap_scan.proofs.Taking.{ring_behind}
-use Rattle.trap_array.specs.Calls.{StandsFor, going}
+use Rattle.trap_array.specs.Calls.{Mounted, StandsFor, going}
 use Rattle.trap_array.specs.Holding.{log_ring}
-use Rattle.trap_array.specs.Instants.{HasEntry}
+use Rattle.trap_array.specs.Instants.{HasEntry, HasBadRecord, DeniesInstant}
 use Rattle.trap_array.specs.Log.{Log}
 use Rattle.trap_array.specs.Sources.{part_block}
+use Rattle.trap_array.specs.declared.fault.Denied.{Denied}
+use Rattle.trap_array.specs.declared.fault.Denied.TheVariants.{Damaged}
 
 module _ (g : Geometry) (i : Indexed) (s : State) (q : ℕ) (valid : IsValid g s) (describes : Describes i s) (low : i.first < q) (high : q ≤ last_seq i) (time : (item_at i q).time < 2 ^ 64) where
   entry : Entry
@@ -182,3 +184,46 @@ module _ (log : Log) (s : State) (disks : Disks) (q : ℕ) (item : Item) (stands
     pub is_part : (part : Part) (into : List ℕ) → length into ≡ log.g.block → (part ≡ Snapshot → IsTrue (item_at log.index q).snap) → ZeroRun into (part_of part rec bytes) → into ≡ part_block part s q
     is_part Parity into block marked spells = is_parity into block spells
     is_part Snapshot into block marked spells = is_snapshot into block (marked refl) spells
+
+-- bytes that are as long and stand at the same place are the same
+same_there : (r : RingPlace) (at : ℕ) (x y : List ℕ) (disks : Disks) → RingHas r at x disks → RingHas r at y disks → length x ≡ length y → y ≡ x
+same_there r at x y disks one other long =
+    sym (take_all (length x) y (omega arith)) ∙ ap (λ (l : List ℕ). take (length x) l) (ring_front r at x y disks one other (omega arith))
+    ∙ take_at x (drop (length x) y) (length x) refl
+
+-- no record is longer than the longest
+record_most : (size : ℕ) (r : LogRec) (parity snapshot bytes : List ℕ) → LogRecord size r parity snapshot bytes → record_len r ≤ greatest_record size
+record_most size r parity snapshot bytes is =
+    let first = is.ranges.parity.1 in
+    let second = snapshot_most size r.snap r.slen is.ranges.snapshot in
+    omega arith
+
+-- where what is read again isn't the record that the index knows
+module _ (log : Log) (disks : Disks) (q : ℕ) (item : Item) (has : HasEntry log.index q) (is : item ≡ item_at log.index q) (offset : ℕ) (at : offset ≡ ring_pos (log_ring log.g) item.off) where
+  bad_where : ((parity snapshot bytes : List ℕ) → LogRecord log.g.block (keeping.rec_of q item) parity snapshot bytes → RingHas (log_ring log.g) item.off bytes disks → ⊥) → HasBadRecord log.g log.index disks offset
+  bad_where none = record {
+    seq = q;
+    entry = has;
+    place = subst (λ (x : Item). offset ≡ ring_pos (log_ring log.g) x.off) is at;
+    none = subst (λ (x : Item). (parity snapshot bytes : List ℕ) → LogRecord log.g.block (keeping.rec_of q x) parity snapshot bytes → RingHas (log_ring log.g) x.off bytes disks → ⊥) is none;
+  }
+
+  pub bad_long : greatest_record log.g.block < 26 + item.plen + item.slen → HasBadRecord log.g log.index disks offset
+  bad_long long = bad_where (λ parity snapshot bytes record_ there.
+      let most = record_most log.g.block (keeping.rec_of q item) parity snapshot bytes record_ in
+      omega (arith, long, most))
+
+  pub bad_other : (rec : LogRec) (bytes : List ℕ) → RingHas (log_ring log.g) item.off bytes disks → length bytes ≡ 26 + item.plen + item.slen → rec ≡ keeping.rec_of q item
+      → (IsWhole log.g.block rec (length bytes) bytes → ⊥) → HasBadRecord log.g log.index disks offset
+  bad_other rec bytes there long header none = bad_where (λ parity snapshot other record_ other_there.
+      let whole = written-whole log.g.block (keeping.rec_of q item) parity snapshot other [] record_ in
+      let same : other ≡ bytes = same_there (log_ring log.g) item.off bytes other disks there other_there (long ∙ sym whole.len) in
+      let whole_ : IsWhole log.g.block (keeping.rec_of q item) (length other) other =
+      subst (λ (l : List ℕ). IsWhole log.g.block (keeping.rec_of q item) (length other) l) (append-nil other) whole in
+      none (subst (λ (r : LogRec). IsWhole log.g.block r (length bytes) bytes) (sym header)
+      (subst (λ (l : List ℕ). IsWhole log.g.block (keeping.rec_of q item) (length l) l) same whole_)))
+
+-- why an instant is denied names a record that isn't right
+pub bad_by : {T : Type 0} (a : Mounted) (old new : View) (result : Result T Denied) (offset : ℕ) → IfErr result (DeniesInstant a old new) → IsErrOf result (Damaged offset)
+    → IsTrue old.tells → HasBadRecord a.g a.index old.now.disks offset
+bad_by {T = T} a old new result offset cause is told = (subst (λ (r : Result T Denied). IfErr r (DeniesInstant a old new)) is cause) told

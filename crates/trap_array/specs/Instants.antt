@@ -1,11 +1,16 @@
 -- What a read of an earlier instant needs below its contract: whether a number or a time is refused, and how it fails.
-use Rattle.std.specs.Prelude.{◌≢◌, ℕ, ◌<◌, ◌≤◌, Option, Some, None, nat_lt, if◌then◌else◌}
-use Rattle.trap_bank.specs.Disks.{View}
+use Rattle.std.specs.Prelude.{◌≡◌, ◌≢◌, ℕ, ◌<◌, ◌≤◌, List, Option, Some, None, IsTrue, nat_lt, if◌then◌else◌}
+use Rattle.trap_bank.specs.Disks.{Disks, View}
 use Rattle.trap_bank.specs.Faults.{Rose}
-use Rattle.trap_index.specs.Indexed.{Indexed, last_seq}
+use Rattle.trap_index.specs.Indexed.{Indexed, last_seq, item_at}
+use Rattle.trap_index.specs.Keeping.{rec_of}
+use Rattle.trap_model.specs.LogRecord.{LogRecord}
+use Rattle.trap_model.specs.declared.numbers.Geometry.{Geometry}
 use Rattle.trap_model.specs.declared.request.Refusal.{Refusal}
 use Rattle.trap_model.specs.declared.request.Refusal.TheVariants.{NoBlock, NotKept, Ahead}
+use Rattle.trap_ring.specs.Ring.{ring_pos, RingHas}
 use Rattle.trap_array.specs.Calls.{Mounted, HasSizes, MemberFails}
+use Rattle.trap_array.specs.Holding.{log_ring}
 use Rattle.trap_array.specs.Log.{Log, AreInStep}
 use Rattle.trap_array.specs.declared.fault.Denied.{Denied}
 use Rattle.trap_array.specs.declared.fault.Denied.TheVariants.{Refused, LogFault, MemberFault, Damaged, Stopped}
@@ -36,12 +41,20 @@ pub record HasInstant (i : Indexed) (seq : ℕ) : Type 0 where
   pub low : i.first ≤ seq
   pub high : seq ≤ last_seq i
 
+-- Of a retained entry, whose record should begin at this byte of disk 0, no record with the known header stands there.
+pub record HasBadRecord (g : Geometry) (i : Indexed) (disks : Disks) (offset : ℕ) : Type 0 where
+  pub seq : ℕ
+  pub entry : HasEntry i seq
+  pub place : offset ≡ ring_pos (log_ring g) (item_at i seq).off
+  pub none : (parity snapshot bytes : List ℕ) → LogRecord g.block (rec_of seq (item_at i seq)) parity snapshot bytes
+      → RingHas (log_ring g) (item_at i seq).off bytes disks → ⊥
+
 -- A disk failed, and its count of faults rose, or a record isn't the one that was there.
 abbrev pub FailsLooking : Mounted → View → View → Denied → Type 0
 FailsLooking a old new (Refused why) = ⊥
 FailsLooking a old new LogFault = Rose (old.faults 0) (new.faults 0)
 FailsLooking a old new (MemberFault first second) = MemberFails a first second old new
-FailsLooking a old new (Damaged offset) = Unit {0}
+FailsLooking a old new (Damaged offset) = IsTrue old.tells → HasBadRecord a.g a.index old.now.disks offset
 FailsLooking a old new Stopped = ⊥
 
 -- the same, or an instant of a block that is there is refused
@@ -49,5 +62,5 @@ abbrev pub DeniesInstant : Mounted → View → View → Denied → Type 0
 DeniesInstant a old new (Refused why) = why ≢ NoBlock
 DeniesInstant a old new LogFault = Rose (old.faults 0) (new.faults 0)
 DeniesInstant a old new (MemberFault first second) = MemberFails a first second old new
-DeniesInstant a old new (Damaged offset) = Unit {0}
+DeniesInstant a old new (Damaged offset) = IsTrue old.tells → HasBadRecord a.g a.index old.now.disks offset
 DeniesInstant a old new Stopped = ⊥

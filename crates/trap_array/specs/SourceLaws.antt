@@ -3,9 +3,9 @@ use Rattle.std.proofs.Common.{◌≡◌, ◌+◌, IsTrue, sym, subst, ◌∙◌,
 use Rattle.trap_bank.specs.Disks.{Contents, View}
 use Rattle.trap_model.specs.declared.history.State.{State}
 use Rattle.trap_raid.specs.Reads.{OnlyReads}
-use Rattle.trap_raid.proofs.ReadLemmas.{only_reads_then, still_tells}
+use Rattle.trap_raid.proofs.ReadLemmas.{only_reads_none, only_reads_then, still_tells}
 use Rattle.trap_array.specs.Calls.{Mounted, StandsFor, going}
-use Rattle.trap_array.specs.Instants.{FailsLooking}
+use Rattle.trap_array.specs.Instants.{FailsLooking, HasBadRecord}
 use Rattle.trap_array.specs.Log.{Log}
 use Rattle.trap_array.specs.Sources.{CallCounts, LooksOn, LooksInVain}
 use Rattle.trap_array.specs.declared.fault.Denied.{Denied}
@@ -27,41 +27,30 @@ looks_then log same x y z a b c is first then =
 pub still_stands : (log : Log) (a b : View) (s : State) → OnlyReads a b → IsTrue a.tells → StandsFor (going log) s a.now.disks → StandsFor (going log) s b.now.disks
 still_stands log a b s reads told stands = subst (λ (c : Contents). StandsFor (going log) s c.disks) (sym (reads.same told)) stands
 
--- a fault since is one of the whole
-pub fails_since : (m : Mounted) (a b c : View) → OnlyReads a b → (e : Denied) → FailsLooking m b c e → FailsLooking m a c e
-fails_since m a b c reads (Refused why) fails = fails
-fails_since m a b c reads LogFault fails = omega (arith, fails, reads.moves.faults 0)
-fails_since m a b c reads (MemberFault first second) fails = record {
+-- a fault between is one of the whole
+fails_within : (m : Mounted) (a b c d : View) → OnlyReads a b → OnlyReads c d → (e : Denied) → FailsLooking m b c e → FailsLooking m a d e
+fails_within m a b c d before after (Refused why) fails = fails
+fails_within m a b c d before after LogFault fails = omega (arith, fails, before.moves.faults 0, after.moves.faults 0)
+fails_within m a b c d before after (MemberFault first second) fails = record {
   same = fails.same;
   inside = fails.inside;
   counts = fails.counts;
-  rose = omega (arith, fails.rose, reads.moves.faults (second + 1));
+  rose = omega (arith, fails.rose, before.moves.faults (second + 1), after.moves.faults (second + 1));
 }
-fails_since m a b c reads (Damaged offset) fails = fails
-fails_since m a b c reads Stopped fails = fails
-
-fails_still : (m : Mounted) (a b c : View) → OnlyReads b c → (e : Denied) → FailsLooking m a b e → FailsLooking m a c e
-fails_still m a b c reads (Refused why) fails = fails
-fails_still m a b c reads LogFault fails = omega (arith, fails, reads.moves.faults 0)
-fails_still m a b c reads (MemberFault first second) fails = record {
-  same = fails.same;
-  inside = fails.inside;
-  counts = fails.counts;
-  rose = omega (arith, fails.rose, reads.moves.faults (second + 1));
-}
-fails_still m a b c reads (Damaged offset) fails = fails
-fails_still m a b c reads Stopped fails = fails
+fails_within m a b c d before after (Damaged offset) fails = λ told.
+    subst (λ (x : Contents). HasBadRecord m.g m.index x.disks offset) (before.same told) (fails (still_tells a b before told))
+fails_within m a b c d before after Stopped fails = fails
 
 pub vain_since : (log same : Log) (x y : CallCounts) (a b c : View) (e : Denied) → log ≡ same → LooksOn log x y a b → LooksInVain same b c e → LooksInVain log a c e
 vain_since log same x y a b c e is looks then =
     let vain = subst (λ (l : Log). LooksInVain l b c e) (sym is) then in
     record {
-      fails = fails_since (going log) a b c looks.reads e vain.fails;
+      fails = fails_within (going log) a b c c looks.reads (only_reads_none c) e vain.fails;
       damaged = λ offset at told s stands. vain.damaged offset at (still_tells a b looks.reads told) s (still_stands log a b s looks.reads told stands);
     }
 
 pub vain_still : (log same : Log) (x y : CallCounts) (a b c : View) (e : Denied) → log ≡ same → LooksInVain log a b e → LooksOn same x y b c → LooksInVain log a c e
 vain_still log same x y a b c e is vain looks = record {
-  fails = fails_still (going log) a b c looks.reads e vain.fails;
+  fails = fails_within (going log) a a b c (only_reads_none a) looks.reads e vain.fails;
   damaged = vain.damaged;
 }

@@ -13,7 +13,7 @@ ghost use Rattle.trap_index.specs.Describes.{Describes};
 ghost use Rattle.trap_index.specs.Indexed.{IsLastBy};
 ghost use Rattle.trap_raid.specs.Reads.{OnlyReads};
 ghost use Rattle.trap_array.specs.Calls.{IsReady, StandsFor, AtReplies, MemberFails, is_fault, going};
-ghost use Rattle.trap_array.specs.Instants.{CanLookBack, DeniesInstant, number_refused, time_refused};
+ghost use Rattle.trap_array.specs.Instants.{CanLookBack, DeniesInstant, HasBadRecord, number_refused, time_refused};
 ghost use Rattle.trap_array.specs.Log.{AreFor};
 ghost use Rattle.trap_array.specs.Sources.{CallsAtMost, reads_back};
 ghost use Rattle.trap_array.specs.declared.fault.Denied.TheVariants as Denied;
@@ -56,7 +56,10 @@ impl Array {
         ensures member { (first second : ℕ) → IsErrOf result (Denied.MemberFault first second)
             → MemberFails self.old first second (B.view bank.old) (B.view bank.new) }
 
-        // A record that is read again is damaged only where the array stands for no state.
+        // A record that is read again is damaged only where none with the header that the array knows stands there, so
+        // never where the array stands for a state.
+        ensures bad { (offset : ℕ) → IsErrOf result (Denied.Damaged offset) → IsTrue (B.view bank.old).tells
+            → HasBadRecord self.old.g self.old.index (B.view bank.old).now.disks offset }
         ensures damaged { (offset : ℕ) → IsErrOf result (Denied.Damaged offset) → IsTrue (B.view bank.old).tells
             → (s : State) → Always (B.view bank.old) (StandsFor self.old s) → ⊥ }
 
@@ -100,6 +103,8 @@ impl Array {
         ensures log { IsErrOf result Denied.LogFault → Rose ((B.view bank.old).faults 0) ((B.view bank.new).faults 0) }
         ensures member { (first second : ℕ) → IsErrOf result (Denied.MemberFault first second)
             → MemberFails self.old first second (B.view bank.old) (B.view bank.new) }
+        ensures bad { (offset : ℕ) → IsErrOf result (Denied.Damaged offset) → IsTrue (B.view bank.old).tells
+            → HasBadRecord self.old.g self.old.index (B.view bank.old).now.disks offset }
         ensures damaged { (offset : ℕ) → IsErrOf result (Denied.Damaged offset) → IsTrue (B.view bank.old).tells
             → (s : State) → Always (B.view bank.old) (StandsFor self.old s) → ⊥ }
         ensures any_moment { Moves (B.view bank.old) (B.view bank.new) Same Same }

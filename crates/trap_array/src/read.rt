@@ -38,8 +38,7 @@ impl Array {
         ensures log { IsErrOf result Denied.LogFault → Rose ((B.view bank.old).faults 0) ((B.view bank.new).faults 0) }
         ensures member { (first second : ℕ) → IsErrOf result (Denied.MemberFault first second)
             → MemberFails self.old first second (B.view bank.old) (B.view bank.new) }
-        ensures damaged { (offset : ℕ) → IsErrOf result (Denied.Damaged offset) → IsTrue (B.view bank.old).tells
-            → (s : State) → Always (B.view bank.old) (StandsFor self.old s) → ⊥ }
+        ensures damaged { (offset : ℕ) → IsErrOf result (Denied.Damaged offset) → ⊥ }
 
         // Stopped at any moment, the disks are as they were.
         ensures any_moment { Moves (B.view bank.old) (B.view bank.new) Same Same }

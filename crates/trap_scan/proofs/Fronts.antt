@@ -107,7 +107,8 @@ none_short size bytes small short r parity snapshot first rest is parts =
     let other = Reads-again size r parity snapshot first rest Short small is (subst (λ (l : List ℕ). Reads size l Short) parts short) in
     cc
 
-snapshot_most : (size : ℕ) (snap : Bool) (len : ℕ) → SnapshotLength size snap len → len ≤ size + 7
+-- the second code isn't longer than the longest
+pub snapshot_most : (size : ℕ) (snap : Bool) (len : ℕ) → SnapshotLength size snap len → len ≤ size + 7
 snapshot_most size true len is = is.1
 snapshot_most size false len is = let none : len ≡ 0 = is in omega arith
 

@@ -1,9 +1,17 @@
 use Rattle.std.proofs.Common.{rules, ◌≡◌, false, sym, subst}
 use Rattle.trap_bank.specs.Steps.{Always}
 use Rattle.trap_bank.proofs.Moves.{read_is_left}
-use Rattle.trap_array.specs.Calls.{Mounted, StandsFor, IsReady}
+use Rattle.trap_array.specs.Calls.{Mounted, StandsFor, IsReady, going}
+use Rattle.trap_array.specs.Instants.{HasBadRecord}
+use Rattle.trap_array.proofs.Sources.{bad_by}
 use Rattle.trap_array.proofs.WriteSteps.{as_going, ready_still}
 use Rattle.trap_array.proofs.array.Array.at_time.Goals as goal
+
+pub returns-clause-bad : goal.returns-clause-bad
+returns-clause-bad g c offset is told =
+    let old = g.B.Bank.view c.args.bank.now in
+    let P : Mounted → Type 0 = λ (m : Mounted). HasBadRecord m.g m.index old.now.disks offset in
+    subst P c.self.view_is (bad_by (going c.self.inside.log) old (g.B.Bank.view c.read_by-answer.new.bank) c.read_by-answer.result offset c.read_by-answer.ensures.cause is told)
 
 pub returns-clause-damaged : goal.returns-clause-damaged
 returns-clause-damaged g c offset is told s always =

@@ -6,7 +6,7 @@ use Rattle.trap_record.specs.Reading.{IsWhole}
 use Rattle.trap_ring.specs.Ring.{RingPlace, RingHas}
 use Rattle.trap_array.specs.Holding.{log_ring}
 use Rattle.trap_array.specs.Log.{Log}
-use Rattle.trap_array.proofs.Sources.{not_short, is_whole, is_part}
+use Rattle.trap_array.proofs.Sources.{not_short, is_whole, is_part, bad_long, bad_other}
 use Rattle.trap_array.proofs.log.Log.part.Goals as goal
 
 pub returns-then-spelled-len-clause-damaged : goal.returns-then-spelled-len-clause-damaged
@@ -45,3 +45,21 @@ returns-clause-part g c told s stands =
     let there = subst (λ (r : RingPlace). RingHas r item.off c.read.new.buf disks) ring (c.in_ok-read.ensures.bytes told) in
     let block : length c.read_part.new.into ≡ log.g.block = search rules in
     is_part log s disks c.args.seq item stands c.requires.entry c.item-item.ensures.item c.item-item.ensures.time c.rec_of-rec.result c.read.new.buf c.requires.can.in_step.offset there long c.rec_of-rec.ensures c.args.part c.read_part.new.into block c.requires.marked (c.if-not-read_part.ensures.spelled refl)
+
+pub returns-then-spelled-len-clause-cause : goal.returns-then-spelled-len-clause-cause
+returns-then-spelled-len-clause-cause g c told =
+    let item = c.item-item.result in
+    let size = c.requires.spelled in
+    let less = c.if-spelled-len.true in
+    bad_long c.args.self.now (g.B.Bank.view c.args.bank.now).now.disks c.args.seq item c.requires.entry c.item-item.ensures.item c.on_disk.result c.on_disk.ensures (omega arith)
+
+pub returns-then-not-read_part-clause-cause : goal.returns-then-not-read_part-clause-cause
+returns-then-not-read_part-clause-cause g c told =
+    let disks = (g.B.Bank.view c.args.bank.now).now.disks in
+    let log = c.args.self.now in
+    let item = c.item-item.result in
+    let long : length c.read.new.buf ≡ 26 + item.plen + item.slen = search rules in
+    let ring : c.ring_of.result ≡ log_ring log.g = c.ring_of.ensures ∙ ap (λ (l : Log). log_ring l.g) c.self.view_is in
+    let there = subst (λ (r : RingPlace). RingHas r item.off c.read.new.buf disks) ring (c.in_ok-read.ensures.bytes told) in
+    bad_other log disks c.args.seq item c.requires.entry c.item-item.ensures.item c.on_disk.result c.on_disk.ensures c.rec_of-rec.result c.read.new.buf there long c.rec_of-rec.ensures
+    (λ whole. false≢true (c.if-not-read_part.ensures.whole.1 (subst (λ (n : ℕ). IsWhole n c.rec_of-rec.result (length c.read.new.buf) c.read.new.buf) (sym c.requires.into) whole)))
