@@ -27,7 +27,8 @@ use Rattle.trap_cli.specs.Ended.{last_line}
 use Rattle.trap_cli.specs.Stops.{held_store, SessionStops, BeginsTold, HasEnded}
 use Rattle.trap_cli.specs.Crash.{IsFaultFront, HoldsAfter, replies_given, SessionLeaves, LeftSaid, Leaves, LeavesBefore}
 use Rattle.trap_cli.proofs.Lines.{array_answers, given_fault}
-use Rattle.trap_cli.proofs.Stopping.{comes_gives, stops_held}
+use Rattle.trap_session.proofs.Arrays.{comes_gives}
+use Rattle.trap_cli.proofs.Stopping.{stops_held}
 use Rattle.trap_cli.proofs.Heads.{same_head_holds}
 
 pub no_front : IsFaultFront []

@@ -26,6 +26,7 @@ use Rattle.trap_cli.specs.Stops.{CreateStopped, IsUnfinished}
 use Rattle.trap_cli.specs.Crash.{IsFaultFront, CreateLeaves, Leaves, LeavesBefore}
 use Rattle.trap_array.specs.Beside.{StaysFrom}
 use Rattle.trap_cli.specs.Run.{Works, TouchesBelow}
+use Rattle.trap_cli.proofs.Heads.{members_same, members_absent}
 use Rattle.trap_cli.proofs.Lines.{not_created}
 
 -- the numbers that were asked for are those of one array
@@ -96,7 +97,7 @@ module _ (asked : Asked) (a : View) (lawful : IsLawful a) where
     touches = record { tells = refl; sizes = λ e beyond. refl; faults = λ e. omega arith; port_faults = omega arith };
     others = λ told e beyond. refl;
     unread = λ other. refl;
-    members = tt;
+    members = members_same a a (λ told. refl);
     steps = refused_steps a from (BadGeometry field) (nothing_done a (Quiet Same) (Quiet Same) (λ x was. record { disks = refl; said = refl }));
   }
 
@@ -123,7 +124,7 @@ module _ (asked : Asked) (a : View) (lawful : IsLawful a) where
       };
       others = λ told e beyond. ap (λ (c : Contents). c.disks e) (untouched.same told);
       unread = λ other. refl;
-      members = tt;
+      members = members_same a b (λ told. ap (λ (c : Contents). c.disks) (untouched.same told));
       steps = refused_steps b from (NotCreated (Exists d)) untouched.moves;
     }
 
@@ -180,7 +181,7 @@ module _ (asked : Asked) (a : View) (lawful : IsLawful a) where
         touches = touched moves.tells moves.faults moves.port_faults;
         others = λ told e beyond. others told e (omega (arith, g.within.members_most, beyond));
         unread = λ other. refl;
-        members = tt;
+        members = members_absent a b (λ told. lawful.sized told 0 ∙ none 0 (omega arith));
         steps = weaken a b (Quiet (Creates g)) (Quiet (Creates g)) (Leaves (command_create asked) a from) (LeavesBefore (last_line (NotCreated why)) (command_create asked) a from) moves
             (λ x y was step. record { part = []; said = step.said ∙ sym (append-nil x.said); leaves = making [] x y (Done, [], refl) step.disks })
             (λ x y was left step front rest is. record {
@@ -247,7 +248,7 @@ module _ (asked : Asked) (a : View) (lawful : IsLawful a) where
           touches = touched_end;
           others = others_end;
           unread = λ other. refl;
-          members = tt;
+          members = members_absent a c (λ told. lawful.sized told 0 ∙ none 0 (omega arith));
           steps = created_steps [];
         }
 
@@ -268,7 +269,7 @@ module _ (asked : Asked) (a : View) (lawful : IsLawful a) where
           touches = touched_end;
           others = others_end;
           unread = λ other. refl;
-          members = tt;
+          members = members_absent a c (λ told. lawful.sized told 0 ∙ none 0 (omega arith));
           steps = created_steps [];
         }
 

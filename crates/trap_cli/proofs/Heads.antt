@@ -1,7 +1,8 @@
 -- The heads by which disks hold states.
-use Rattle.std.proofs.Common.{◌≡◌, inl, inr, ⊎_elim, ℕ, ◌+◌, ◌≤◌, Some, refl, sym, subst, ◌∙◌, arith}
-use Rattle.trap_bank.specs.Disks.{Disks, View}
+use Rattle.std.proofs.Common.{◌≡◌, inl, inr, ⊎_elim, ℕ, ◌+◌, ◌≤◌, Some, None, IsTrue, refl, sym, ap, subst, ◌∙◌, arith}
+use Rattle.trap_bank.specs.Disks.{Disks, View, size_of}
 use Rattle.trap_format.specs.HeadValue.{head_value}
+use Rattle.trap_format.specs.LogDisk.{log_size}
 use Rattle.trap_format.specs.declared.head.Head.{Head}
 use Rattle.trap_format.proofs.Spellings.{heads_same}
 use Rattle.trap_model.specs.declared.numbers.Geometry.{Geometry}
@@ -9,7 +10,7 @@ use Rattle.trap_model.specs.declared.history.State.{State}
 use Rattle.trap_array.specs.Holding.{Holds, HoldsBy}
 use Rattle.trap_array.specs.Mounting.{Mounts, SameHead, FoundLost}
 use Rattle.trap_array.proofs.Puts.{put_in_cell, fits_put}
-use Rattle.trap_cli.specs.Run.{KeepsMembers}
+use Rattle.trap_cli.specs.Run.{KeepsMembers, MembersStay}
 use Rattle.trap_cli.proofs.Saying.{rose_later}
 
 -- there is one such head
@@ -51,3 +52,16 @@ keeps_like g h k l old new keeps lost rebuilt = record {
   lost = λ m is. keeps.lost m (sym lost ∙ is);
   mark = λ m was is lower. keeps.mark m was (sym lost ∙ is) (omega (arith, lower, rebuilt));
 }
+
+-- the members stay where no disk changed
+pub members_same : (old new : View) → (IsTrue old.tells → new.now.disks ≡ old.now.disks) → MembersStay old new
+members_same old new same g s t h k told was is =
+    let one = same_heads g h k s t old.now.disks was (subst (λ (disks : Disks). HoldsBy g k t disks) (same told) is) in
+    record {
+      lost = λ m lost. inl (ap (λ (h : Head). h.lost) one ∙ lost);
+      mark = λ m before after lower. absurd (omega (arith, ap (λ (h : Head). h.rebuilt) one, lower));
+    }
+
+-- and where no state was held
+pub members_absent : (old new : View) → (IsTrue old.tells → size_of (old.now.disks 0) ≡ None) → MembersStay old new
+members_absent old new absent g s t h k told was is = let both : None ≡ Some (log_size g) = sym (absent told) ∙ was.fits.log.size in absurd (cc both)

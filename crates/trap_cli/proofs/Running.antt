@@ -24,7 +24,8 @@ use Rattle.trap_cli.specs.Cause.{CauseOf, SessionCause, HistoryCause, CreateCaus
 use Rattle.trap_cli.specs.Stops.{StopsBefore}
 use Rattle.trap_cli.specs.Crash.{LeftBy, Leaves, LeavesBefore}
 use Rattle.trap_array.specs.Beside.{StaysFrom}
-use Rattle.trap_cli.specs.Run.{Works, Runs, Ends, Spoken, Refuses, TouchesBelow, MembersStay, MembersStayFor}
+use Rattle.trap_cli.specs.Run.{Works, Runs, Ends, Spoken, Refuses, TouchesBelow, MembersStay}
+use Rattle.trap_cli.proofs.Heads.{members_same}
 use Rattle.trap_cli.proofs.Words.{one_command}
 use Rattle.trap_cli.proofs.Saying.{rose_later, last_since, run_leaves}
 use Rattle.trap_cli.proofs.Crashing.{no_front, mount_leaves}
@@ -159,7 +160,7 @@ no_command a from = record {
   touches = record { tells = refl; sizes = λ e beyond. refl; faults = λ e. omega arith; port_faults = omega arith };
   others = λ told e beyond. refl;
   unread = λ other. refl;
-  members = tt;
+  members = members_same a a (λ told. refl);
   steps = nothing_done a (Leaves None a from) (LeavesBefore (last_line Usage) None a from)
       (λ x was front rest is. record { part = front; said = refl; leaves = ((Usage, rest, is), was.torn.disks) });
 }
@@ -175,13 +176,6 @@ members_stay old mid new same later stay g s t h k told was is =
           (λ rose. inl (rose_later (old.faults (m + 1)) (mid.faults (m + 1)) (new.faults (m + 1)) rose (later (m + 1)))) (λ other. inr other)
           (keeps.mark m before after lower);
     }
-
-members_later : (command : Option Command) (old mid new : View) (from : Stream) → (IsTrue old.tells → new.now.disks ≡ mid.now.disks)
-    → ((e : ℕ) → mid.faults e ≤ new.faults e) → MembersStayFor command old mid from → MembersStayFor command old new from
-members_later None old mid new from same later stay = stay
-members_later (Some Session) old mid new from same later stay = λ input left. members_stay old mid new same later (stay input left)
-members_later (Some History) old mid new from same later stay = members_stay old mid new same later stay
-members_later (Some (Create asked)) old mid new from same later stay = stay
 
 module _ (command : Option Command) (ended : Ended) (old mid new : View) (from to : Stream) (works : Works command ended old mid from to)
     (spoken : Spoken (last_line ended) mid new) where
@@ -206,8 +200,8 @@ module _ (command : Option Command) (ended : Ended) (old mid new : View) (from t
         record { part = last.part; rest = last.rest; whole = last.whole; said = last.said ∙ ap (λ (l : List ℕ). l ++ last.part) same; port = last.port };
   }
 
-  pub run_members : MembersStayFor command old new from
-  run_members = members_later command old mid new from (λ told. spoken.disks (told_mid told)) spoken.steps.faults works.members
+  pub run_members : MembersStay old new
+  run_members = members_stay old mid new (λ told. spoken.disks (told_mid told)) spoken.steps.faults works.members
 
   pub run_runs : (status : ℕ) → status ≡ status_of ended → Runs status command old new from to
   run_runs status is = record {

@@ -9,13 +9,13 @@ use Rattle.trap_model.specs.declared.numbers.Geometry.{Geometry}
 use Rattle.trap_model.specs.declared.history.State.{State}
 use Rattle.trap_array.specs.Beside.{StaysFrom}
 use Rattle.trap_array.specs.Holding.{Holds, HoldsBy}
-use Rattle.trap_array.specs.Calls.{Mounted, StandsFor, HoldsLike}
+use Rattle.trap_array.specs.Calls.{Mounted, StandsFor}
 use Rattle.trap_array.specs.Mounting.{Mounts, Refuses, MountFails, FoundLost, HasFound, IsNoLog, is_refusal}
 use Rattle.trap_array.specs.declared.fault.MountFault.{MountFault}
 use Rattle.trap_array.specs.declared.fault.MountFault.TheVariants.{NotAnArray}
 use Rattle.trap_array.specs.declared.fault.Denied.TheVariants as denied
 use Rattle.trap_session.specs.declared.outcome.SessionFault.TheVariants as serving
-use Rattle.trap_session.specs.Serving.{Serves}
+use Rattle.trap_session.specs.Serving.{Serves, HoldsStill}
 use Rattle.trap_cli.specs.declared.outcome.Ended.{Ended}
 use Rattle.trap_cli.specs.declared.outcome.Ended.TheVariants.{Done, Usage, BadGeometry, NotCreated, NotMounted, Stopped, Port, Memory}
 use Rattle.trap_cli.specs.Command.{command_session}
@@ -25,7 +25,7 @@ use Rattle.trap_cli.specs.Stops.{held_store, BeginsTold, SessionStops, HasEnded,
 use Rattle.trap_cli.specs.Run.{Works, MembersStay}
 use Rattle.trap_cli.proofs.Saying.{rose_since}
 use Rattle.trap_cli.proofs.Heads.{same_heads, mounted_holds, keeps_found, keeps_like}
-use Rattle.trap_cli.proofs.Stopping.{stops_held, stops_some}
+use Rattle.trap_cli.proofs.Stopping.{stops_held}
 use Rattle.trap_cli.proofs.Crashing.{unmounted_steps, session_steps}
 
 -- why a mounted session ended so is why the command did
@@ -94,7 +94,7 @@ module _ (a b : View) (from : Stream) (mounted : Moves a b (Mounts a) (Mounts a)
     };
     others = λ told e beyond. others told e (λ zero. absurd (omega (arith, beyond, zero)));
     unread = λ other. refl;
-    members = λ input left g s t h k told was is. keeps_found g h k a b b (lost g h k s t told was is) (λ e. omega arith);
+    members = λ g s t h k told was is. keeps_found g h k a b b (lost g h k s t told was is) (λ e. omega arith);
     steps = unmounted_steps a b from why mounted;
   }
 
@@ -104,7 +104,8 @@ module _ (a b : View) (from : Stream) (mounted : Moves a b (Mounts a) (Mounts a)
       (served : Steps b c (Serves array b from) (HasEnded array b ended from to))
       (by : EndsBy array ended b c from to)
       (same_sizes : (e : ℕ) → c.sizes e ≡ b.sizes e)
-      (beside : StaysFrom (array.g.members + 1) b c) where
+      (beside : StaysFrom (array.g.members + 1) b c)
+      (held : HoldsStill array b c) where
     told_mid : IsTrue a.tells → IsTrue b.tells
     told_mid told = subst IsTrue (sym mounted.tells) told
 
@@ -120,14 +121,13 @@ module _ (a b : View) (from : Stream) (mounted : Moves a b (Mounts a) (Mounts a)
         (came.was.torn.said ∙ (contents begins.tells).said) (came.by s known.1 input begins.left)
 
     -- the lost member at the end
-    members_now : (input : List ℕ) → from.left ≡ Some input → MembersStay a c
-    members_now input left g s t h k told was is =
+    members_now : MembersStay a c
+    members_now g s t h k told was is =
         let known = stands g s told (record { head = h; by = was }) in
         let mid = (known.1 b.now (read_is_left b (told_mid told))).by in
         let by_mid = subst (λ (g : Geometry). HoldsBy g array.head s b.now.disks) known.0 mid in
         let keeps = keeps_found g h array.head a b c (lost g h array.head s s told was by_mid) served.faults in
-        let came = served.now c.now (read_is_left c (told_end told)) in
-        let some = stops_some array.g (λ disks t. HoldsLike array.g array.head t disks) ended s input came.origin c.now from to (came.by s known.1 input left) in
+        let some = held (told_mid told) s known.1 in
         let same = same_heads g k some.1.head t some.0 c.now.disks is (subst (λ (g : Geometry). HoldsBy g some.1.head some.0 c.now.disks) known.0 some.1.by) in
         keeps_like g h array.head k a c keeps (ap (λ (h : Head). h.lost) same ∙ some.1.lost) (ap (λ (h : Head). h.rebuilt) same ∙ some.1.rebuilt)
 
@@ -160,3 +160,6 @@ memory_steps array v from = nothing_done v (Serves array v from) (HasEnded array
   said = sym (append-nil x.said);
   holds = record { head = array.head; by = (stands x was).by; lost = refl; rebuilt = refl };
 })
+
+pub memory_held : (array : Mounted) (v : View) → HoldsStill array v v
+memory_held array v told s stands = (s, record { head = array.head; by = (stands v.now (read_is_left v told)).by; lost = refl; rebuilt = refl })

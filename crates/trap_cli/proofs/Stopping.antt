@@ -9,30 +9,13 @@ use Rattle.trap_script.specs.Lines.{lines}
 use Rattle.trap_script.specs.Walk.{first_texts, all_texts}
 use Rattle.trap_array.specs.Holding.{Holds}
 use Rattle.trap_array.specs.Calls.{Mounted, HoldsLike}
-use Rattle.trap_array.specs.declared.fault.Denied.{Denied}
-use Rattle.trap_array.specs.declared.fault.Denied.TheVariants as denied
 use Rattle.trap_session.specs.declared.outcome.SessionFault.TheVariants as serving
-use Rattle.trap_session.specs.Store.{array_store, ComesWith}
+use Rattle.trap_session.specs.Store.{array_store}
+use Rattle.trap_session.proofs.Arrays.{comes_also}
 use Rattle.trap_session.specs.Serving.{StopsAfter, StopsTorn}
 use Rattle.trap_cli.specs.declared.outcome.Ended.{Ended}
 use Rattle.trap_cli.specs.declared.outcome.Ended.TheVariants.{Done, Usage, BadGeometry, NotCreated, NotMounted, Stopped, Port, Memory}
 use Rattle.trap_cli.specs.Stops.{store_of, held_store, SessionStops}
-
--- what a fault of the array comes with, it comes with
-pub comes_gives : {claim : Type 0} (why : Denied) → ComesWith why claim → claim
-comes_gives (denied.Refused why) comes = comes
-comes_gives denied.LogFault comes = comes
-comes_gives (denied.MemberFault first second) comes = comes
-comes_gives (denied.Damaged offset) comes = absurd comes
-comes_gives denied.Stopped comes = comes
-
--- and what follows from it
-pub comes_too : {claim other : Type 0} (why : Denied) → (claim → other) → ComesWith why claim → ComesWith why other
-comes_too (denied.Refused why) f comes = f comes
-comes_too denied.LogFault f comes = f comes
-comes_too (denied.MemberFault first second) f comes = f comes
-comes_too (denied.Damaged offset) f comes = comes
-comes_too denied.Stopped f comes = f comes
 
 module _ (g : Geometry) (has also : Disks → State → Type 0) (f : (disks : Disks) (t : State) → has disks t → also disks t)
     (s : State) (input : List ℕ) (x x' y : Contents) (same : x.said ≡ x'.said) where
@@ -64,7 +47,7 @@ module _ (g : Geometry) (has also : Disks → State → Type 0) (f : (disks : Di
   stops_by (BadGeometry field) from to stops = absurd stops
   stops_by (NotCreated why) from to stops = absurd stops
   stops_by (NotMounted why) from to stops = (stops.0, after_by 0 stops.1)
-  stops_by (Stopped (serving.Array why)) from to stops = comes_too why torn_by stops
+  stops_by (Stopped (serving.Array why)) from to stops = comes_also why (StopsTorn (store_of g has) s input x y) (StopsTorn (store_of g also) s input x' y) torn_by stops
   stops_by (Stopped serving.ReadFault) from to stops = after_by _ stops
   stops_by (Stopped serving.WriteFault) from to stops = record {
     part = stops.part;
@@ -76,21 +59,6 @@ module _ (g : Geometry) (has also : Disks → State → Type 0) (f : (disks : Di
   stops_by (Stopped serving.TooLong) from to stops = after_by _ stops
   stops_by Port from to stops = absurd stops
   stops_by Memory from to stops = after_by 0 stops
-
--- some state is held then
-pub stops_some : (g : Geometry) (has : Disks → State → Type 0) (ended : Ended) (s : State) (input : List ℕ) (x y : Contents) (from to : Stream)
-    → SessionStops (store_of g has) ended s input x y from to → (t : State) × has y.disks t
-stops_some g has Done s input x y from to stops = (_, stops.holds)
-stops_some g has Usage s input x y from to stops = absurd stops
-stops_some g has (BadGeometry field) s input x y from to stops = absurd stops
-stops_some g has (NotCreated why) s input x y from to stops = absurd stops
-stops_some g has (NotMounted why) s input x y from to stops = (_, stops.1.holds)
-stops_some g has (Stopped (serving.Array why)) s input x y from to stops = ⊎_elim (λ holds. (_, holds)) (λ holds. (_, holds)) (comes_gives why stops).torn
-stops_some g has (Stopped serving.ReadFault) s input x y from to stops = (_, stops.holds)
-stops_some g has (Stopped serving.WriteFault) s input x y from to stops = ⊎_elim (λ holds. (_, holds)) (λ holds. (_, holds)) stops.holds
-stops_some g has (Stopped serving.TooLong) s input x y from to stops = (_, stops.holds)
-stops_some g has Port s input x y from to stops = absurd stops
-stops_some g has Memory s input x y from to stops = (_, stops.holds)
 
 -- what a mounted array's session holds, the disks hold
 pub stops_held : (array : Mounted) (g : Geometry) (ended : Ended) (s : State) (input : List ℕ) (x x' y : Contents) (from to : Stream) → array.g ≡ g

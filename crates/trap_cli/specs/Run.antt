@@ -70,13 +70,6 @@ abbrev pub MembersStay : View → View → Type 0
 MembersStay old new = (g : Geometry) (s t : State) (h k : Head) → IsTrue old.tells
     → HoldsBy g h s old.now.disks → HoldsBy g k t new.now.disks → KeepsMembers g h k old new
 
--- so it is for what mounts; for `session` where the source tells too
-abbrev pub MembersStayFor : Option Command → View → View → Stream → Type 0
-MembersStayFor None old new from = Unit {0}
-MembersStayFor (Some Session) old new from = (input : List ℕ) → from.left ≡ Some input → MembersStay old new
-MembersStayFor (Some History) old new from = MembersStay old new
-MembersStayFor (Some (Create asked)) old new from = Unit {0}
-
 -- the refusals that are decided by what was asked and by sizes alone
 abbrev pub IsRefusedFirst : Option Command → Ended → View → Type 0
 IsRefusedFirst None ended old = Unit {0}
@@ -96,7 +89,7 @@ pub record Works (command : Option Command) (ended : Ended) (old new : View) (fr
   pub touches : TouchesBelow 17 old new
   pub others : StaysFrom 17 old new
   pub unread : (command ≡ Some Session → ⊥) → to ≡ from
-  pub members : MembersStayFor command old new from
+  pub members : MembersStay old new
   pub steps : Steps old new (Leaves command old from) (LeavesBefore (last_line ended) command old from)
 
 -- the command stopped so, and then the last line was said

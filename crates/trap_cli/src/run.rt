@@ -7,7 +7,7 @@ ghost use Rattle.trap_cli.specs.declared.command.Command.{Command};
 ghost use Rattle.trap_cli.specs.Ended.{last_line};
 ghost use Rattle.trap_cli.specs.Crash.{LeftBy};
 ghost use Rattle.trap_array.specs.Beside.{StaysFrom};
-ghost use Rattle.trap_cli.specs.Run.{Spoken, Works, TouchesBelow, MembersStayFor, Runs};
+ghost use Rattle.trap_cli.specs.Run.{Spoken, Works, TouchesBelow, MembersStay, Runs};
 
 use crate::command::{Command, read_command};
 use crate::creating::run_create;
@@ -84,9 +84,8 @@ pub fn run<B: Bank, S: Source, T: Turns>(
     ensures others { StaysFrom 17 (B.view bank.old) (B.view bank.new) }
     ensures turns { _turns.new ≡ _turns.old }
 
-    // What mounts an array records a member lost only where its disk is absent.
-    ensures members { (command : Option Command) → IsCommand command words.now
-        → MembersStayFor command (B.view bank.old) (B.view bank.new) (S.stream source.old) }
+    // A member that wasn't recorded lost on entry is so only where its disk was absent.
+    ensures members { MembersStay (B.view bank.old) (B.view bank.new) }
 
     // What a crash at any moment of the run leaves.
     ensures any_moment { (command : Option Command) → IsCommand command words.now

@@ -52,6 +52,24 @@ comes_also (MemberFault first second) P Q also p = also p
 comes_also (Damaged offset) P Q also p = absurd p
 comes_also Stopped P Q also p = also p
 
+-- and where it comes at all, it is so
+pub comes_gives : {claim : Type 0} (denied : Denied) → ComesWith denied claim → claim
+comes_gives (Refused why) comes = comes
+comes_gives LogFault comes = comes
+comes_gives (MemberFault first second) comes = comes
+comes_gives (Damaged offset) comes = absurd comes
+comes_gives Stopped comes = comes
+
+-- whatever a line's answer is, the disks hold a state behind it
+pub served_some : (a : Mounted) (result : Result Next SessionFault) (s : State) (asked : Request) (x y : Contents)
+    → Served (array_store a) result s asked x y → (t : State) × HoldsLike a.g a.head t y.disks
+served_some a (Ok More) s asked x y served = (_, served.holds)
+served_some a (Ok Quit) s asked x y served = (_, served.holds)
+served_some a (Err (Array denied)) s asked x y served = ⊎_elim (λ holds. (_, holds)) (λ holds. (_, holds)) (comes_gives denied served).torn
+served_some a (Err WriteFault) s asked x y served = (_, served.holds)
+served_some a (Err ReadFault) s asked x y served = absurd served
+served_some a (Err TooLong) s asked x y served = absurd served
+
 pub goes_nowhere : (a : Mounted) → GoesOn a a
 goes_nowhere a = record { g = refl; lost = refl; rebuilt = refl }
 

@@ -2,6 +2,6 @@ mod FormLemmas
 mod Replying
 mod Walking
 mod Stopping
-mod Arrays
+pub mod Arrays
 mod Quits
 mod Running

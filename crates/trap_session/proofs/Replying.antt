@@ -20,12 +20,13 @@ use Rattle.trap_script.specs.Lines.{goes_on}
 use Rattle.trap_script.specs.Replies.{reply_text}
 use Rattle.trap_array.specs.Holding.{HoldsBy}
 use Rattle.trap_array.specs.Beside.{StaysFrom}
+use Rattle.trap_array.specs.Instants.{HasBadRecord}
 use Rattle.trap_array.specs.Calls.{Mounted, WriteReplies, ReadReplies, AtReplies, is_fault, MemberFails, StandsFor, HoldsLike, IsReady, GoesOn, MayTurn, HasTurned}
 use Rattle.trap_array.specs.declared.fault.Denied.{Denied}
 use Rattle.trap_array.specs.declared.fault.Denied.TheVariants.{Refused, LogFault, MemberFault, Damaged, Stopped}
 use Rattle.trap_array.proofs.Beside.{stays_none, stays_same, stays_then}
 use Rattle.trap_array.proofs.Sizes.{sizes_still}
-use Rattle.trap_session.specs.Store.{Store, array_store, ComesWith, Replied, CutShort, Struck, StandsForNone, HasRisen}
+use Rattle.trap_session.specs.Store.{Store, array_store, ComesWith, Replied, CutShort, Struck, StandsForNone, HasRisen, NamesBad}
 use Rattle.trap_session.specs.Denying.{EndsSession}
 use Rattle.trap_session.specs.Answers.{Answers, HasAnswered, StandsOn, AsksBlock, AnswersLine}
 use Rattle.trap_session.specs.declared.outcome.Next.{Next}
@@ -102,6 +103,31 @@ rose_port : (a : Mounted) (v u w : View) (result : Result Next SessionFault) →
 rose_port a v u w (Ok next) later rose is = rose
 rose_port a v u w (Err fault) later rose is = subst (λ f. HasRisen a f v w) (sym is) (omega (arith, later, rose))
 
+-- such a fault names no record
+names_port : (a : Mounted) (w : View) (result : Result Next SessionFault) → IfErr result (λ fault. fault ≡ WriteFault) → IfErr result (λ fault. NamesBad a fault w)
+names_port a w (Ok next) is = is
+names_port a w (Err fault) is = subst (λ f. NamesBad a f w) (sym is) tt
+
+-- nor does a call that finds none damaged
+names_none : (a : Mounted) (w : View) (denied : Denied) → ((offset : ℕ) → denied ≡ Damaged offset → ⊥) → NamesBad a (Array denied) w
+names_none a w (Refused why) never = tt
+names_none a w LogFault never = tt
+names_none a w (MemberFault first second) never = tt
+names_none a w (Damaged offset) never = absurd (never offset refl)
+names_none a w Stopped never = tt
+
+-- and one that changes nothing but whether the array is stopped names the one that it found
+names_same : (a b : Mounted) (v u : View) (stopped : Bool) → b ≡ record a { is_stopped = stopped } → u.tells ≡ v.tells → (IsTrue v.tells → u.now ≡ v.now) → (denied : Denied)
+    → ((offset : ℕ) → denied ≡ Damaged offset → IsTrue v.tells → HasBadRecord a.g a.index v.now.disks offset) → NamesBad b (Array denied) u
+names_same a b v u stopped same tells alike (Refused why) bad = tt
+names_same a b v u stopped same tells alike LogFault bad = tt
+names_same a b v u stopped same tells alike (MemberFault first second) bad = tt
+names_same a b v u stopped same tells alike (Damaged offset) bad = λ told.
+    let told_before = subst IsTrue tells told in
+    subst (λ (m : Mounted). HasBadRecord m.g m.index u.now.disks offset) (sym same)
+    (subst (λ (x : Contents). HasBadRecord a.g a.index x.disks offset) (sym (alike told_before)) (bad offset refl told_before))
+names_same a b v u stopped same tells alike Stopped bad = tt
+
 -- no disk changes while a piece is said
 stays_said : (d : ℕ) (u w : View) → (IsTrue u.tells → w.now.disks ≡ u.now.disks) → StaysFrom d u w
 stays_said d u w same told e above = ap (λ (disks : Disks). disks e) (same told)
@@ -126,6 +152,7 @@ line_replied a b v u w asked reply result is done stands sizes others ready alik
   ready = ready_as b u w call.sizes (λ has. always_said u w result (reply_text reply) has call) ready;
   goes_on = goes_on;
   cause = rose_port a v u w result done.port_faults call.cause err;
+  bad = names_port b w result err;
   sizes = λ e. call.sizes e ∙ sizes e;
   others = stays_then (a.g.members + 1) v u w done.tells others (stays_said (a.g.members + 1) u w call.disks);
 }
@@ -225,9 +252,9 @@ same_denied is = cc is
 -- One line in which a disk failed.
 pub line_struck : (a b : Mounted) (v u : View) (asked : Request) (denied : Denied)
     → Steps v u (Answers a v asked) (HasAnswered a v (Err (Array denied)) asked)
-    → ((e : ℕ) → u.sizes e ≡ v.sizes e) → StaysFrom (a.g.members + 1) v u → IsReady b u → GoesOn a b → HasRisen a (Array denied) v u → (denied ≡ Stopped) ↔ (AsksBlock a.g asked × (a.is_stopped ≡ true))
+    → ((e : ℕ) → u.sizes e ≡ v.sizes e) → StaysFrom (a.g.members + 1) v u → IsReady b u → GoesOn a b → HasRisen a (Array denied) v u → NamesBad b (Array denied) u → (denied ≡ Stopped) ↔ (AsksBlock a.g asked × (a.is_stopped ≡ true))
     → AnswersLine a b (Err (Array denied)) asked v u
-line_struck a b v u asked denied steps sizes others ready goes risen exact = record {
+line_struck a b v u asked denied steps sizes others ready goes risen names exact = record {
   steps = steps;
   stands = tt;
   stopped = tt;
@@ -235,6 +262,7 @@ line_struck a b v u asked denied steps sizes others ready goes risen exact = rec
   ready = ready;
   goes_on = goes;
   cause = risen;
+  bad = names;
   sizes = sizes;
   others = others;
 }
@@ -259,11 +287,11 @@ write_replied a b v u w time block bytes fresh same reply result is moves sizes 
 -- a write in which a disk failed
 pub write_struck : (a b : Mounted) (v u : View) (time block : ℕ) (bytes fresh : List ℕ) → bytes ≡ fresh → (denied : Denied)
     → Moves v u (MayTurn a v (λ s. (step a.g).next s (Write time block bytes))) (MayTurn a v (λ s. (step a.g).next s (Write time block bytes)))
-    → ((e : ℕ) → u.sizes e ≡ v.sizes e) → StaysFrom (a.g.members + 1) v u → IsReady b u → GoesOn a b → HasRisen a (Array denied) v u → (denied ≡ Stopped) ↔ ((block < volume a.g) × (a.is_stopped ≡ true))
+    → ((e : ℕ) → u.sizes e ≡ v.sizes e) → StaysFrom (a.g.members + 1) v u → IsReady b u → GoesOn a b → HasRisen a (Array denied) v u → ((offset : ℕ) → denied ≡ Damaged offset → ⊥) → (denied ≡ Stopped) ↔ ((block < volume a.g) × (a.is_stopped ≡ true))
     → AnswersLine a b (Err (Array denied)) (Write time block fresh) v u
-write_struck a b v u time block bytes fresh same denied moves sizes others ready goes risen exact =
+write_struck a b v u time block bytes fresh same denied moves sizes others ready goes risen never exact =
     subst (λ l. AnswersLine a b (Err (Array denied)) (Write time block l) v u) same
-    (line_struck a b v u (Write time block bytes) denied (turned_struck a v u (Write time block bytes) refl denied risen moves) sizes others ready goes risen exact)
+    (line_struck a b v u (Write time block bytes) denied (turned_struck a v u (Write time block bytes) refl denied risen moves) sizes others ready goes risen (names_none b u denied never) exact)
 
 -- a call that changes nothing of the array but perhaps whether it is stopped
 pub same_goes : (a b : Mounted) (stopped : Bool) → b ≡ record a { is_stopped = stopped } → GoesOn a b
@@ -282,10 +310,12 @@ same_replied a b v u w asked more still stopped same is_same reply result is mov
 
 -- a request that changes no state, in which the array failed
 pub same_failed : (a b : Mounted) (v u : View) (asked : Request) → goes_on asked ≡ true → (stopped : Bool) → b ≡ record a { is_stopped = stopped } → (denied : Denied)
-    → Moves v u Same Same → ((e : ℕ) → u.sizes e ≡ v.sizes e) → (IsTrue v.tells → u.now ≡ v.now) → IsReady b u → HasRisen a (Array denied) v u → (denied ≡ Stopped) ↔ (AsksBlock a.g asked × (a.is_stopped ≡ true))
+    → Moves v u Same Same → ((e : ℕ) → u.sizes e ≡ v.sizes e) → (IsTrue v.tells → u.now ≡ v.now) → IsReady b u → HasRisen a (Array denied) v u
+    → ((offset : ℕ) → denied ≡ Damaged offset → IsTrue v.tells → HasBadRecord a.g a.index v.now.disks offset) → (denied ≡ Stopped) ↔ (AsksBlock a.g asked × (a.is_stopped ≡ true))
     → AnswersLine a b (Err (Array denied)) asked v u
-same_failed a b v u asked more stopped same denied moves sizes alike ready risen exact =
-    line_struck a b v u asked denied (same_struck a v u asked more moves denied risen) sizes (stays_same (a.g.members + 1) v u alike) ready (same_goes a b stopped same) risen exact
+same_failed a b v u asked more stopped same denied moves sizes alike ready risen bad exact =
+    line_struck a b v u asked denied (same_struck a v u asked more moves denied risen) sizes (stays_same (a.g.members + 1) v u alike) ready (same_goes a b stopped same) risen
+    (names_same a b v u stopped same moves.tells alike denied bad) exact
 
 -- no call at all
 pub no_call : (v : View) → Moves v v Same Same
@@ -301,6 +331,7 @@ line_quits a v ready = record {
   ready = ready;
   goes_on = record { g = refl; lost = refl; rebuilt = refl };
   cause = tt;
+  bad = tt;
   sizes = λ e. refl;
   others = stays_none (a.g.members + 1) v;
 }

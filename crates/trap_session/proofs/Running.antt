@@ -4,7 +4,7 @@ use Rattle.trap_bank.specs.Disks.{Contents, View}
 use Rattle.trap_bank.specs.Calls.{MayLeave}
 use Rattle.trap_bank.specs.Steps.{Steps, Always}
 use Rattle.trap_bank.specs.Stream.{Stream}
-use Rattle.trap_bank.proofs.Moves.{then_, weaken, nothing_done}
+use Rattle.trap_bank.proofs.Moves.{then_, weaken, nothing_done, read_is_left}
 use Rattle.trap_model.specs.ArrayStep.{step}
 use Rattle.trap_model.specs.declared.numbers.Geometry.{Geometry}
 use Rattle.trap_model.specs.declared.history.State.{State}
@@ -14,15 +14,15 @@ use Rattle.trap_array.specs.Calls.{Mounted, StandsFor, GoesOn}
 use Rattle.trap_array.specs.declared.fault.Denied.TheVariants.{Refused, LogFault, MemberFault, Damaged, Stopped}
 use Rattle.trap_session.specs.Store.{array_store, Answering, Served, StandsForNone, HasRisen}
 use Rattle.trap_session.specs.Answers.{Answers, HasAnswered, AnswersLine}
-use Rattle.trap_session.specs.Serving.{Serves, HasStopped, StopsAs, StopsBy, StopsAtPort}
+use Rattle.trap_session.specs.Serving.{Serves, HasStopped, StopsAs, StopsBy, StopsAtPort, HoldsStill}
 use Rattle.trap_session.specs.declared.outcome.Next.{Next}
 use Rattle.trap_session.specs.declared.outcome.Next.TheVariants.{More, Quit}
 use Rattle.trap_session.specs.declared.outcome.Ended.{Ended}
 use Rattle.trap_session.specs.declared.outcome.SessionFault.{SessionFault}
 use Rattle.trap_session.specs.declared.outcome.SessionFault.TheVariants.{Array, ReadFault, WriteFault, TooLong}
 use Rattle.trap_session.proofs.Walking.{Walked, walk_start}
-use Rattle.trap_session.proofs.Replying.{holds_own, not_both}
-use Rattle.trap_session.proofs.Arrays.{array_answers, array_torn, answering_first, served_first, risen_first, goes_then}
+use Rattle.trap_session.proofs.Replying.{holds_own, holds_on, not_both}
+use Rattle.trap_session.proofs.Arrays.{array_answers, array_torn, answering_first, served_first, served_some, risen_first, goes_then}
 use Rattle.trap_session.proofs.Stopping.{part_line, more_line, more_state, quit_line, fault_line, part_last, done_last, fault_last}
 
 -- The lines so far were answered, and the array's state turned so.
@@ -54,6 +54,13 @@ module _ (a : Mounted) (v : View) (from : Stream) where
     none_first : StandsForNone b w → StandsForNone a v
     none_first none told s stands = none (subst IsTrue (sym steps.tells) told) (turn s) (turns s stands)
 
+    told_now : IsTrue v.tells → IsTrue w.tells
+    told_now told = subst IsTrue (sym steps.tells) told
+
+    -- so far the disks hold a state
+    pub held_so_far : HoldsStill a v w
+    held_so_far told s stands = (turn s, holds_on a b (turn s) w.now.disks goes (turns s stands w.now (read_is_left w (told_now told))))
+
     -- it stops without another call
     pub run_ends : (result : Result Ended SessionFault) (to : Stream)
         → ((s : State) (input : List ℕ) → from.left ≡ Some input → (x y : Contents) → Walked (array_store a) s input passed x y → StopsAs (array_store a) result s input x y from to)
@@ -80,6 +87,12 @@ module _ (a : Mounted) (v : View) (from : Stream) where
 
       pub risen : b.is_stopped ≡ false → (fault : SessionFault) → next ≡ Err fault → HasRisen a fault v u
       risen going fault is = risen_first a b goes v w u steps.faults steps.port_faults none_first (λ stopped. absurd (not_both b.is_stopped going stopped)) fault (subst (λ r. IfErr r (λ f. HasRisen b f w u)) is answers.cause)
+
+      -- and behind another line
+      pub held_behind : HoldsStill a v u
+      held_behind told s stands =
+          let came = asked_first.steps.now u.now (read_is_left u (subst IsTrue (sym asked_first.steps.tells) (told_now told))) in
+          served_some a next (turn s) (request_of a.g.block line) came.origin u.now (served_now s stands came.origin u.now came.by)
 
       -- after another line, whatever it does
       after_line : (After : Contents → Contents → Type 0)

@@ -11,7 +11,7 @@ use Rattle.trap_model.specs.declared.request.Request.TheVariants.{Write, Read, A
 use Rattle.trap_array.specs.Beside.{StaysFrom}
 use Rattle.trap_array.specs.Calls.{Mounted, IsReady, GoesOn, StandsFor}
 use Rattle.trap_array.specs.declared.fault.Denied.TheVariants.{Stopped}
-use Rattle.trap_session.specs.Store.{array_store, Served, Answering, HasRisen}
+use Rattle.trap_session.specs.Store.{array_store, Served, Answering, HasRisen, NamesBad}
 use Rattle.trap_session.specs.declared.outcome.Next.{Next}
 use Rattle.trap_session.specs.declared.outcome.SessionFault.{SessionFault}
 use Rattle.trap_session.specs.declared.outcome.SessionFault.TheVariants.{Array}
@@ -51,5 +51,6 @@ pub record AnswersLine (a b : Mounted) (result : Result Next SessionFault) (aske
   pub ready : IsReady b new
   pub goes_on : GoesOn a b
   pub cause : IfErr result (λ fault. HasRisen a fault old new)
+  pub bad : IfErr result (λ fault. NamesBad b fault new)
   pub sizes : (e : ℕ) → new.sizes e ≡ old.sizes e
   pub others : StaysFrom (a.g.members + 1) old new

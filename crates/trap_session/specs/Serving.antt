@@ -1,5 +1,5 @@
 -- How a session stops, and what a crash leaves while it goes on.
-use Rattle.std.specs.Prelude.{◌≡◌, ◌⊎◌, ℕ, ◌+◌, ◌-◌, ◌^◌, List, [], ◌∷◌, ◌++◌, length, take, drop, Some, true, false, Result, Ok, Err}
+use Rattle.std.specs.Prelude.{◌≡◌, ◌⊎◌, ℕ, ◌+◌, ◌-◌, ◌^◌, List, [], ◌∷◌, ◌++◌, length, take, drop, Some, true, false, IsTrue, Result, Ok, Err}
 use Rattle.std.specs.Io.KnownBytes.{Consumes}
 use Rattle.trap_bank.specs.Faults.{Rose}
 use Rattle.trap_bank.specs.Disks.{Contents, View}
@@ -9,7 +9,7 @@ use Rattle.trap_script.specs.Lines.{lines, line_feeds, request_of, goes_on, HasN
 use Rattle.trap_script.specs.Walk.{state_after, first_texts, Answered, AnsweredAll, AnsweredPart}
 use Rattle.trap_bank.specs.Steps.{Always}
 use Rattle.trap_model.specs.declared.history.State.{State}
-use Rattle.trap_array.specs.Calls.{Mounted, StandsFor}
+use Rattle.trap_array.specs.Calls.{Mounted, StandsFor, HoldsLike}
 use Rattle.trap_array.specs.declared.fault.Denied.TheVariants.{Stopped}
 use Rattle.trap_session.specs.Store.{Store, array_store, ComesWith, HasRisen}
 use Rattle.trap_session.specs.declared.outcome.Ended.{Ended}
@@ -103,3 +103,8 @@ Serves a v from old new = (s : State) → Always v (StandsFor a s) → (input : 
 abbrev pub HasStopped : Mounted → View → Result Ended SessionFault → Stream → Stream → Contents → Contents → Type 0
 HasStopped a v result from to old new = (s : State) → Always v (StandsFor a s) → (input : List ℕ) → from.left ≡ Some input
     → StopsAs (array_store a) result s input old new from to
+
+-- At its end, whether the input is known or not: where the array stood for a state on entry, the disks hold one, by a head
+-- that names the same lost member.
+abbrev pub HoldsStill : Mounted → View → View → Type 0
+HoldsStill a old new = IsTrue old.tells → (s : State) → Always old (StandsFor a s) → (t : State) × HoldsLike a.g a.head t new.now.disks

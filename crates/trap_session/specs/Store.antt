@@ -11,6 +11,7 @@ use Rattle.trap_script.specs.Replies.{reply_text}
 use Rattle.trap_model.specs.ArrayStep.{step}
 use Rattle.trap_model.specs.declared.history.State.{State}
 use Rattle.trap_array.specs.Calls.{Mounted, HoldsLike, MemberFails, StandsFor}
+use Rattle.trap_array.specs.Instants.{HasBadRecord}
 use Rattle.trap_array.specs.declared.fault.Denied.{Denied}
 use Rattle.trap_array.specs.declared.fault.Denied.TheVariants.{Refused, LogFault, MemberFault, Damaged, Stopped}
 use Rattle.trap_session.specs.declared.outcome.Next.{Next}
@@ -105,3 +106,14 @@ HasRisen a (Array Stopped) old new = a.is_stopped ≡ true
 HasRisen a WriteFault old new = Rose old.port_faults new.port_faults
 HasRisen a ReadFault old new = ⊥
 HasRisen a TooLong old new = ⊥
+
+-- A record that was read again and is damaged: none with the header that the array knows stands where it should.
+abbrev pub NamesBad : Mounted → SessionFault → View → Type 0
+NamesBad a (Array (Refused why)) v = Unit {0}
+NamesBad a (Array LogFault) v = Unit {0}
+NamesBad a (Array (MemberFault first second)) v = Unit {0}
+NamesBad a (Array (Damaged offset)) v = IsTrue v.tells → HasBadRecord a.g a.index v.now.disks offset
+NamesBad a (Array Stopped) v = Unit {0}
+NamesBad a ReadFault v = Unit {0}
+NamesBad a WriteFault v = Unit {0}
+NamesBad a TooLong v = Unit {0}

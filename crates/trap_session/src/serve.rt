@@ -1,11 +1,12 @@
 //! The loop of a session over its lines.
 
-ghost use Rattle.std.specs.Prelude.{◌≡◌, ◌+◌, ◌*◌, ◌^◌, ◌≤◌, ℕ, [], false};
+ghost use Rattle.std.specs.Prelude.{◌≡◌, ◌+◌, ◌*◌, ◌^◌, ◌≤◌, ℕ, [], false, IfErr};
 ghost use Rattle.trap_bank.specs.Steps.{Steps};
 ghost use Rattle.trap_lines.specs.Reader.{pending, taken, room};
 ghost use Rattle.trap_array.specs.Beside.{StaysFrom};
 ghost use Rattle.trap_array.specs.Calls.{IsReady};
-ghost use Rattle.trap_session.specs.Serving.{Serves, HasStopped, StopsBy, HadNoQuit};
+ghost use Rattle.trap_session.specs.Store.{NamesBad};
+ghost use Rattle.trap_session.specs.Serving.{Serves, HasStopped, StopsBy, HadNoQuit, HoldsStill};
 
 use crate::buffers::Buffers;
 use crate::{Ended, Next, SessionFault};
@@ -33,7 +34,9 @@ pub fn serve<B: Bank, S: Source>(
         (HasStopped array.old (B.view bank.old) result (S.stream source.old) (S.stream source.new)) }
     ensures cause { StopsBy array.old result (B.view bank.old) (B.view bank.new)
         (S.stream source.old) (S.stream source.new) }
+    ensures bad { IfErr result (λ fault. NamesBad array.new fault (B.view bank.new)) }
     ensures no_quit { result ≡ Ok Ended.Input → HadNoQuit array.old.g.block (S.stream source.old) }
+    ensures held { HoldsStill array.old (B.view bank.old) (B.view bank.new) }
     ensures sizes { (e : ℕ) → (B.view bank.new).sizes e ≡ (B.view bank.old).sizes e }
     ensures others { StaysFrom (array.old.g.members + 1) (B.view bank.old) (B.view bank.new) }
 {

@@ -1,12 +1,13 @@
 //! A session over a mounted array.
 
-ghost use Rattle.std.specs.Prelude.{◌≡◌, ◌+◌, ◌*◌, ◌^◌, ◌≤◌, ◌↔◌, [], ℕ, IsTrue, IfOk, false};
+ghost use Rattle.std.specs.Prelude.{◌≡◌, ◌+◌, ◌*◌, ◌^◌, ◌≤◌, ◌↔◌, [], ℕ, IsTrue, IfOk, IfErr, false};
 ghost use Rattle.trap_bank.specs.Steps.{Steps};
 ghost use Rattle.trap_script.specs.Lines.{request_of, goes_on};
 ghost use Rattle.trap_array.specs.Beside.{StaysFrom};
 ghost use Rattle.trap_array.specs.Calls.{IsReady};
 ghost use Rattle.trap_session.specs.Answers.{AnswersLine};
-ghost use Rattle.trap_session.specs.Serving.{Serves, HasStopped, StopsBy, HadNoQuit};
+ghost use Rattle.trap_session.specs.Store.{NamesBad};
+ghost use Rattle.trap_session.specs.Serving.{Serves, HasStopped, StopsBy, HadNoQuit, HoldsStill};
 
 use crate::buffers::Buffers;
 use crate::serve::serve;
@@ -83,7 +84,9 @@ impl Session {
             (HasStopped array.old (B.view bank.old) result (S.stream source.old) (S.stream source.new)) }
         ensures cause { StopsBy array.old result (B.view bank.old) (B.view bank.new)
             (S.stream source.old) (S.stream source.new) }
+        ensures bad { IfErr result (λ fault. NamesBad array.new fault (B.view bank.new)) }
         ensures no_quit { result ≡ Ok Ended.Input → HadNoQuit array.old.g.block (S.stream source.old) }
+        ensures held { HoldsStill array.old (B.view bank.old) (B.view bank.new) }
         ensures sizes { (e : ℕ) → (B.view bank.new).sizes e ≡ (B.view bank.old).sizes e }
         ensures others { StaysFrom (array.old.g.members + 1) (B.view bank.old) (B.view bank.new) }
     {

@@ -1,7 +1,7 @@
 use Rattle.std.proofs.Common.{Option, subst}
 use Rattle.trap_cli.specs.declared.command.Command.{Command}
 use Rattle.trap_cli.specs.Crash.{LeftBy}
-use Rattle.trap_cli.specs.Run.{Runs, MembersStayFor}
+use Rattle.trap_cli.specs.Run.{Runs}
 use Rattle.trap_cli.proofs.Words.{one_command}
 use Rattle.trap_cli.proofs.Running.{run_runs, run_touches, run_others, run_members, run_crash, usage_exact}
 use Rattle.trap_cli.proofs.run.run.Goals as goal
@@ -37,13 +37,11 @@ returns-clause-others g c =
     c.work-ended.ensures.works c.say_last.ensures.spoken
 
 pub returns-clause-members : goal.returns-clause-members
-returns-clause-members g c command is =
+returns-clause-members g c =
     let view = g.B.Bank.view in
     let stream = g.S.Source.stream in
-    subst (λ (command : Option Command). MembersStayFor command (view c.args.bank.now) (view c.say_last.new.bank) (stream c.args.source.now))
-    (one_command c.args.words.now c.read_command-command.result command c.read_command-command.ensures is)
-    (run_members c.read_command-command.result c.work-ended.result (view c.args.bank.now) (view c.work-ended.new.bank) (view c.say_last.new.bank) (stream c.args.source.now) (stream c.work-ended.new.source)
-    c.work-ended.ensures.works c.say_last.ensures.spoken)
+    run_members c.read_command-command.result c.work-ended.result (view c.args.bank.now) (view c.work-ended.new.bank) (view c.say_last.new.bank) (stream c.args.source.now) (stream c.work-ended.new.source)
+    c.work-ended.ensures.works c.say_last.ensures.spoken
 
 pub returns-clause-any_moment : goal.returns-clause-any_moment
 returns-clause-any_moment g c command is =

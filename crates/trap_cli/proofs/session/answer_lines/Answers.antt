@@ -1,5 +1,8 @@
-use Rattle.trap_cli.proofs.Sessions.{memory_steps}
+use Rattle.trap_cli.proofs.Sessions.{memory_steps, memory_held}
 use Rattle.trap_cli.proofs.session.answer_lines.Goals as goal
 
 pub returns-in_default-clause-steps : goal.returns-in_default-clause-steps
 returns-in_default-clause-steps g c = memory_steps c.args.array (g.B.Bank.view c.args.bank.now) (g.S.Source.stream c.args.source.now)
+
+pub returns-in_default-clause-held : goal.returns-in_default-clause-held
+returns-in_default-clause-held g c = memory_held c.args.array (g.B.Bank.view c.args.bank.now)

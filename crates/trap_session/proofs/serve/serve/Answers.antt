@@ -1,21 +1,24 @@
-use Rattle.std.proofs.Common.{◌≡◌, inl, ℕ, ◌+◌, ◌<◌, List, [], ◌∷◌, ◌++◌, length, Some, true, false, Ok, Err, refl, sym, ap, subst, ◌∙◌, arith}
+use Rattle.std.proofs.Common.{◌≡◌, inl, ℕ, ◌+◌, ◌<◌, List, [], ◌∷◌, ◌++◌, length, Some, true, false, Result, Ok, Err, IfErr, refl, sym, ap, subst, ◌∙◌, arith}
 use Rattle.std.proofs.lemmas.List.Elements.{All-nil}
 use Rattle.trap_lines.specs.Reader.{to_come, Finds, FindsNone}
 use Rattle.trap_lines.proofs.Passing.{passes_nothing, passes_trans}
+use Rattle.trap_session.specs.declared.outcome.SessionFault.{SessionFault}
 use Rattle.trap_session.specs.declared.outcome.SessionFault.TheVariants.{ReadFault, TooLong}
+use Rattle.trap_session.specs.declared.outcome.Next.{Next}
+use Rattle.trap_session.specs.declared.outcome.Ended.{Ended}
 use Rattle.trap_session.specs.declared.outcome.Ended.TheVariants as ended
 use Rattle.trap_bank.specs.Steps.{Steps}
 use Rattle.trap_model.specs.ArrayStep.{step}
 use Rattle.trap_model.specs.declared.numbers.Geometry.{Geometry}
 use Rattle.trap_script.specs.Lines.{request_of, goes_on, is_line_feed}
 use Rattle.trap_array.proofs.Beside.{stays_none, both_stay}
-use Rattle.trap_session.specs.Store.{array_store}
+use Rattle.trap_session.specs.Store.{array_store, NamesBad}
 use Rattle.trap_session.specs.Serving.{Serves, HasStopped, StopsBy}
 use Rattle.trap_session.proofs.Arrays.{goes_nowhere, goes_then}
 use Rattle.trap_session.proofs.Stopping.{line_at, last_line, stops_reading, stops_end, consumed, one_more_line, took_quit}
 use Rattle.trap_session.proofs.Replying.{err_is}
 use Rattle.trap_session.proofs.Quits.{ahead_start, ahead_on, ends_unquit, more_goes}
-use Rattle.trap_session.proofs.Running.{run_begins, run_ends, line_more, line_turns, line_quit, line_fault, last_done, last_fault, risen, fault_stops, on_ok}
+use Rattle.trap_session.proofs.Running.{run_begins, run_ends, held_so_far, held_behind, line_more, line_turns, line_quit, line_fault, last_done, last_fault, risen, fault_stops, on_ok}
 use Rattle.trap_session.proofs.serve.serve.Goals as goal
 
 pub lines-init : goal.lines-init
@@ -203,6 +206,91 @@ returns-in-Ok-Last-clause-no_quit g c is input left =
     (consumed c.args.reader.now c.lines.reader (stream c.args.source.now) (stream c.lines.source) c.requires.none input left inv.0 inv.1) (inv.9 input left)
     (last_line c.args.reader.now c.lines.reader (stream c.args.source.now) (stream c.lines.source) c.requires.none input left inv.0 inv.1
     r' (stream c.next.new.source) found.0 found.2 found.4.0) found.1.no_feed
+
+pub returns-in-Err-Source-clause-held : goal.returns-in-Err-Source-clause-held
+returns-in-Err-Source-clause-held g c =
+    let view = g.B.Bank.view in
+    let stream = g.S.Source.stream in
+    let inv = c.lines.invariant in
+    held_so_far c.args.array.now (view c.args.bank.now) (stream c.args.source.now) c.lines.array (view c.lines.bank) inv.0 inv.10.0 inv.5 inv.10.1 inv.10.2
+
+pub returns-in-Err-TooLong-clause-held : goal.returns-in-Err-TooLong-clause-held
+returns-in-Err-TooLong-clause-held g c =
+    let view = g.B.Bank.view in
+    let stream = g.S.Source.stream in
+    let inv = c.lines.invariant in
+    held_so_far c.args.array.now (view c.args.bank.now) (stream c.args.source.now) c.lines.array (view c.lines.bank) inv.0 inv.10.0 inv.5 inv.10.1 inv.10.2
+
+pub returns-in-Ok-End-clause-held : goal.returns-in-Ok-End-clause-held
+returns-in-Ok-End-clause-held g c =
+    let view = g.B.Bank.view in
+    let stream = g.S.Source.stream in
+    let inv = c.lines.invariant in
+    held_so_far c.args.array.now (view c.args.bank.now) (stream c.args.source.now) c.lines.array (view c.lines.bank) inv.0 inv.10.0 inv.5 inv.10.1 inv.10.2
+
+pub returns-in_err-answer_found-in-Ok-Last-clause-held : goal.returns-in_err-answer_found-in-Ok-Last-clause-held
+returns-in_err-answer_found-in-Ok-Last-clause-held g c =
+    let view = g.B.Bank.view in
+    let stream = g.S.Source.stream in
+    let inv = c.lines.invariant in
+    let r' = c.next.new.self in
+    let found = subst (λ f. Finds f c.lines.reader r' (stream c.lines.source) (stream c.next.new.source)) c.in-Ok-Last.field-0-is c.in-Ok-Last.ensures.found in
+    held_behind c.args.array.now (view c.args.bank.now) (stream c.args.source.now) c.lines.array (view c.lines.bank) inv.0 inv.10.0 inv.5 inv.10.1 inv.10.2
+    c.answer_found.new.array (view c.answer_found.new.bank) found.0 found.1.no_feed c.answer_found.result (c.answer_found.ensures.answers found.0 found.1)
+
+pub returns-in_err-answer_found-in-Ok-Line-clause-held : goal.returns-in_err-answer_found-in-Ok-Line-clause-held
+returns-in_err-answer_found-in-Ok-Line-clause-held g c =
+    let view = g.B.Bank.view in
+    let stream = g.S.Source.stream in
+    let inv = c.lines.invariant in
+    let r' = c.next.new.self in
+    let found = subst (λ f. Finds f c.lines.reader r' (stream c.lines.source) (stream c.next.new.source)) c.in-Ok-Line.field-0-is c.in-Ok-Line.ensures.found in
+    held_behind c.args.array.now (view c.args.bank.now) (stream c.args.source.now) c.lines.array (view c.lines.bank) inv.0 inv.10.0 inv.5 inv.10.1 inv.10.2
+    c.answer_found-in-Ok-Line.new.array (view c.answer_found-in-Ok-Line.new.bank) found.0 found.1.no_feed c.answer_found-in-Ok-Line.result (c.answer_found-in-Ok-Line.ensures.answers found.0 found.1)
+
+pub returns-in-Ok-Last-clause-held : goal.returns-in-Ok-Last-clause-held
+returns-in-Ok-Last-clause-held g c =
+    let view = g.B.Bank.view in
+    let stream = g.S.Source.stream in
+    let inv = c.lines.invariant in
+    let r' = c.next.new.self in
+    let found = subst (λ f. Finds f c.lines.reader r' (stream c.lines.source) (stream c.next.new.source)) c.in-Ok-Last.field-0-is c.in-Ok-Last.ensures.found in
+    held_behind c.args.array.now (view c.args.bank.now) (stream c.args.source.now) c.lines.array (view c.lines.bank) inv.0 inv.10.0 inv.5 inv.10.1 inv.10.2
+    c.answer_found.new.array (view c.answer_found.new.bank) found.0 found.1.no_feed c.answer_found.result (c.answer_found.ensures.answers found.0 found.1)
+
+pub returns-in-Quit-clause-held : goal.returns-in-Quit-clause-held
+returns-in-Quit-clause-held g c =
+    let view = g.B.Bank.view in
+    let stream = g.S.Source.stream in
+    let inv = c.lines.invariant in
+    let r' = c.next.new.self in
+    let found = subst (λ f. Finds f c.lines.reader r' (stream c.lines.source) (stream c.next.new.source)) c.in-Ok-Line.field-0-is c.in-Ok-Line.ensures.found in
+    held_behind c.args.array.now (view c.args.bank.now) (stream c.args.source.now) c.lines.array (view c.lines.bank) inv.0 inv.10.0 inv.5 inv.10.1 inv.10.2
+    c.answer_found-in-Ok-Line.new.array (view c.answer_found-in-Ok-Line.new.bank) found.0 found.1.no_feed c.answer_found-in-Ok-Line.result (c.answer_found-in-Ok-Line.ensures.answers found.0 found.1)
+
+pub returns-in_err-answer_found-in-Ok-Last-clause-bad : goal.returns-in_err-answer_found-in-Ok-Last-clause-bad
+returns-in_err-answer_found-in-Ok-Last-clause-bad g c =
+    let view = g.B.Bank.view in
+    let stream = g.S.Source.stream in
+    let r' = c.next.new.self in
+    let found = subst (λ f. Finds f c.lines.reader r' (stream c.lines.source) (stream c.next.new.source)) c.in-Ok-Last.field-0-is c.in-Ok-Last.ensures.found in
+    let fault = c.in_err-answer_found-in-Ok-Last.field-0.0 in
+    subst (λ (r : Result Ended SessionFault). IfErr r (λ f. NamesBad c.answer_found.new.array f (view c.answer_found.new.bank)))
+    (sym (err_is c.from_residual.result fault c.from_residual.ensures))
+    (subst (λ (r : Result Next SessionFault). IfErr r (λ f. NamesBad c.answer_found.new.array f (view c.answer_found.new.bank))) c.in_err-answer_found-in-Ok-Last.was
+    (c.answer_found.ensures.answers found.0 found.1).bad)
+
+pub returns-in_err-answer_found-in-Ok-Line-clause-bad : goal.returns-in_err-answer_found-in-Ok-Line-clause-bad
+returns-in_err-answer_found-in-Ok-Line-clause-bad g c =
+    let view = g.B.Bank.view in
+    let stream = g.S.Source.stream in
+    let r' = c.next.new.self in
+    let found = subst (λ f. Finds f c.lines.reader r' (stream c.lines.source) (stream c.next.new.source)) c.in-Ok-Line.field-0-is c.in-Ok-Line.ensures.found in
+    let fault = c.in_err-answer_found-in-Ok-Line.field-0.0 in
+    subst (λ (r : Result Ended SessionFault). IfErr r (λ f. NamesBad c.answer_found-in-Ok-Line.new.array f (view c.answer_found-in-Ok-Line.new.bank)))
+    (sym (err_is c.from_residual-in_err-answer_found-in-Ok-Line.result fault c.from_residual-in_err-answer_found-in-Ok-Line.ensures))
+    (subst (λ (r : Result Next SessionFault). IfErr r (λ f. NamesBad c.answer_found-in-Ok-Line.new.array f (view c.answer_found-in-Ok-Line.new.bank))) c.in_err-answer_found-in-Ok-Line.was
+    (c.answer_found-in-Ok-Line.ensures.answers found.0 found.1).bad)
 
 pub returns-in_err-answer_found-in-Ok-Last-clause-others : goal.returns-in_err-answer_found-in-Ok-Last-clause-others
 returns-in_err-answer_found-in-Ok-Last-clause-others g c =

@@ -40,4 +40,5 @@ returns-in_err-why-in-Err-clause-answers g c =
     (same_failed c.args.array.now c.at_seq.new.self (view c.args.bank.now) (view c.at_seq.new.bank) (At c.args.seq c.args.block) refl _ done.same denied done.any_moment done.sizes done.contents done.ready
     (risen_of c.args.array.now (view c.args.bank.now) (view c.at_seq.new.bank) c.at_seq.result done.log done.member done.damaged (λ is. (done.stopped.0 is).1)
     denied c.in-Err.is ended.1)
+    (λ offset same told. done.bad offset (c.in-Err.is ∙ ap Err same) told)
     (denied_as c.at_seq.result denied c.in-Err.is done.stopped))

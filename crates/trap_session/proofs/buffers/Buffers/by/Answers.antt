@@ -40,4 +40,5 @@ returns-in_err-why-in-Err-clause-answers g c =
     (same_failed c.args.array.now c.at_time.new.self (view c.args.bank.now) (view c.at_time.new.bank) (By c.args.time c.args.block) refl _ done.same denied done.any_moment done.sizes done.contents done.ready
     (risen_of c.args.array.now (view c.args.bank.now) (view c.at_time.new.bank) c.at_time.result done.log done.member done.damaged (λ is. (done.stopped.0 is).1)
     denied c.in-Err.is ended.1)
+    (λ offset same told. done.bad offset (c.in-Err.is ∙ ap Err same) told)
     (denied_as c.at_time.result denied c.in-Err.is done.stopped))

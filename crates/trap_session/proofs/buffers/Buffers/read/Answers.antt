@@ -38,6 +38,7 @@ returns-in_err-why-in-Err-clause-answers g c =
     line_ended c.args.array.now c.read.new.self (view c.args.bank.now) (view c.read.new.bank) (Read c.args.block) denied c.from_residual.result c.in_err-why-in-Err.field-0.0
     c.from_residual.ensures ended.0
     (same_failed c.args.array.now c.read.new.self (view c.args.bank.now) (view c.read.new.bank) (Read c.args.block) refl _ done.same denied done.any_moment done.sizes done.contents done.ready
-    (risen_of c.args.array.now (view c.args.bank.now) (view c.read.new.bank) c.read.result done.log done.member done.damaged (λ is. (done.stopped.0 is).1)
+    (risen_of c.args.array.now (view c.args.bank.now) (view c.read.new.bank) c.read.result done.log done.member (λ offset is. absurd (done.damaged offset is)) (λ is. (done.stopped.0 is).1)
     denied c.in-Err.is ended.1)
+    (λ offset same told. absurd (done.damaged offset (c.in-Err.is ∙ ap Err same)))
     (denied_as c.read.result denied c.in-Err.is done.stopped))

@@ -37,6 +37,7 @@ returns-in_err-why-in-Err-clause-answers g c =
     c.from_residual.ensures ended.0
     (write_struck c.args.array.now c.write.new.self (view c.args.bank.now) (view c.write.new.bank) c.args.time c.args.block
     c.as_slice.result.now _ c.as_slice.ensures.value denied done.any_moment done.sizes done.others done.ready done.goes_on
-    (risen_of c.args.array.now (view c.args.bank.now) (view c.write.new.bank) c.write.result done.log done.member done.damaged (λ is. (done.stopped.0 is).1)
+    (risen_of c.args.array.now (view c.args.bank.now) (view c.write.new.bank) c.write.result done.log done.member (λ offset is. absurd (done.damaged offset is)) (λ is. (done.stopped.0 is).1)
     denied c.in-Err.is ended.1)
+    (λ offset same. done.damaged offset (c.in-Err.is ∙ ap Err same))
     (denied_as c.write.result denied c.in-Err.is done.stopped))
