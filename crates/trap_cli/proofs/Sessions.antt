@@ -1,5 +1,5 @@
 -- All but the last line of `session`.
-use Rattle.std.proofs.Common.{◌≡◌, ◌≢◌, inl, inr, ⊎_elim, ℕ, ◌+◌, ◌≤◌, List, Some, true, false, IsTrue, sym, ap, subst, ◌∙◌, append-nil, arith, refl}
+use Rattle.std.proofs.Common.{◌≡◌, ◌≢◌, inl, inr, ⊎_elim, ℕ, ◌+◌, ◌≤◌, List, true, false, IsTrue, sym, ap, subst, ◌∙◌, append-nil, arith, refl}
 use Rattle.trap_bank.specs.Disks.{View, Quiet}
 use Rattle.trap_bank.specs.Steps.{Steps, Moves, Always}
 use Rattle.trap_bank.specs.Stream.{Stream}
