@@ -1,9 +1,9 @@
 -- What the calls of a mounted array do.
-use Rattle.std.specs.Prelude.{◌≡◌, ◌⊎◌, ℕ, ◌+◌, ◌<◌, List, Option, Bool, true, false, Result, Ok, Err}
+use Rattle.std.specs.Prelude.{◌≡◌, ◌⊎◌, ℕ, ◌+◌, ◌<◌, List, Option, Bool, true, false, IsTrue, Result, Ok, Err}
 use Rattle.trap_bank.specs.Disks.{Disks, View}
 use Rattle.trap_bank.specs.Calls.{Fits}
 use Rattle.trap_bank.specs.Faults.{Rose}
-use Rattle.trap_bank.specs.Steps.{Always}
+use Rattle.trap_bank.specs.Steps.{Moves, Always}
 use Rattle.trap_cell.specs.Slots.{Slots, Stands}
 use Rattle.trap_format.specs.LogDisk.{log_size}
 use Rattle.trap_format.specs.MemberDisk.{member_size}
@@ -127,3 +127,10 @@ AtReplies (Err LogFault) bytes reply = Unit {0}
 AtReplies (Err (MemberFault first second)) bytes reply = Unit {0}
 AtReplies (Err (Damaged offset)) bytes reply = Unit {0}
 AtReplies (Err Stopped) bytes reply = Unit {0}
+
+-- What a write did: its answer is this reply to the state that the array stood for, and after it the array stands for the
+-- next state. Stopped at any moment, the disks hold the one or the other.
+pub record TakesStep (a b : Mounted) (next : State → State) (replies : State → Reply) (result : Result ℕ Denied) (old new : View) : Type 0 where
+  pub reply : IsTrue old.tells → (s : State) → Always old (StandsFor a s) → WriteReplies result (replies s)
+  pub turned : IsTrue (is_done result) → Moves old new (MayTurn a old next) (HasTurned a b old next)
+  pub any_moment : Moves old new (MayTurn a old next) (MayTurn a old next)

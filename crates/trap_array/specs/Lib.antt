@@ -3,6 +3,7 @@ pub mod Log
 pub mod NextHead
 pub mod Beside
 pub mod Calls
+pub mod Causes
 pub mod Ready
 pub mod Turning
 pub mod Gone

@@ -1,18 +1,17 @@
 //! Reads of earlier instants.
 
-ghost use Rattle.std.specs.Prelude.{◌≡◌, ◌↔◌, ◌≤◌, ◌<◌, ℕ, ◌+◌, length, IsTrue, IsErrOf, IfErr, true, ◌||◌};
-ghost use Rattle.trap_bank.specs.Faults.{Rose};
-ghost use Rattle.trap_bank.specs.Steps.{Moves, Same, Always};
+ghost use Rattle.std.specs.Prelude.{◌≡◌, ◌≤◌, ◌<◌, ℕ, length, IsTrue, IsErrOf, IfErr, ◌||◌};
+ghost use Rattle.trap_bank.specs.Steps.{Always};
 ghost use Rattle.trap_model.specs.ArrayStep.{step};
 ghost use Rattle.trap_model.specs.Image.{volume};
 ghost use Rattle.trap_model.specs.State.{image_at, image_by};
 ghost use Rattle.trap_model.specs.declared.history.State.{State};
 ghost use Rattle.trap_model.specs.declared.request.Request.TheVariants as request;
-ghost use Rattle.trap_model.specs.declared.request.Refusal.TheVariants as refusal;
 ghost use Rattle.trap_index.specs.Describes.{Describes};
 ghost use Rattle.trap_index.specs.Indexed.{IsLastBy};
 ghost use Rattle.trap_raid.specs.Reads.{OnlyReads};
-ghost use Rattle.trap_array.specs.Calls.{IsReady, StandsFor, AtReplies, MemberFails, is_fault, going};
+ghost use Rattle.trap_array.specs.Calls.{IsReady, StandsFor, AtReplies, is_fault, going};
+ghost use Rattle.trap_array.specs.Causes.{DeniedBy};
 ghost use Rattle.trap_array.specs.Instants.{CanLookBack, DeniesInstant, HasBadRecord, number_refused, time_refused};
 ghost use Rattle.trap_array.specs.Log.{AreFor};
 ghost use Rattle.trap_array.specs.Sources.{CallsAtMost, reads_back};
@@ -46,15 +45,7 @@ impl Array {
             (B.view bank.old) (B.view bank.new) }
         ensures ready { IsReady self.new (B.view bank.new) }
         ensures same { self.new ≡ record self.old { is_stopped = self.old.is_stopped || is_fault result } }
-        ensures contents { IsTrue (B.view bank.old).tells → (B.view bank.new).now ≡ (B.view bank.old).now }
-        ensures sizes { (e : ℕ) → (B.view bank.new).sizes e ≡ (B.view bank.old).sizes e }
-
-        // A block that isn't there is refused first. Then a stopped array does nothing, and a fault stops the array.
-        ensures no_block { IsErrOf result (Denied.Refused refusal.NoBlock) ↔ (volume self.old.g ≤ block) }
-        ensures stopped { IsErrOf result Denied.Stopped ↔ ((block < volume self.old.g) × (self.old.is_stopped ≡ true)) }
-        ensures log { IsErrOf result Denied.LogFault → Rose ((B.view bank.old).faults 0) ((B.view bank.new).faults 0) }
-        ensures member { (first second : ℕ) → IsErrOf result (Denied.MemberFault first second)
-            → MemberFails self.old first second (B.view bank.old) (B.view bank.new) }
+        ensures causes { DeniedBy self.old block result (B.view bank.old) (B.view bank.new) }
 
         // A record that is read again is damaged only where none with the header that the array knows stands there, so
         // never where the array stands for a state.
@@ -64,7 +55,7 @@ impl Array {
             → (s : State) → Always (B.view bank.old) (StandsFor self.old s) → ⊥ }
 
         // Stopped at any moment, the disks are as they were.
-        ensures any_moment { Moves (B.view bank.old) (B.view bank.new) Same Same }
+        ensures any_moment { OnlyReads (B.view bank.old) (B.view bank.new) }
     {
         if block >= volume_of(&self.log.g) {
             return Err(Denied::Refused(Refusal::NoBlock));
@@ -96,18 +87,12 @@ impl Array {
             (reads_back self.old.g self.old.head.lost self.old.index block seq) (B.view bank.old) (B.view bank.new) }
         ensures ready { IsReady self.new (B.view bank.new) }
         ensures same { self.new ≡ record self.old { is_stopped = self.old.is_stopped || is_fault result } }
-        ensures contents { IsTrue (B.view bank.old).tells → (B.view bank.new).now ≡ (B.view bank.old).now }
-        ensures sizes { (e : ℕ) → (B.view bank.new).sizes e ≡ (B.view bank.old).sizes e }
-        ensures no_block { IsErrOf result (Denied.Refused refusal.NoBlock) ↔ (volume self.old.g ≤ block) }
-        ensures stopped { IsErrOf result Denied.Stopped ↔ ((block < volume self.old.g) × (self.old.is_stopped ≡ true)) }
-        ensures log { IsErrOf result Denied.LogFault → Rose ((B.view bank.old).faults 0) ((B.view bank.new).faults 0) }
-        ensures member { (first second : ℕ) → IsErrOf result (Denied.MemberFault first second)
-            → MemberFails self.old first second (B.view bank.old) (B.view bank.new) }
+        ensures causes { DeniedBy self.old block result (B.view bank.old) (B.view bank.new) }
         ensures bad { (offset : ℕ) → IsErrOf result (Denied.Damaged offset) → IsTrue (B.view bank.old).tells
             → HasBadRecord self.old.g self.old.index (B.view bank.old).now.disks offset }
         ensures damaged { (offset : ℕ) → IsErrOf result (Denied.Damaged offset) → IsTrue (B.view bank.old).tells
             → (s : State) → Always (B.view bank.old) (StandsFor self.old s) → ⊥ }
-        ensures any_moment { Moves (B.view bank.old) (B.view bank.new) Same Same }
+        ensures any_moment { OnlyReads (B.view bank.old) (B.view bank.new) }
     {
         if block >= volume_of(&self.log.g) {
             return Err(Denied::Refused(Refusal::NoBlock));

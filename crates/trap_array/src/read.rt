@@ -1,15 +1,15 @@
 //! A read of one block.
 
-ghost use Rattle.std.specs.Prelude.{◌≡◌, ◌↔◌, ◌≤◌, ◌<◌, ℕ, ◌+◌, length, IsTrue, IsErrOf, true, false, ◌||◌};
-ghost use Rattle.trap_bank.specs.Faults.{Rose};
-ghost use Rattle.trap_bank.specs.Steps.{Moves, Same, Always};
+ghost use Rattle.std.specs.Prelude.{◌≡◌, ◌<◌, ℕ, length, IsTrue, IsErrOf, ◌||◌};
+ghost use Rattle.trap_bank.specs.Steps.{Always};
 ghost use Rattle.trap_model.specs.ArrayStep.{step};
 ghost use Rattle.trap_model.specs.Image.{volume};
 ghost use Rattle.trap_model.specs.declared.history.State.{State};
 ghost use Rattle.trap_model.specs.declared.request.Request.TheVariants as request;
-ghost use Rattle.trap_model.specs.declared.request.Refusal.TheVariants as refusal;
 ghost use Rattle.trap_array.specs.Sources.{CallsAtMost, present_reads};
-ghost use Rattle.trap_array.specs.Calls.{IsReady, StandsFor, ReadReplies, MemberFails, is_fault};
+ghost use Rattle.trap_raid.specs.Reads.{OnlyReads};
+ghost use Rattle.trap_array.specs.Calls.{IsReady, StandsFor, ReadReplies, is_fault};
+ghost use Rattle.trap_array.specs.Causes.{DeniedBy};
 
 use crate::planning::volume_of;
 use crate::{Array, Denied};
@@ -29,19 +29,11 @@ impl Array {
         ensures calls { CallsAtMost (present_reads self.old.g self.old.head.lost) (B.view bank.old) (B.view bank.new) }
         ensures ready { IsReady self.new (B.view bank.new) }
         ensures same { self.new ≡ record self.old { is_stopped = self.old.is_stopped || is_fault result } }
-        ensures contents { IsTrue (B.view bank.old).tells → (B.view bank.new).now ≡ (B.view bank.old).now }
-        ensures sizes { (e : ℕ) → (B.view bank.new).sizes e ≡ (B.view bank.old).sizes e }
-
-        // A block that isn't there is refused first. Then a stopped array does nothing, and a fault stops the array.
-        ensures no_block { IsErrOf result (Denied.Refused refusal.NoBlock) ↔ (volume self.old.g ≤ block) }
-        ensures stopped { IsErrOf result Denied.Stopped ↔ ((block < volume self.old.g) × (self.old.is_stopped ≡ true)) }
-        ensures log { IsErrOf result Denied.LogFault → Rose ((B.view bank.old).faults 0) ((B.view bank.new).faults 0) }
-        ensures member { (first second : ℕ) → IsErrOf result (Denied.MemberFault first second)
-            → MemberFails self.old first second (B.view bank.old) (B.view bank.new) }
+        ensures causes { DeniedBy self.old block result (B.view bank.old) (B.view bank.new) }
         ensures damaged { (offset : ℕ) → IsErrOf result (Denied.Damaged offset) → ⊥ }
 
         // Stopped at any moment, the disks are as they were.
-        ensures any_moment { Moves (B.view bank.old) (B.view bank.new) Same Same }
+        ensures any_moment { OnlyReads (B.view bank.old) (B.view bank.new) }
     {
         if block >= volume_of(&self.log.g) {
             return Err(Denied::Refused(Refusal::NoBlock));
