@@ -1,5 +1,5 @@
 -- What mounting reads of the head, the pending writes and the records.
-use Rattle.std.proofs.Common.{◌≡◌, ℕ, ◌+◌, ◌-◌, List, slice_index, Some, None, All, IsTrue, Result, Ok, Err, IfErr, IsErrAnd, IsErrOf, inl, inr, refl, sym, ap, subst, ◌∙◌, arith}
+use Rattle.std.proofs.Common.{◌≡◌, ℕ, ◌+◌, ◌-◌, List, slice_index, Some, None, All, IsTrue, Result, Ok, Err, IfErr, IsErrAnd, inl, inr, refl, sym, ap, subst, ◌∙◌, arith}
 use Rattle.trap_bank.specs.Disks.{View, Disks}
 use Rattle.trap_bank.proofs.Moves.{always_same}
 use Rattle.trap_cell.specs.Slots.{Slots, Stands, cell_value}
@@ -30,13 +30,6 @@ use Rattle.trap_array.proofs.MountReads.{reads_then, told_after, disks_same, sta
 pub exit : {T E : Type 0} (P : E → Type 0) (r : Result T E) (e : E) → IsErrAnd r (λ y. y ≡ e) → P e → IfErr r P
 exit P (Ok x) e is holds = absurd is
 exit P (Err y) e is holds = subst P (sym is) holds
-
-pub exit_of : {T E : Type 0} (P : E → Type 0) (r : Result T E) (e : E) → IsErrAnd r (λ y. y ≡ e) → P e → (why : E) → IsErrOf r why → P why
-exit_of P (Ok x) e is holds why err = absurd is
-exit_of {T} {E} P (Err y) e is holds why err = subst P (sym is ∙ same err) holds
-  where
-    same : ◌≡◌ {A = Result T E} (Err y) (Err why) → y ≡ why
-    same both = cc
 
 -- ---- the head
 

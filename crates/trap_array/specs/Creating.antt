@@ -1,6 +1,7 @@
 -- Making an array on disks that aren't there.
 use Rattle.std.specs.Prelude.{◌≡◌, ◌≢◌, ◌⊎◌, ℕ, ◌+◌, ◌*◌, ◌<◌, ◌≤◌, List, ◌++◌, replicate, take, drop, Some, None, IsTrue}
 use Rattle.trap_bank.specs.Disks.{Disks, View, byte, region, size_of}
+use Rattle.trap_bank.specs.Faults.{Rose}
 use Rattle.trap_bank.specs.Steps.{Moves, Same}
 use Rattle.trap_cell.specs.Slots.{cell_value}
 use Rattle.trap_format.specs.LogDisk.{log_start, log_size, log_header}
@@ -10,6 +11,8 @@ use Rattle.trap_format.specs.declared.head.Head.{Head}
 use Rattle.trap_model.specs.State.{fresh}
 use Rattle.trap_model.specs.declared.numbers.Geometry.{Geometry}
 use Rattle.trap_array.specs.Holding.{head_place, HasLog, Holds}
+use Rattle.trap_array.specs.declared.fault.CreateFault.{CreateFault}
+use Rattle.trap_array.specs.declared.fault.CreateFault.TheVariants.{Exists, LogFault, MemberFault}
 
 -- disk 0 is there with at least 192 bytes, and begins with an open gate and the magic bytes
 pub record BeginsLog (disks : Disks) : Type 0 where
@@ -45,6 +48,13 @@ pub record IsUntouched (old new : View) : Type 0 where
   pub sizes : (e : ℕ) → new.sizes e ≡ old.sizes e
   pub same : IsTrue old.tells → new.now ≡ old.now
   pub moves : Moves old new Same Same
+
+-- what failed has a count of faults that rose; a member that did has both numbers
+abbrev pub CreateFails : Geometry → CreateFault → View → View → Type 0
+CreateFails g (Exists disk) old new = Unit {0}
+CreateFails g LogFault old new = Rose (old.faults 0) (new.faults 0)
+CreateFails g (MemberFault first second) old new =
+    (first ≡ second) × (second < g.members) × Rose (old.faults (second + 1)) (new.faults (second + 1))
 
 -- every disk but this one is the same
 abbrev pub OnlyDisk : ℕ → Disks → Disks → Type 0

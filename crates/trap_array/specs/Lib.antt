@@ -9,6 +9,7 @@ pub mod Turning
 pub mod Gone
 pub mod OnDisks
 pub mod Mounting
+pub mod MountEnds
 pub mod Creating
 pub mod MountSteps
 pub mod Reading

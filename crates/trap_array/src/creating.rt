@@ -5,7 +5,7 @@ ghost use Rattle.trap_bank.specs.Disks.{Quiet};
 ghost use Rattle.trap_bank.specs.Faults.{Rose};
 ghost use Rattle.trap_bank.specs.Steps.{Moves};
 ghost use Rattle.trap_format.specs.LogDisk.{log_size};
-ghost use Rattle.trap_array.specs.Creating.{Creates, HasCreated, IsLowest, NoneIsThere, IsUntouched, OnlyDisk, OnlyMembers, HasMember, HasMembers, ShutsLog, HasShutLog, MakesLog, HasNewLog};
+ghost use Rattle.trap_array.specs.Creating.{CreateFails, Creates, HasCreated, IsLowest, NoneIsThere, IsUntouched, OnlyDisk, OnlyMembers, HasMember, HasMembers, ShutsLog, HasShutLog, MakesLog, HasNewLog};
 ghost use Rattle.trap_array.specs.declared.fault.CreateFault.TheVariants as fault;
 
 use crate::CreateFault;
@@ -157,11 +157,7 @@ pub fn create<B: Bank>(bank: &mut B, g: &Geometry) -> Result<(), CreateFault>
     ensures exists { (d : ℕ) → IsErrOf result (fault.Exists d) ↔ IsLowest g.now (B.view bank.old) d }
     ensures untouched { (d : ℕ) → IsLowest g.now (B.view bank.old) d
         → IsUntouched (B.view bank.old) (B.view bank.new) }
-    ensures none_there { ((d : ℕ) → ¬ IsErrOf result (fault.Exists d)) → NoneIsThere g.now (B.view bank.old) }
-    ensures log { IsErrOf result fault.LogFault → Rose ((B.view bank.old).faults 0) ((B.view bank.new).faults 0) }
-    ensures member { (first second : ℕ) → IsErrOf result (fault.MemberFault first second)
-        → (first ≡ second) × (second < g.now.members)
-        × Rose ((B.view bank.old).faults (second + 1)) ((B.view bank.new).faults (second + 1)) }
+    ensures cause { IfErr result (λ why. CreateFails g.now why (B.view bank.old) (B.view bank.new)) }
 
     // The disks beyond the members stay.
     ensures sizes { (e : ℕ) → g.now.members < e → (B.view bank.new).sizes e ≡ (B.view bank.old).sizes e }

@@ -1,6 +1,6 @@
 //! Mounting: the state is found again, whatever a crash left.
 
-ghost use Rattle.std.specs.Prelude.{◌≡◌, ◌≢◌, ◌↔◌, ◌≤◌, ◌<◌, ℕ, ◌+◌, IsTrue, IsErrOf, IfOk, OnOk, OnErr, Err, true, false};
+ghost use Rattle.std.specs.Prelude.{◌≡◌, ◌≢◌, ◌↔◌, ◌≤◌, ◌<◌, ℕ, ◌+◌, IsTrue, IsErrOf, IfOk, IfErr, OnOk, OnErr};
 ghost use Rattle.std.specs.Option.{ForSome};
 ghost use Rattle.trap_bank.specs.Disks.{Quiet};
 ghost use Rattle.trap_bank.specs.Faults.{Rose};
@@ -10,9 +10,9 @@ ghost use Rattle.trap_cell.specs.Slots.{Stands};
 ghost use Rattle.trap_format.specs.declared.head.Head.{Head};
 ghost use Rattle.trap_model.specs.declared.numbers.Geometry.{Geometry};
 ghost use Rattle.trap_model.specs.declared.history.State.{State};
-ghost use Rattle.trap_array.specs.Holding.{Holds, HoldsBy, head_place};
-ghost use Rattle.trap_array.specs.Calls.{IsReady, StandsFor};
-ghost use Rattle.trap_array.specs.Mounting.{IsNoLog, Mounts, Refuses, HasFound, FoundLost, MountFails, is_refusal};
+ghost use Rattle.trap_array.specs.Holding.{HoldsBy, head_place};
+ghost use Rattle.trap_array.specs.Mounting.{IsNoLog, Mounts, FoundLost};
+ghost use Rattle.trap_array.specs.MountEnds.{MountsFor, MountEnds};
 ghost use Rattle.trap_array.specs.MountSteps.{MayPut, HasPut};
 ghost use Rattle.trap_array.specs.declared.fault.MountFault.{MountFault};
 
@@ -65,25 +65,12 @@ impl Array {
     /// Mounts the array that the disks hold. Nothing is written but the head, and that as the last step, where a
     /// member is newly out or its rebuilt rows no longer count.
     pub fn mount<B: Bank>(alloc: Global, bank: &mut B) -> Result<Array, MountFault>
-        ensures stands { IfOk result (λ a. (g : Geometry) (s : State) → IsTrue (B.view bank.old).tells
-            → Holds g s (B.view bank.old).now.disks
-            → (a.g ≡ g) × Always (B.view bank.new) (StandsFor a s)) }
-        ensures ready { IfOk result (λ a. IsReady a (B.view bank.new) × (a.is_stopped ≡ false)) }
-        ensures found { IfOk result (λ a. HasFound a (B.view bank.old) (B.view bank.new)) }
+        ensures mounted { IfOk result (λ a. MountsFor a (B.view bank.old) (B.view bank.new)) }
+        ensures ended { IfErr result (λ why. MountEnds why (B.view bank.old) (B.view bank.new)) }
+        ensures no_log { IsNoLog ((B.view bank.old).sizes 0) → IsErrOf result MountFault.NotAnArray }
         ensures sizes { (e : ℕ) → (B.view bank.new).sizes e ≡ (B.view bank.old).sizes e }
         ensures contents { IsTrue (B.view bank.old).tells
             → Quiet (Mounts (B.view bank.old)) (B.view bank.old).now (B.view bank.new).now }
-
-        // A refusal says what stands on the disks, and never comes over disks that hold a state.
-        ensures refused { (why : MountFault) → IsErrOf result why → IsTrue (B.view bank.old).tells
-            → Refuses (B.view bank.old) why }
-        ensures held { (g : Geometry) (s : State) → IsTrue (B.view bank.old).tells
-            → Holds g s (B.view bank.old).now.disks
-            → (why : MountFault) → IsErrOf result why → is_refusal why ≡ false }
-        ensures no_log { IsNoLog ((B.view bank.old).sizes 0) → IsErrOf result MountFault.NotAnArray }
-        ensures nothing_written { (why : MountFault) → IsErrOf result why → is_refusal why ≡ true
-            → IsTrue (B.view bank.old).tells → (B.view bank.new).now ≡ (B.view bank.old).now }
-        ensures cause { (why : MountFault) → IsErrOf result why → MountFails why (B.view bank.old) (B.view bank.new) }
 
         // Whatever the answer, no disk but the log changes. A member is lost only where it was out.
         ensures others { IsTrue (B.view bank.old).tells

@@ -14,7 +14,7 @@ use Rattle.trap_format.specs.Checked.{first_broken, HasNumbers}
 use Rattle.trap_format.specs.declared.limits.Field.{Field}
 use Rattle.trap_format.proofs.Spellings.{same_geometry}
 use Rattle.trap_array.specs.Holding.{Holds}
-use Rattle.trap_array.specs.Creating.{IsNoArray, Creates, HasCreated, IsLowest, NoneIsThere, IsUntouched}
+use Rattle.trap_array.specs.Creating.{CreateFails as MakeFails, IsNoArray, Creates, HasCreated, IsLowest, NoneIsThere, IsUntouched}
 use Rattle.trap_array.specs.declared.fault.CreateFault.{CreateFault}
 use Rattle.trap_array.specs.declared.fault.CreateFault.TheVariants.{Exists, LogFault, MemberFault}
 use Rattle.trap_cli.specs.declared.outcome.Ended.{Ended}
@@ -277,21 +277,19 @@ module _ (asked : Asked) (a : View) (lawful : IsLawful a) where
 pub uncreated_works : {T : Type 0} (asked : Asked) (g : Geometry) (a b : View) (from : Stream) (result : Result T CreateFault) (why : CreateFault)
     → IsLawful a → first_broken asked ≡ None → HasNumbers g asked → result ≡ Err why
     → ((d : ℕ) → (result ≡ Err (Exists d)) ↔ IsLowest g a d) → ((d : ℕ) → IsLowest g a d → IsUntouched a b)
-    → (result ≡ Err LogFault → Rose (a.faults 0) (b.faults 0))
-    → ((first second : ℕ) → result ≡ Err (MemberFault first second) → (first ≡ second) × (second < g.members) × Rose (a.faults (second + 1)) (b.faults (second + 1)))
+    → MakeFails g why a b
     → ((e : ℕ) → g.members < e → b.sizes e ≡ a.sizes e) → (IsTrue a.tells → (e : ℕ) → g.members < e → b.now.disks e ≡ a.now.disks e)
     → (NoneIsThere g a → IsTrue a.tells → Quiet (Creates g) a.now b.now)
     → (NoneIsThere g a → Moves a b (Creates g) (Creates g))
     → Works (command_create asked) (NotCreated why) a b from from
-uncreated_works asked g a b from result (Exists d) lawful kept numbers is exists untouched log member sizes others contents moves =
+uncreated_works asked g a b from result (Exists d) lawful kept numbers is exists untouched fails sizes others contents moves =
     let low = (exists d).0 is in
     exists_works asked a lawful kept g numbers b from d low (untouched d low)
-uncreated_works asked g a b from result LogFault lawful kept numbers is exists untouched log member sizes others contents moves =
+uncreated_works asked g a b from result LogFault lawful kept numbers is exists untouched fails sizes others contents moves =
     let no_low : (d : ℕ) → IsLowest g a d → ⊥ = λ d low. let both : Err LogFault ≡ Err (Exists d) = sym is ∙ (exists d).1 low in cc in
-    failed_works asked a lawful kept g numbers b from no_low sizes others contents LogFault refl (log is) (moves (none_there g a no_low))
-uncreated_works asked g a b from result (MemberFault first second) lawful kept numbers is exists untouched log member sizes others contents moves =
+    failed_works asked a lawful kept g numbers b from no_low sizes others contents LogFault refl fails (moves (none_there g a no_low))
+uncreated_works asked g a b from result (MemberFault first second) lawful kept numbers is exists untouched fails sizes others contents moves =
     let no_low : (d : ℕ) → IsLowest g a d → ⊥ = λ d low. let both : Err (MemberFault first second) ≡ Err (Exists d) = sym is ∙ (exists d).1 low in cc in
-    let fails = member first second is in
     failed_works asked a lawful kept g numbers b from no_low sizes others contents (MemberFault first second) refl (fails.0, fails.2) (moves (none_there g a no_low))
 
 -- an array that was made had none of its disks there

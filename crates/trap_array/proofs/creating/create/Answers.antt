@@ -1,4 +1,3 @@
-use Rattle.std.proofs.Common.{refl}
 use Rattle.trap_array.proofs.FreshArray.{create_members_part, create_log_part, create_done, create_contents}
 use Rattle.trap_array.proofs.creating.create.Goals as goal
 
@@ -22,6 +21,3 @@ returns-clause-contents g c = λ none. create_contents c.args.g.now (g.B.Bank.vi
 
 pub returns-clause-any_moment : goal.returns-clause-any_moment
 returns-clause-any_moment g c = λ none. create_log_part c.args.g.now (g.B.Bank.view c.args.bank.now) (g.met.B.Bank.lawful c.args.bank.now) none (g.B.Bank.view c.create_members.new.bank) (g.B.Bank.view c.create_log.new.bank) c.in_ok-create_members.ensures.ok c.create_log.ensures.any_moment
-
-pub returns-in-Some-clause-none_there : goal.returns-in-Some-clause-none_there
-returns-in-Some-clause-none_there g c = λ other. absurd (other c.in-Some.disk refl)

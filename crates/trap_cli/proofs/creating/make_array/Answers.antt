@@ -9,7 +9,7 @@ pub returns-in-Err : goal.returns-in-Err
 returns-in-Err g c = record {
   works = λ asked from kept numbers. uncreated_works asked c.args.g.now (g.B.Bank.view c.args.bank.now) (g.B.Bank.view c.create.new.bank) from
       c.create.result c.in-Err.why (g.met.B.Bank.lawful c.args.bank.now) kept numbers c.in-Err.is
-      c.create.ensures.exists c.create.ensures.untouched c.create.ensures.log c.create.ensures.member c.create.ensures.sizes
+      c.create.ensures.exists c.create.ensures.untouched c.in-Err.ensures.cause c.create.ensures.sizes
       c.create.ensures.touches c.create.ensures.contents c.create.ensures.any_moment;
 }
 

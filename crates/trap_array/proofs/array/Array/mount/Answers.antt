@@ -1,41 +1,47 @@
-use Rattle.std.proofs.Common.{◌≡◌, IsTrue, Err, Result, false, refl, sym, subst, ◌∙◌}
-use Rattle.trap_bank.specs.Steps.{Always}
-use Rattle.trap_array.specs.Calls.{Mounted, StandsFor, IsReady}
-use Rattle.trap_array.specs.Mounting.{HasFound, Refuses, MountFails}
-use Rattle.trap_array.specs.declared.fault.MountFault.{MountFault}
+use Rattle.std.proofs.Common.{IsTrue, refl, sym, subst, ◌∙◌}
+use Rattle.trap_array.specs.Calls.{Mounted}
+use Rattle.trap_array.specs.Mounting.{Refuses}
+use Rattle.trap_array.specs.MountEnds.{MountsFor, MountEnds}
 use Rattle.trap_array.specs.declared.fault.MountFault.TheVariants.{LogFault}
 use Rattle.trap_array.proofs.MountReads.{reads_then, cause_before}
-use Rattle.trap_array.proofs.MountHistory.{exit_of}
+use Rattle.trap_array.proofs.MountHistory.{exit}
 use Rattle.trap_array.proofs.MountRefusals.{never_refused}
 use Rattle.trap_array.proofs.MountPuts.{mounts_read, members_refused, put_failed, put_room, stage_drained, stage_last, stands_still, mounts_put, mounts_contents, mount_ready, mount_stands, mount_found, read_lost, read_others, put_lost, put_others}
 use Rattle.trap_array.proofs.array.Array.mount.Goals as goal
 
 -- ---- the log was refused
 
-pub returns-in_err-found-clause-held : goal.returns-in_err-found-clause-held
-returns-in_err-found-clause-held g c = λ numbers s told holds why err.
-    never_refused numbers s (g.B.Bank.view c.args.bank.now).now.disks holds why
-    (exit_of (λ w. Refuses (g.B.Bank.view c.args.bank.now) w) c.from_residual.result c.in_err-found.field-0.0 c.from_residual.ensures.1 (c.in_err-found.ensures.refused told) why err)
+pub returns-in_err-found-clause-ended : goal.returns-in_err-found-clause-ended
+returns-in_err-found-clause-ended g c =
+    let old = g.B.Bank.view c.args.bank.now in
+    let new = g.B.Bank.view c.find_log.new.bank in
+    let refused = c.in_err-found.ensures.refused in
+    exit (λ why. MountEnds why old new) c.from_residual.result c.in_err-found.field-0.0 c.from_residual.ensures.1 (record {
+      refused = refused;
+      held = λ numbers s told holds. never_refused numbers s old.now.disks holds c.in_err-found.field-0.0 (refused told);
+      nothing_written = λ is told. c.find_log.ensures.reads.same told;
+      cause = c.in_err-found.ensures.cause;
+    })
 
 pub returns-in_err-found-clause-any_moment : goal.returns-in_err-found-clause-any_moment
 returns-in_err-found-clause-any_moment g c = mounts_read (g.B.Bank.view c.args.bank.now) (g.B.Bank.view c.find_log.new.bank) c.find_log.ensures.reads
 
 -- ---- the members were refused
 
-pub returns-in_err-head-clause-refused : goal.returns-in_err-head-clause-refused
-returns-in_err-head-clause-refused g c =
-    exit_of (λ w. IsTrue (g.B.Bank.view c.args.bank.now).tells → Refuses (g.B.Bank.view c.args.bank.now) w) c.from_residual-in_err-head.result c.in_err-head.field-0.0 c.from_residual-in_err-head.ensures.1
-    (members_refused c.in_ok-found.found.g c.in_ok-found.found.head c.in_ok-found.found.cell c.in_ok-found.found.stage (g.B.Bank.view c.args.bank.now) (g.B.Bank.view c.find_log.new.bank) _
-    c.find_log.ensures.reads c.in_ok-found.ensures.ok c.in_err-head.ensures.refused)
-
-pub returns-in_err-head-clause-held : goal.returns-in_err-head-clause-held
-returns-in_err-head-clause-held g c = λ numbers s told holds why err.
-    never_refused numbers s (g.B.Bank.view c.args.bank.now).now.disks holds why (returns-in_err-head-clause-refused g c why err told)
-
-pub returns-in_err-head-clause-cause : goal.returns-in_err-head-clause-cause
-returns-in_err-head-clause-cause g c =
-    exit_of (λ w. MountFails w (g.B.Bank.view c.args.bank.now) (g.B.Bank.view c.find_members.new.bank)) c.from_residual-in_err-head.result c.in_err-head.field-0.0 c.from_residual-in_err-head.ensures.1
-    (cause_before (g.B.Bank.view c.args.bank.now) (g.B.Bank.view c.find_log.new.bank) (g.B.Bank.view c.find_members.new.bank) _ c.find_log.ensures.reads c.in_err-head.ensures.cause)
+pub returns-in_err-head-clause-ended : goal.returns-in_err-head-clause-ended
+returns-in_err-head-clause-ended g c =
+    let old = g.B.Bank.view c.args.bank.now in
+    let mid = g.B.Bank.view c.find_log.new.bank in
+    let new = g.B.Bank.view c.find_members.new.bank in
+    let reads = reads_then old mid new c.find_log.ensures.reads c.find_members.ensures.reads in
+    let refused : IsTrue old.tells → Refuses old c.in_err-head.field-0.0 = members_refused c.in_ok-found.found.g c.in_ok-found.found.head c.in_ok-found.found.cell c.in_ok-found.found.stage old mid _
+        c.find_log.ensures.reads c.in_ok-found.ensures.ok c.in_err-head.ensures.refused in
+    exit (λ why. MountEnds why old new) c.from_residual-in_err-head.result c.in_err-head.field-0.0 c.from_residual-in_err-head.ensures.1 (record {
+      refused = refused;
+      held = λ numbers s told holds. never_refused numbers s old.now.disks holds c.in_err-head.field-0.0 (refused told);
+      nothing_written = λ is told. reads.same told;
+      cause = cause_before old mid new _ c.find_log.ensures.reads c.in_err-head.ensures.cause;
+    })
 
 pub returns-in_err-head-clause-any_moment : goal.returns-in_err-head-clause-any_moment
 returns-in_err-head-clause-any_moment g c = mounts_read (g.B.Bank.view c.args.bank.now) (g.B.Bank.view c.find_members.new.bank)
@@ -61,14 +67,18 @@ returns-in_default-clause-contents g c = mounts_contents c.in_ok-found.found.g c
     (g.B.Bank.view c.args.bank.now) (g.B.Bank.view c.find_log.new.bank) (g.B.Bank.view c.find_members.new.bank) c.find_log.ensures.reads c.find_members.ensures.reads
     (g.met.B.Bank.lawful c.find_log.new.bank) c.in_ok-found.ensures.ok c.in_ok-head.ensures.ok (g.B.Bank.view c.put_changed.new.bank) c.put_changed.ensures.contents
 
-pub returns-in_default-clause-cause : goal.returns-in_default-clause-cause
-returns-in_default-clause-cause g c = λ why err.
-    put_failed (g.B.Bank.view c.args.bank.now) (g.B.Bank.view c.find_members.new.bank) (g.B.Bank.view c.put_changed.new.bank) why
-    (reads_then (g.B.Bank.view c.args.bank.now) (g.B.Bank.view c.find_log.new.bank) (g.B.Bank.view c.find_members.new.bank) c.find_log.ensures.reads c.find_members.ensures.reads)
-    c.in_default.ensures.cause (same why err)
-  where
-    same : {T : Type 0} (w : MountFault) → ◌≡◌ {A = Result T MountFault} (Err LogFault) (Err w) → LogFault ≡ w
-    same w both = cc
+pub returns-in_default-clause-ended : goal.returns-in_default-clause-ended
+returns-in_default-clause-ended g c =
+    let old = g.B.Bank.view c.args.bank.now in
+    let mid = g.B.Bank.view c.find_members.new.bank in
+    let new = g.B.Bank.view c.put_changed.new.bank in
+    let reads = reads_then old (g.B.Bank.view c.find_log.new.bank) mid c.find_log.ensures.reads c.find_members.ensures.reads in
+    record {
+      refused = λ told. tt;
+      held = λ numbers s told holds. refl;
+      nothing_written = λ is. absurd (cc is);
+      cause = put_failed old mid new LogFault reads c.in_default.ensures.cause refl;
+    }
 
 pub returns-in_default-clause-any_moment : goal.returns-in_default-clause-any_moment
 returns-in_default-clause-any_moment g c = mounts_put c.in_ok-found.found.g c.in_ok-found.found.head c.in_ok-head.head c.in_ok-found.found.cell c.in_ok-found.found.stage
@@ -87,28 +97,20 @@ assemble-requires-clause-last g c = stage_last c.in_ok-found.found.g c.in_ok-fou
     (g.B.Bank.view c.args.bank.now) (g.B.Bank.view c.find_log.new.bank) (g.B.Bank.view c.find_members.new.bank) c.find_log.ensures.reads c.find_members.ensures.reads
     (g.met.B.Bank.lawful c.find_log.new.bank) c.in_ok-found.ensures.ok c.in_ok-head.ensures.ok
 
-pub returns-clause-stands : goal.returns-clause-stands
-returns-clause-stands g c = λ numbers s told holds.
-    subst (λ (m : Mounted). (m.g ≡ numbers) × Always (g.B.Bank.view c.put_changed.new.bank) (StandsFor m s)) (sym c.assemble.ensures)
-    (mount_stands c.in_ok-found.found.g c.in_ok-found.found.head c.in_ok-head.head c.in_ok-found.found.cell c.in_ok-found.found.stage
+pub returns-clause-mounted : goal.returns-clause-mounted
+returns-clause-mounted g c =
+    subst (λ (m : Mounted). MountsFor m (g.B.Bank.view c.args.bank.now) (g.B.Bank.view c.put_changed.new.bank)) (sym c.assemble.ensures) (record {
+      stands = mount_stands c.in_ok-found.found.g c.in_ok-found.found.head c.in_ok-head.head c.in_ok-found.found.cell c.in_ok-found.found.stage
     (g.B.Bank.view c.args.bank.now) (g.B.Bank.view c.find_log.new.bank) (g.B.Bank.view c.find_members.new.bank) c.find_log.ensures.reads c.find_members.ensures.reads
-    (g.met.B.Bank.lawful c.find_log.new.bank) c.in_ok-found.ensures.ok c.in_ok-head.ensures.ok (g.B.Bank.view c.put_changed.new.bank) c.put_changed.new.cell c.in_ok-found.found.index c.in_ok-found.ensures.index c.in-Ok.ensures.ok c.put_changed.ensures.sizes numbers s told holds)
-
-pub returns-clause-ready : goal.returns-clause-ready
-returns-clause-ready g c =
-    subst (λ (m : Mounted). IsReady m (g.B.Bank.view c.put_changed.new.bank) × (m.is_stopped ≡ false)) (sym c.assemble.ensures) (
-      mount_ready c.in_ok-found.found.g c.in_ok-found.found.head c.in_ok-head.head c.in_ok-found.found.cell c.in_ok-found.found.stage
-          (g.B.Bank.view c.args.bank.now) (g.B.Bank.view c.find_log.new.bank) (g.B.Bank.view c.find_members.new.bank) c.find_log.ensures.reads c.find_members.ensures.reads
-          (g.met.B.Bank.lawful c.find_log.new.bank) c.in_ok-found.ensures.ok c.in_ok-head.ensures.ok (g.B.Bank.view c.put_changed.new.bank) c.put_changed.new.cell c.in_ok-found.found.index c.in_ok-found.ensures.index c.in-Ok.ensures.ok c.put_changed.ensures.sizes,
-      refl,
-    )
-
-pub returns-clause-found : goal.returns-clause-found
-returns-clause-found g c =
-    subst (λ (m : Mounted). HasFound m (g.B.Bank.view c.args.bank.now) (g.B.Bank.view c.put_changed.new.bank)) (sym c.assemble.ensures)
-    (mount_found c.in_ok-found.found.g c.in_ok-found.found.head c.in_ok-head.head c.in_ok-found.found.cell c.in_ok-found.found.stage
+    (g.met.B.Bank.lawful c.find_log.new.bank) c.in_ok-found.ensures.ok c.in_ok-head.ensures.ok (g.B.Bank.view c.put_changed.new.bank) c.put_changed.new.cell c.in_ok-found.found.index c.in_ok-found.ensures.index c.in-Ok.ensures.ok c.put_changed.ensures.sizes;
+      ready = mount_ready c.in_ok-found.found.g c.in_ok-found.found.head c.in_ok-head.head c.in_ok-found.found.cell c.in_ok-found.found.stage
     (g.B.Bank.view c.args.bank.now) (g.B.Bank.view c.find_log.new.bank) (g.B.Bank.view c.find_members.new.bank) c.find_log.ensures.reads c.find_members.ensures.reads
-    (g.met.B.Bank.lawful c.find_log.new.bank) c.in_ok-found.ensures.ok c.in_ok-head.ensures.ok (g.B.Bank.view c.put_changed.new.bank) c.put_changed.new.cell c.in_ok-found.found.index c.in_ok-found.ensures.index c.in-Ok.ensures.ok c.put_changed.ensures.sizes)
+    (g.met.B.Bank.lawful c.find_log.new.bank) c.in_ok-found.ensures.ok c.in_ok-head.ensures.ok (g.B.Bank.view c.put_changed.new.bank) c.put_changed.new.cell c.in_ok-found.found.index c.in_ok-found.ensures.index c.in-Ok.ensures.ok c.put_changed.ensures.sizes;
+      going = refl;
+      found = mount_found c.in_ok-found.found.g c.in_ok-found.found.head c.in_ok-head.head c.in_ok-found.found.cell c.in_ok-found.found.stage
+    (g.B.Bank.view c.args.bank.now) (g.B.Bank.view c.find_log.new.bank) (g.B.Bank.view c.find_members.new.bank) c.find_log.ensures.reads c.find_members.ensures.reads
+    (g.met.B.Bank.lawful c.find_log.new.bank) c.in_ok-found.ensures.ok c.in_ok-head.ensures.ok (g.B.Bank.view c.put_changed.new.bank) c.put_changed.new.cell c.in_ok-found.found.index c.in_ok-found.ensures.index c.in-Ok.ensures.ok c.put_changed.ensures.sizes;
+    })
 
 pub returns-clause-sizes : goal.returns-clause-sizes
 returns-clause-sizes g c = λ e. c.put_changed.ensures.sizes e ∙ c.find_members.ensures.reads.sizes e ∙ c.find_log.ensures.reads.sizes e
