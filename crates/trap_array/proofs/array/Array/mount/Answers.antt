@@ -35,7 +35,7 @@ returns-in_err-head-clause-ended g c =
     let new = g.B.Bank.view c.find_members.new.bank in
     let reads = reads_then old mid new c.find_log.ensures.reads c.find_members.ensures.reads in
     let refused : IsTrue old.tells → Refuses old c.in_err-head.field-0.0 = members_refused c.in_ok-found.found.g c.in_ok-found.found.head c.in_ok-found.found.cell c.in_ok-found.found.stage old mid _
-        c.find_log.ensures.reads c.in_ok-found.ensures.ok c.in_err-head.ensures.refused in
+    c.find_log.ensures.reads c.in_ok-found.ensures.ok c.in_err-head.ensures.refused in
     exit (λ why. MountEnds why old new) c.from_residual-in_err-head.result c.in_err-head.field-0.0 c.from_residual-in_err-head.ensures.1 (record {
       refused = refused;
       held = λ numbers s told holds. never_refused numbers s old.now.disks holds c.in_err-head.field-0.0 (refused told);
@@ -101,15 +101,15 @@ pub returns-clause-mounted : goal.returns-clause-mounted
 returns-clause-mounted g c =
     subst (λ (m : Mounted). MountsFor m (g.B.Bank.view c.args.bank.now) (g.B.Bank.view c.put_changed.new.bank)) (sym c.assemble.ensures) (record {
       stands = mount_stands c.in_ok-found.found.g c.in_ok-found.found.head c.in_ok-head.head c.in_ok-found.found.cell c.in_ok-found.found.stage
-    (g.B.Bank.view c.args.bank.now) (g.B.Bank.view c.find_log.new.bank) (g.B.Bank.view c.find_members.new.bank) c.find_log.ensures.reads c.find_members.ensures.reads
-    (g.met.B.Bank.lawful c.find_log.new.bank) c.in_ok-found.ensures.ok c.in_ok-head.ensures.ok (g.B.Bank.view c.put_changed.new.bank) c.put_changed.new.cell c.in_ok-found.found.index c.in_ok-found.ensures.index c.in-Ok.ensures.ok c.put_changed.ensures.sizes;
+          (g.B.Bank.view c.args.bank.now) (g.B.Bank.view c.find_log.new.bank) (g.B.Bank.view c.find_members.new.bank) c.find_log.ensures.reads c.find_members.ensures.reads
+          (g.met.B.Bank.lawful c.find_log.new.bank) c.in_ok-found.ensures.ok c.in_ok-head.ensures.ok (g.B.Bank.view c.put_changed.new.bank) c.put_changed.new.cell c.in_ok-found.found.index c.in_ok-found.ensures.index c.in-Ok.ensures.ok c.put_changed.ensures.sizes;
       ready = mount_ready c.in_ok-found.found.g c.in_ok-found.found.head c.in_ok-head.head c.in_ok-found.found.cell c.in_ok-found.found.stage
-    (g.B.Bank.view c.args.bank.now) (g.B.Bank.view c.find_log.new.bank) (g.B.Bank.view c.find_members.new.bank) c.find_log.ensures.reads c.find_members.ensures.reads
-    (g.met.B.Bank.lawful c.find_log.new.bank) c.in_ok-found.ensures.ok c.in_ok-head.ensures.ok (g.B.Bank.view c.put_changed.new.bank) c.put_changed.new.cell c.in_ok-found.found.index c.in_ok-found.ensures.index c.in-Ok.ensures.ok c.put_changed.ensures.sizes;
+          (g.B.Bank.view c.args.bank.now) (g.B.Bank.view c.find_log.new.bank) (g.B.Bank.view c.find_members.new.bank) c.find_log.ensures.reads c.find_members.ensures.reads
+          (g.met.B.Bank.lawful c.find_log.new.bank) c.in_ok-found.ensures.ok c.in_ok-head.ensures.ok (g.B.Bank.view c.put_changed.new.bank) c.put_changed.new.cell c.in_ok-found.found.index c.in_ok-found.ensures.index c.in-Ok.ensures.ok c.put_changed.ensures.sizes;
       going = refl;
       found = mount_found c.in_ok-found.found.g c.in_ok-found.found.head c.in_ok-head.head c.in_ok-found.found.cell c.in_ok-found.found.stage
-    (g.B.Bank.view c.args.bank.now) (g.B.Bank.view c.find_log.new.bank) (g.B.Bank.view c.find_members.new.bank) c.find_log.ensures.reads c.find_members.ensures.reads
-    (g.met.B.Bank.lawful c.find_log.new.bank) c.in_ok-found.ensures.ok c.in_ok-head.ensures.ok (g.B.Bank.view c.put_changed.new.bank) c.put_changed.new.cell c.in_ok-found.found.index c.in_ok-found.ensures.index c.in-Ok.ensures.ok c.put_changed.ensures.sizes;
+          (g.B.Bank.view c.args.bank.now) (g.B.Bank.view c.find_log.new.bank) (g.B.Bank.view c.find_members.new.bank) c.find_log.ensures.reads c.find_members.ensures.reads
+          (g.met.B.Bank.lawful c.find_log.new.bank) c.in_ok-found.ensures.ok c.in_ok-head.ensures.ok (g.B.Bank.view c.put_changed.new.bank) c.put_changed.new.cell c.in_ok-found.found.index c.in_ok-found.ensures.index c.in-Ok.ensures.ok c.put_changed.ensures.sizes;
     })
 
 pub returns-clause-sizes : goal.returns-clause-sizes
