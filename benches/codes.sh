@@ -10,7 +10,7 @@ git -C "$root" archive HEAD crates crates.txt HANDLES | tar -x -C "$folder"
 cd "$folder"
 git init -q .
 rt new crates/bench_codes start_io >/dev/null
-rm -rf crates/bench_codes/src/* crates/bench_codes/stdin crates/bench_codes/stdout
+rm -rf crates/bench_codes/src/* crates/bench_codes/stdin crates/bench_codes/stdout crates/bench_codes/BUILD.bazel
 echo 'bench_codes: trap_zrun trap_model trap_block' >>crates.txt
 cat >crates/bench_codes/src/main.rt <<'RT'
 //! Codes and decodes a block again and again.
