@@ -23,7 +23,8 @@ use Rattle.trap_cli.specs.Listing.{KeepsDisks, Lists, HasListed}
 use Rattle.trap_cli.specs.Cause.{IsMountable}
 use Rattle.trap_cli.specs.Crash.{IsFaultFront, HistoryLeaves, LeftSaid, Leaves, LeavesBefore}
 use Rattle.trap_array.specs.Beside.{StaysFrom}
-use Rattle.trap_cli.specs.Run.{Works, TouchesBelow, MembersStay}
+use Rattle.trap_cli.specs.Run.{Works, TouchesBelow, LeavesOthers, MembersStay}
+use Rattle.trap_session.proofs.Stopping.{took_none}
 use Rattle.trap_cli.proofs.Saying.{rose_since}
 use Rattle.trap_cli.proofs.Heads.{same_head_holds, mounted_holds, keeps_found}
 use Rattle.trap_cli.proofs.Crashing.{no_front}
@@ -126,7 +127,7 @@ module _ (a b : View) (from : Stream) (mounted : Moves a b (Mounts a) (Mounts a)
   unlisted_works why no_log refuses fails unwritten held = record {
     cause = (refuses, fails);
     first = λ none. ap NotMounted (no_log none);
-    refused = λ is. record { sizes = sizes; contents = unwritten is };
+    refused = λ is. record { sizes = sizes; disks = λ told. ap (λ (c : Contents). c.disks) (unwritten is told) };
     stops = λ g s told holds. (
       held g s told holds,
       record {
@@ -141,7 +142,10 @@ module _ (a b : View) (from : Stream) (mounted : Moves a b (Mounts a) (Mounts a)
       port_faults = mounted.port_faults;
     };
     others = λ told e beyond. others told e (λ zero. absurd (omega (arith, beyond, zero)));
+    beside = λ e is. record { size = sizes e; bytes = λ told. others told e is.0 };
     unread = λ other. refl;
+    took = took_none from;
+    silent = λ is told. (contents told).said;
     members = λ g s t h k told was is. keeps_found g h k a b b (lost g h k s t told was is) (λ e. omega arith);
     steps = unlisted_steps a b from why mounted;
   }
@@ -157,6 +161,12 @@ module _ (a b : View) (from : Stream) (mounted : Moves a b (Mounts a) (Mounts a)
 
     others_now : StaysFrom 17 a c
     others_now told e beyond = ap (λ (disks : Disks). disks e) (keeps.disks (told_mid told)) ∙ others told e (λ zero. absurd (omega (arith, beyond, zero)))
+
+    beside_now : LeavesOthers command_history a c
+    beside_now e is = record {
+      size = keeps.sizes e ∙ sizes e;
+      bytes = λ told. ap (λ (disks : Disks). disks e) (keeps.disks (told_mid told)) ∙ others told e is.0;
+    }
 
     members_now : ((e : ℕ) → b.faults e ≤ c.faults e) → MembersStay a c
     members_now later g s t h k told was is =
@@ -195,7 +205,10 @@ module _ (a b : View) (from : Stream) (mounted : Moves a b (Mounts a) (Mounts a)
           };
       touches = touched {T = T} {E = E} (Ok value) listed;
       others = others_now;
+      beside = beside_now;
       unread = λ other. refl;
+      took = took_none from;
+      silent = λ is told. absurd (cc is);
       members = members_now listed.faults;
       steps = listed_steps {T = T} {E = E} a b c from Done array (Ok value) refl stands mounted listed;
     }
@@ -221,7 +234,10 @@ module _ (a b : View) (from : Stream) (mounted : Moves a b (Mounts a) (Mounts a)
           };
       touches = touched {T = T} {E = E} (Err e) listed;
       others = others_now;
+      beside = beside_now;
       unread = λ other. refl;
+      took = took_none from;
+      silent = λ is told. absurd (cc is);
       members = members_now listed.faults;
       steps = listed_steps {T = T} {E = E} a b c from Port array (Err e) refl stands mounted listed;
     }

@@ -10,3 +10,4 @@ pub mod Histories
 pub mod Sessions
 pub mod Creates
 pub mod Running
+pub mod Completing

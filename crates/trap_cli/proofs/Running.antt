@@ -20,13 +20,15 @@ use Rattle.trap_cli.specs.declared.outcome.Ended.{Ended}
 use Rattle.trap_cli.specs.declared.outcome.Ended.TheVariants.{Done, Usage, BadGeometry, NotCreated, NotMounted, Stopped, Port, Memory}
 use Rattle.trap_cli.specs.Command.{IsCommand}
 use Rattle.trap_cli.specs.Ended.{status_of, last_line, is_refused}
+use Rattle.trap_cli.specs.Listing.{KeepsDisks}
 use Rattle.trap_cli.specs.Cause.{CauseOf, SessionCause, HistoryCause, CreateCause, StoppedBy}
 use Rattle.trap_cli.specs.Stops.{StopsBefore}
 use Rattle.trap_cli.specs.Crash.{LeftBy, Leaves, LeavesBefore}
 use Rattle.trap_array.specs.Beside.{StaysFrom}
-use Rattle.trap_cli.specs.Run.{Works, Runs, Ends, Spoken, Refuses, TouchesBelow, MembersStay}
+use Rattle.trap_cli.specs.Run.{Works, Runs, Ends, Spoken, TouchesBelow, LeavesOthers, MembersStay}
 use Rattle.trap_cli.proofs.Heads.{members_same}
 use Rattle.trap_cli.proofs.Words.{one_command}
+use Rattle.trap_session.proofs.Stopping.{took_none}
 use Rattle.trap_cli.proofs.Saying.{rose_later, last_since, run_leaves}
 use Rattle.trap_cli.proofs.Crashing.{no_front, mount_leaves}
 use Rattle.trap_cli.proofs.Creates.{entry_creates}
@@ -155,11 +157,14 @@ pub no_command : (a : View) (from : Stream) → Works None Usage a a from from
 no_command a from = record {
   cause = refl;
   first = tt;
-  refused = λ is. record { sizes = λ e. refl; contents = λ told. refl };
+  refused = λ is. record { sizes = λ e. refl; disks = λ told. refl };
   stops = λ told. refl;
   touches = record { tells = refl; sizes = λ e beyond. refl; faults = λ e. omega arith; port_faults = omega arith };
   others = λ told e beyond. refl;
+  beside = λ e is. record { size = refl; bytes = λ told. refl };
   unread = λ other. refl;
+  took = took_none from;
+  silent = λ is told. refl;
   members = members_same a a (λ told. refl);
   steps = nothing_done a (Leaves None a from) (LeavesBefore (last_line Usage) None a from)
       (λ x was front rest is. record { part = front; said = refl; leaves = ((Usage, rest, is), was.torn.disks) });
@@ -190,14 +195,10 @@ module _ (command : Option Command) (ended : Ended) (old mid new : View) (from t
     last = last_since old mid new works.touches.port_faults (spoken.last (told_mid told));
   }
 
-  refuses : is_refused ended ≡ true → Refuses (last_line ended) old new
+  refuses : is_refused ended ≡ true → KeepsDisks old new
   refuses is = record {
     sizes = λ e. spoken.sizes e ∙ (works.refused is).sizes e;
-    disks = λ told. spoken.disks (told_mid told) ∙ ap (λ (c : Contents). c.disks) ((works.refused is).contents told);
-    says = λ told.
-        let same = ap (λ (c : Contents). c.said) ((works.refused is).contents told) in
-        let last = last_since old mid new works.touches.port_faults (spoken.last (told_mid told)) in
-        record { part = last.part; rest = last.rest; whole = last.whole; said = last.said ∙ ap (λ (l : List ℕ). l ++ last.part) same; port = last.port };
+    disks = λ told. spoken.disks (told_mid told) ∙ (works.refused is).disks told;
   }
 
   pub run_members : MembersStay old new
@@ -211,6 +212,10 @@ module _ (command : Option Command) (ended : Ended) (old mid new : View) (from t
     first = works.first;
     refused = refuses;
     unread = works.unread;
+    took = works.took;
+    silent = λ is told.
+        let last = last_since old mid new works.touches.port_faults (spoken.last (told_mid told)) in
+        record { part = last.part; rest = last.rest; whole = last.whole; said = last.said ∙ ap (λ (l : List ℕ). l ++ last.part) (works.silent is told); port = last.port };
     told = ends;
   }
 
@@ -224,6 +229,12 @@ module _ (command : Option Command) (ended : Ended) (old mid new : View) (from t
 
   pub run_others : StaysFrom 17 old new
   run_others told e beyond = ap (λ (disks : Disks). disks e) (spoken.disks (told_mid told)) ∙ works.others told e beyond
+
+  pub run_beside : LeavesOthers command old new
+  run_beside e is = record {
+    size = spoken.sizes e ∙ (works.beside e is).size;
+    bytes = λ told. ap (λ (disks : Disks). disks e) (spoken.disks (told_mid told)) ∙ (works.beside e is).bytes told;
+  }
 
   pub run_crash : IsLawful old → (w : Contents) → new.left old.moment w → LeftBy command old from old.now.said w
   run_crash lawful = run_leaves command old mid new from (last_line ended) lawful (at_entry command old from lawful) works.steps spoken.steps

@@ -1,6 +1,6 @@
 -- All but the last line of `session`.
 use Rattle.std.proofs.Common.{◌≡◌, ◌≢◌, inl, inr, ⊎_elim, ℕ, ◌+◌, ◌≤◌, List, true, false, IsTrue, sym, ap, subst, ◌∙◌, append-nil, arith, refl}
-use Rattle.trap_bank.specs.Disks.{View, Quiet}
+use Rattle.trap_bank.specs.Disks.{Contents, View, Quiet}
 use Rattle.trap_bank.specs.Steps.{Steps, Moves, Always}
 use Rattle.trap_bank.specs.Stream.{Stream}
 use Rattle.trap_bank.proofs.Moves.{read_is_left, nothing_done}
@@ -15,14 +15,15 @@ use Rattle.trap_array.specs.declared.fault.MountFault.{MountFault}
 use Rattle.trap_array.specs.declared.fault.MountFault.TheVariants.{NotAnArray}
 use Rattle.trap_array.specs.declared.fault.Denied.TheVariants as denied
 use Rattle.trap_session.specs.declared.outcome.SessionFault.TheVariants as serving
-use Rattle.trap_session.specs.Serving.{Serves, HoldsStill}
+use Rattle.trap_session.specs.Serving.{Serves, HoldsStill, Took}
+use Rattle.trap_session.proofs.Stopping.{took_none}
 use Rattle.trap_cli.specs.declared.outcome.Ended.{Ended}
 use Rattle.trap_cli.specs.declared.outcome.Ended.TheVariants.{Done, Usage, BadGeometry, NotCreated, NotMounted, Stopped, Port, Memory}
 use Rattle.trap_cli.specs.Command.{command_session}
 use Rattle.trap_cli.specs.Ended.{is_refused}
 use Rattle.trap_cli.specs.Cause.{SessionCause, Passes}
 use Rattle.trap_cli.specs.Stops.{held_store, BeginsTold, SessionStops, HasEnded, EndsBy}
-use Rattle.trap_cli.specs.Run.{Works, MembersStay}
+use Rattle.trap_cli.specs.Run.{Works, reads_input, ends_silent, MembersStay}
 use Rattle.trap_cli.proofs.Saying.{rose_since}
 use Rattle.trap_cli.proofs.Heads.{same_heads, mounted_holds, keeps_found, keeps_like}
 use Rattle.trap_cli.proofs.Stopping.{stops_held}
@@ -65,6 +66,30 @@ not_refused array (Stopped why) old new from to by is = cc is
 not_refused array Port old new from to by is = absurd by
 not_refused array Memory old new from to by is = cc is
 
+-- the source is as it was where a session has no memory
+not_read : (array : Mounted) (ended : Ended) (old new : View) (from to : Stream) → EndsBy array ended old new from to → (ended ≡ Memory → to ≡ from)
+    → reads_input command_session ended ≡ false → to ≡ from
+not_read array Done old new from to by memory is = absurd (cc is)
+not_read array Usage old new from to by memory is = absurd by
+not_read array (BadGeometry field) old new from to by memory is = absurd by
+not_read array (NotCreated why) old new from to by memory is = absurd by
+not_read array (NotMounted why) old new from to by memory is = absurd by
+not_read array (Stopped why) old new from to by memory is = absurd (cc is)
+not_read array Port old new from to by memory is = absurd by
+not_read array Memory old new from to by memory is = memory refl
+
+-- and that is where a mounted session says nothing
+only_memory : (array : Mounted) (ended : Ended) (old new : View) (from to : Stream) → EndsBy array ended old new from to
+    → ends_silent ended ≡ true → ended ≡ Memory
+only_memory array Done old new from to by is = absurd (cc is)
+only_memory array Usage old new from to by is = absurd by
+only_memory array (BadGeometry field) old new from to by is = absurd by
+only_memory array (NotCreated why) old new from to by is = absurd by
+only_memory array (NotMounted why) old new from to by is = absurd by
+only_memory array (Stopped why) old new from to by is = absurd (cc is)
+only_memory array Port old new from to by is = absurd by
+only_memory array Memory old new from to by is = refl
+
 module _ (a b : View) (from : Stream) (mounted : Moves a b (Mounts a) (Mounts a)) (sizes : (e : ℕ) → b.sizes e ≡ a.sizes e)
     (contents : IsTrue a.tells → Quiet (Mounts a) a.now b.now)
     (lost : (g : Geometry) (h k : Head) (s t : State) → IsTrue a.tells → HoldsBy g h s a.now.disks → HoldsBy g k t b.now.disks → FoundLost g h k a b)
@@ -77,7 +102,7 @@ module _ (a b : View) (from : Stream) (mounted : Moves a b (Mounts a) (Mounts a)
   unmounted_works why no_log refuses fails unwritten held = record {
     cause = (refuses, fails);
     first = λ none. ap NotMounted (no_log none);
-    refused = λ is. record { sizes = sizes; contents = unwritten is };
+    refused = λ is. record { sizes = sizes; disks = λ told. ap (λ (c : Contents). c.disks) (unwritten is told) };
     stops = λ g s input begins. (
       held g s begins.tells begins.holds,
       record {
@@ -93,7 +118,10 @@ module _ (a b : View) (from : Stream) (mounted : Moves a b (Mounts a) (Mounts a)
       port_faults = mounted.port_faults;
     };
     others = λ told e beyond. others told e (λ zero. absurd (omega (arith, beyond, zero)));
+    beside = λ e is. record { size = sizes e; bytes = λ told. others told e is.0 };
     unread = λ other. refl;
+    took = took_none from;
+    silent = λ is told. (contents told).said;
     members = λ g s t h k told was is. keeps_found g h k a b b (lost g h k s t told was is) (λ e. omega arith);
     steps = unmounted_steps a b from why mounted;
   }
@@ -105,7 +133,8 @@ module _ (a b : View) (from : Stream) (mounted : Moves a b (Mounts a) (Mounts a)
       (by : EndsBy array ended b c from to)
       (same_sizes : (e : ℕ) → c.sizes e ≡ b.sizes e)
       (beside : StaysFrom (array.g.members + 1) b c)
-      (held : HoldsStill array b c) where
+      (held : HoldsStill array b c)
+      (took : Took from to) (unread : ended ≡ Memory → to ≡ from) (silent : ended ≡ Memory → c.now ≡ b.now) where
     told_mid : IsTrue a.tells → IsTrue b.tells
     told_mid told = subst IsTrue (sym mounted.tells) told
 
@@ -148,7 +177,15 @@ module _ (a b : View) (from : Stream) (mounted : Moves a b (Mounts a) (Mounts a)
       others = λ told e beyond.
           beside (told_mid told) e (omega (arith, array.g.within.members_most, beyond))
           ∙ others told e (λ zero. absurd (omega (arith, beyond, zero)));
-      unread = λ other. absurd (other refl);
+      beside = λ e is. record {
+        size = same_sizes e ∙ sizes e;
+        bytes = λ told.
+            beside (told_mid told) e (let below = is.1 told array.g (found.passed told).1.records.slots.head.header in omega (arith, below))
+            ∙ others told e is.0;
+      };
+      unread = not_read array ended b c from to by unread;
+      took = took;
+      silent = λ is told. ap (λ (x : Contents). x.said) (silent (only_memory array ended b c from to by is)) ∙ (contents told).said;
       members = members_now;
       steps = session_steps a b c from to ended array stands mounted served;
     }

@@ -1,3 +1,4 @@
+use Rattle.trap_session.proofs.Stopping.{took_none}
 use Rattle.trap_cli.proofs.Sessions.{memory_steps, memory_held}
 use Rattle.trap_cli.proofs.session.answer_lines.Goals as goal
 
@@ -6,3 +7,6 @@ returns-in_default-clause-steps g c = memory_steps c.args.array (g.B.Bank.view c
 
 pub returns-in_default-clause-held : goal.returns-in_default-clause-held
 returns-in_default-clause-held g c = memory_held c.args.array (g.B.Bank.view c.args.bank.now)
+
+pub returns-in_default-clause-took : goal.returns-in_default-clause-took
+returns-in_default-clause-took g c = took_none (g.S.Source.stream c.args.source.now)
