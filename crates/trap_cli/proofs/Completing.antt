@@ -7,8 +7,8 @@ use Rattle.trap_model.specs.declared.numbers.Geometry.{Geometry}
 use Rattle.trap_model.specs.declared.history.State.{State}
 use Rattle.trap_array.specs.Holding.{Holds}
 use Rattle.trap_array.specs.Mounting.{is_refusal, MountFails}
-use Rattle.trap_array.specs.declared.fault.MountFault.{MountFault}
-use Rattle.trap_array.specs.declared.fault.MountFault.TheVariants as mounting
+use Rattle.trap_mount.specs.declared.fault.MountFault.{MountFault}
+use Rattle.trap_mount.specs.declared.fault.MountFault.TheVariants as mounting
 use Rattle.trap_array.specs.declared.fault.Denied.TheVariants as denied
 use Rattle.trap_session.specs.declared.outcome.SessionFault.{SessionFault}
 use Rattle.trap_session.specs.declared.outcome.SessionFault.TheVariants as serving
