@@ -55,8 +55,8 @@ module _ (old new : View) (from to : Stream) (fails : NothingFails old new from 
       → (why : SessionFault) → StoppedBy why old new from to → ⊥
   going g s input begins short took (serving.Array (denied.Refused why)) by = by
   going g s input begins short took (serving.Array denied.LogFault) by = fails.log by
-  going g s input begins short took (serving.Array (denied.MemberFault first second)) by = fails.members second by.1
-  going g s input begins short took (serving.Array (denied.Damaged offset)) by = by begins.tells g s begins.holds
+  going g s input begins short took (serving.Array (denied.MemberFault first second)) by = fails.members second by.rose
+  going g s input begins short took (serving.Array (denied.Damaged offset)) by = by.0 begins.tells g s begins.holds
   going g s input begins short took (serving.Array denied.Stopped) by = by
   going g s input begins short took serving.ReadFault by = fails.source by
   going g s input begins short took serving.WriteFault by = fails.port by

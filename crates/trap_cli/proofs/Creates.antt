@@ -312,7 +312,7 @@ uncreated_works asked g a b from result LogFault lawful kept numbers is exists u
     failed_works asked a lawful kept g numbers b from no_low sizes others contents LogFault refl fails (moves (none_there g a no_low))
 uncreated_works asked g a b from result (MemberFault first second) lawful kept numbers is exists untouched fails sizes others contents moves =
     let no_low : (d : ℕ) → IsLowest g a d → ⊥ = λ d low. let both : Err (MemberFault first second) ≡ Err (Exists d) = sym is ∙ (exists d).1 low in cc in
-    failed_works asked a lawful kept g numbers b from no_low sizes others contents (MemberFault first second) refl (fails.0, fails.2) (moves (none_there g a no_low))
+    failed_works asked a lawful kept g numbers b from no_low sizes others contents (MemberFault first second) refl (fails.1, (fails.0, fails.2)) (moves (none_there g a no_low))
 
 -- an array that was made had none of its disks there
 pub none_before : {T : Type 0} (g : Geometry) (a : View) (result : Result T CreateFault) (value : T) → result ≡ Ok value

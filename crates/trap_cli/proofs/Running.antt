@@ -7,6 +7,7 @@ use Rattle.trap_bank.specs.Calls.{MayLeave, IsLawful}
 use Rattle.trap_bank.specs.Stream.{Stream}
 use Rattle.trap_bank.proofs.Moves.{nothing_done}
 use Rattle.trap_array.specs.Holding.{HoldsBy}
+use Rattle.trap_array.specs.Instants.{HasBadRecord}
 use Rattle.trap_array.specs.Mounting.{MountFails}
 use Rattle.trap_mount.specs.declared.fault.CreateFault.TheVariants as creating
 use Rattle.trap_mount.specs.declared.fault.MountFault.{MountFault}
@@ -46,50 +47,62 @@ mount_later (mounting.MemberFault first second) old mid new later fails =
     (fails.0, fails.1, rose_later (old.faults (second + 1)) (mid.faults (second + 1)) (new.faults (second + 1)) fails.2 (later (second + 1)))
 mount_later mounting.OutOfMemory old mid new later fails = tt
 
-stopped_later : (why : SessionFault) (old mid new : View) (from to : Stream) → ((e : ℕ) → mid.faults e ≤ new.faults e) → mid.port_faults ≤ new.port_faults
+stopped_later : (why : SessionFault) (old mid new : View) (from to : Stream) → ((e : ℕ) → mid.faults e ≤ new.faults e) → mid.port_faults ≤ new.port_faults → (IsTrue old.tells → new.now.disks ≡ mid.now.disks)
     → StoppedBy why old mid from to → StoppedBy why old new from to
-stopped_later (serving.Array (denied.Refused why)) old mid new from to later port by = absurd by
-stopped_later (serving.Array denied.LogFault) old mid new from to later port by = rose_later (old.faults 0) (mid.faults 0) (new.faults 0) by (later 0)
-stopped_later (serving.Array (denied.MemberFault first second)) old mid new from to later port by =
-    (by.0, rose_later (old.faults (second + 1)) (mid.faults (second + 1)) (new.faults (second + 1)) by.1 (later (second + 1)))
-stopped_later (serving.Array (denied.Damaged offset)) old mid new from to later port by = by
-stopped_later (serving.Array denied.Stopped) old mid new from to later port by = absurd by
-stopped_later serving.ReadFault old mid new from to later port by = by
-stopped_later serving.WriteFault old mid new from to later port by = rose_later old.port_faults mid.port_faults new.port_faults by port
-stopped_later serving.TooLong old mid new from to later port by = by
+stopped_later (serving.Array (denied.Refused why)) old mid new from to later port same by = absurd by
+stopped_later (serving.Array denied.LogFault) old mid new from to later port same by = rose_later (old.faults 0) (mid.faults 0) (new.faults 0) by (later 0)
+stopped_later (serving.Array (denied.MemberFault first second)) old mid new from to later port same by =
+    record {
+      same = by.same;
+      inside = by.inside;
+      rose = rose_later (old.faults (second + 1)) (mid.faults (second + 1)) (new.faults (second + 1)) by.rose (later (second + 1));
+      there = by.there;
+      of = by.of;
+      held = by.held;
+    }
+stopped_later (serving.Array (denied.Damaged offset)) old mid new from to later port same by = (
+  by.0,
+  λ told.
+      let named = by.1 told in
+      (named.0, named.1, named.2, subst (λ (disks : Disks). HasBadRecord named.0 named.1 disks offset) (sym (same told)) named.3),
+)
+stopped_later (serving.Array denied.Stopped) old mid new from to later port same by = absurd by
+stopped_later serving.ReadFault old mid new from to later port same by = by
+stopped_later serving.WriteFault old mid new from to later port same by = rose_later old.port_faults mid.port_faults new.port_faults by port
+stopped_later serving.TooLong old mid new from to later port same by = by
 
 cause_later : (command : Option Command) (ended : Ended) (old mid new : View) (from to : Stream)
-    → ((e : ℕ) → mid.faults e ≤ new.faults e) → mid.port_faults ≤ new.port_faults
+    → ((e : ℕ) → mid.faults e ≤ new.faults e) → mid.port_faults ≤ new.port_faults → (IsTrue old.tells → new.now.disks ≡ mid.now.disks)
     → CauseOf command ended old mid from to → CauseOf command ended old new from to
-cause_later None ended old mid new from to later port by = by
-cause_later (Some Session) Done old mid new from to later port by = by
-cause_later (Some Session) Usage old mid new from to later port by = by
-cause_later (Some Session) (BadGeometry field) old mid new from to later port by = by
-cause_later (Some Session) (NotCreated why) old mid new from to later port by = by
-cause_later (Some Session) (NotMounted why) old mid new from to later port by = (by.0, mount_later why old mid new later by.1)
-cause_later (Some Session) (Stopped why) old mid new from to later port by = (by.0, stopped_later why old mid new from to later port by.1)
-cause_later (Some Session) Port old mid new from to later port by = by
-cause_later (Some Session) Memory old mid new from to later port by = by
-cause_later (Some History) Done old mid new from to later port by = by
-cause_later (Some History) Usage old mid new from to later port by = by
-cause_later (Some History) (BadGeometry field) old mid new from to later port by = by
-cause_later (Some History) (NotCreated why) old mid new from to later port by = by
-cause_later (Some History) (NotMounted why) old mid new from to later port by = (by.0, mount_later why old mid new later by.1)
-cause_later (Some History) (Stopped why) old mid new from to later port by = by
-cause_later (Some History) Port old mid new from to later port by = (by.0, rose_later old.port_faults mid.port_faults new.port_faults by.1 port)
-cause_later (Some History) Memory old mid new from to later port by = by
-cause_later (Some (Create asked)) Done old mid new from to later port by = by
-cause_later (Some (Create asked)) Usage old mid new from to later port by = by
-cause_later (Some (Create asked)) (BadGeometry field) old mid new from to later port by = by
-cause_later (Some (Create asked)) (NotCreated (creating.Exists disk)) old mid new from to later port by = by
-cause_later (Some (Create asked)) (NotCreated creating.LogFault) old mid new from to later port by =
+cause_later None ended old mid new from to later port same by = by
+cause_later (Some Session) Done old mid new from to later port same by = by
+cause_later (Some Session) Usage old mid new from to later port same by = by
+cause_later (Some Session) (BadGeometry field) old mid new from to later port same by = by
+cause_later (Some Session) (NotCreated why) old mid new from to later port same by = by
+cause_later (Some Session) (NotMounted why) old mid new from to later port same by = (by.0, mount_later why old mid new later by.1)
+cause_later (Some Session) (Stopped why) old mid new from to later port same by = (by.0, stopped_later why old mid new from to later port same by.1)
+cause_later (Some Session) Port old mid new from to later port same by = by
+cause_later (Some Session) Memory old mid new from to later port same by = by
+cause_later (Some History) Done old mid new from to later port same by = by
+cause_later (Some History) Usage old mid new from to later port same by = by
+cause_later (Some History) (BadGeometry field) old mid new from to later port same by = by
+cause_later (Some History) (NotCreated why) old mid new from to later port same by = by
+cause_later (Some History) (NotMounted why) old mid new from to later port same by = (by.0, mount_later why old mid new later by.1)
+cause_later (Some History) (Stopped why) old mid new from to later port same by = by
+cause_later (Some History) Port old mid new from to later port same by = (by.0, rose_later old.port_faults mid.port_faults new.port_faults by.1 port)
+cause_later (Some History) Memory old mid new from to later port same by = by
+cause_later (Some (Create asked)) Done old mid new from to later port same by = by
+cause_later (Some (Create asked)) Usage old mid new from to later port same by = by
+cause_later (Some (Create asked)) (BadGeometry field) old mid new from to later port same by = by
+cause_later (Some (Create asked)) (NotCreated (creating.Exists disk)) old mid new from to later port same by = by
+cause_later (Some (Create asked)) (NotCreated creating.LogFault) old mid new from to later port same by =
     (by.0, by.1, rose_later (old.faults 0) (mid.faults 0) (new.faults 0) by.2 (later 0))
-cause_later (Some (Create asked)) (NotCreated (creating.MemberFault first second)) old mid new from to later port by =
-    (by.0, by.1, (by.2.0, rose_later (old.faults (second + 1)) (mid.faults (second + 1)) (new.faults (second + 1)) by.2.1 (later (second + 1))))
-cause_later (Some (Create asked)) (NotMounted why) old mid new from to later port by = by
-cause_later (Some (Create asked)) (Stopped why) old mid new from to later port by = by
-cause_later (Some (Create asked)) Port old mid new from to later port by = rose_later old.port_faults mid.port_faults new.port_faults by port
-cause_later (Some (Create asked)) Memory old mid new from to later port by = by
+cause_later (Some (Create asked)) (NotCreated (creating.MemberFault first second)) old mid new from to later port same by =
+    (by.0, by.1, (by.2.0, (by.2.1.0, rose_later (old.faults (second + 1)) (mid.faults (second + 1)) (new.faults (second + 1)) by.2.1.1 (later (second + 1)))))
+cause_later (Some (Create asked)) (NotMounted why) old mid new from to later port same by = by
+cause_later (Some (Create asked)) (Stopped why) old mid new from to later port same by = by
+cause_later (Some (Create asked)) Port old mid new from to later port same by = rose_later old.port_faults mid.port_faults new.port_faults by port
+cause_later (Some (Create asked)) Memory old mid new from to later port same by = by
 
 -- status 2 is that of one ending alone
 not_two : (ended : Ended) → (ended ≡ Usage → ⊥) → status_of ended ≡ 2 → ⊥
@@ -208,7 +221,7 @@ module _ (command : Option Command) (ended : Ended) (old mid new : View) (from t
   run_runs status is = record {
     ended = ended;
     number = is;
-    cause = cause_later command ended old mid new from to spoken.steps.faults spoken.steps.port_faults works.cause;
+    cause = cause_later command ended old mid new from to spoken.steps.faults spoken.steps.port_faults (λ told. spoken.disks (told_mid told)) works.cause;
     first = works.first;
     refused = refuses;
     unread = works.unread;

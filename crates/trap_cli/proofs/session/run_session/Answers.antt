@@ -9,7 +9,7 @@ returns-in-Ok g c = record {
       c.mount.ensures.any_moment c.mount.ensures.sizes c.mount.ensures.contents c.mount.ensures.lost c.mount.ensures.others
       (g.B.Bank.view c.answer_lines.new.bank) (g.S.Source.stream c.answer_lines.new.source) c.in-Ok.array c.answer_lines.result
       c.in-Ok.ensures.mounted.stands c.in-Ok.ensures.mounted.found c.answer_lines.ensures.steps c.answer_lines.ensures.cause
-      c.answer_lines.ensures.sizes c.answer_lines.ensures.others c.answer_lines.ensures.held c.answer_lines.ensures.took c.answer_lines.ensures.unread c.answer_lines.ensures.silent
+      c.answer_lines.ensures.sizes c.answer_lines.ensures.others c.answer_lines.ensures.held c.answer_lines.ensures.took c.answer_lines.ensures.idle c.answer_lines.ensures.bad c.in-Ok.ensures.mounted.going c.in-Ok.ensures.mounted.ready
       (λ none. let both : Ok c.in-Ok.array ≡ Err NotAnArray = sym c.in-Ok.is ∙ c.mount.ensures.no_log none in cc);
 }
 
