@@ -26,7 +26,7 @@ use Rattle.trap_cli.specs.Stops.{CreateStopped, IsUnfinished}
 use Rattle.trap_cli.specs.Crash.{IsFaultFront, CreateLeaves, Leaves, LeavesBefore}
 use Rattle.trap_array.specs.Beside.{StaysFrom}
 use Rattle.trap_cli.specs.Run.{Works, TouchesBelow, LeavesOthers}
-use Rattle.trap_session.proofs.Stopping.{took_none}
+use Rattle.trap_cli.proofs.Saying.{took_none}
 use Rattle.trap_cli.proofs.Heads.{members_same, members_absent}
 use Rattle.trap_cli.proofs.Lines.{not_created}
 

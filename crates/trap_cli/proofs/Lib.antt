@@ -11,3 +11,4 @@ pub mod Sessions
 pub mod Creates
 pub mod Running
 pub mod Completing
+pub mod Gone

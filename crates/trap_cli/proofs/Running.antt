@@ -22,14 +22,14 @@ use Rattle.trap_cli.specs.declared.outcome.Ended.TheVariants.{Done, Usage, BadGe
 use Rattle.trap_cli.specs.Command.{IsCommand}
 use Rattle.trap_cli.specs.Ended.{status_of, last_line, is_refused}
 use Rattle.trap_cli.specs.Listing.{KeepsDisks}
-use Rattle.trap_cli.specs.Cause.{CauseOf, SessionCause, HistoryCause, CreateCause, StoppedBy}
+use Rattle.trap_cli.specs.Cause.{WantsMemory, CauseOf, SessionCause, HistoryCause, CreateCause, StoppedBy}
 use Rattle.trap_cli.specs.Stops.{StopsBefore}
 use Rattle.trap_cli.specs.Crash.{LeftBy, Leaves, LeavesBefore}
 use Rattle.trap_array.specs.Beside.{StaysFrom}
 use Rattle.trap_cli.specs.Run.{Works, Runs, Ends, Spoken, TouchesBelow, LeavesOthers, MembersStay}
 use Rattle.trap_cli.proofs.Heads.{members_same}
 use Rattle.trap_cli.proofs.Words.{one_command}
-use Rattle.trap_session.proofs.Stopping.{took_none}
+use Rattle.trap_cli.proofs.Saying.{took_none}
 use Rattle.trap_cli.proofs.Saying.{rose_later, last_since, run_leaves}
 use Rattle.trap_cli.proofs.Crashing.{no_front, mount_leaves}
 use Rattle.trap_cli.proofs.Creates.{entry_creates}
@@ -46,6 +46,11 @@ mount_later mounting.LogFault old mid new later fails = rose_later (old.faults 0
 mount_later (mounting.MemberFault first second) old mid new later fails =
     (fails.0, fails.1, rose_later (old.faults (second + 1)) (mid.faults (second + 1)) (new.faults (second + 1)) fails.2 (later (second + 1)))
 mount_later mounting.OutOfMemory old mid new later fails = tt
+
+wants_later : (why : MountFault) (old mid new : View) → ((e : ℕ) → mid.faults e ≤ new.faults e) → WantsMemory why old mid → WantsMemory why old new
+wants_later why old mid new later wants g h s told by log members = wants g h s told by
+    (λ rose. log (rose_later (old.faults 0) (mid.faults 0) (new.faults 0) rose (later 0)))
+    (λ m inside rose. members m inside (rose_later (old.faults (m + 1)) (mid.faults (m + 1)) (new.faults (m + 1)) rose (later (m + 1))))
 
 stopped_later : (why : SessionFault) (old mid new : View) (from to : Stream) → ((e : ℕ) → mid.faults e ≤ new.faults e) → mid.port_faults ≤ new.port_faults → (IsTrue old.tells → new.now.disks ≡ mid.now.disks)
     → StoppedBy why old mid from to → StoppedBy why old new from to
@@ -79,7 +84,7 @@ cause_later (Some Session) Done old mid new from to later port same by = by
 cause_later (Some Session) Usage old mid new from to later port same by = by
 cause_later (Some Session) (BadGeometry field) old mid new from to later port same by = by
 cause_later (Some Session) (NotCreated why) old mid new from to later port same by = by
-cause_later (Some Session) (NotMounted why) old mid new from to later port same by = (by.0, mount_later why old mid new later by.1)
+cause_later (Some Session) (NotMounted why) old mid new from to later port same by = (by.0, mount_later why old mid new later by.1, wants_later why old mid new later by.2)
 cause_later (Some Session) (Stopped why) old mid new from to later port same by = (by.0, stopped_later why old mid new from to later port same by.1)
 cause_later (Some Session) Port old mid new from to later port same by = by
 cause_later (Some Session) Memory old mid new from to later port same by = by
@@ -87,7 +92,7 @@ cause_later (Some History) Done old mid new from to later port same by = by
 cause_later (Some History) Usage old mid new from to later port same by = by
 cause_later (Some History) (BadGeometry field) old mid new from to later port same by = by
 cause_later (Some History) (NotCreated why) old mid new from to later port same by = by
-cause_later (Some History) (NotMounted why) old mid new from to later port same by = (by.0, mount_later why old mid new later by.1)
+cause_later (Some History) (NotMounted why) old mid new from to later port same by = (by.0, mount_later why old mid new later by.1, wants_later why old mid new later by.2)
 cause_later (Some History) (Stopped why) old mid new from to later port same by = by
 cause_later (Some History) Port old mid new from to later port same by = (by.0, rose_later old.port_faults mid.port_faults new.port_faults by.1 port)
 cause_later (Some History) Memory old mid new from to later port same by = by

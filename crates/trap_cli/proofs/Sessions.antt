@@ -12,22 +12,22 @@ use Rattle.trap_array.specs.Holding.{Holds, HoldsBy}
 use Rattle.trap_raid.specs.Members.{Counts}
 use Rattle.trap_array.specs.Calls.{Mounted, StandsFor, IsReady, MemberFails}
 use Rattle.trap_array.specs.Instants.{HasBadRecord}
-use Rattle.trap_array.specs.Mounting.{Mounts, Refuses, MountFails, FoundLost, HasFound, IsNoLog, is_refusal}
+use Rattle.trap_array.specs.Mounting.{Mounts, Refuses, MountFails, FoundLost, WritesHead, HasFound, IsNoLog, is_refusal}
 use Rattle.trap_mount.specs.declared.fault.MountFault.{MountFault}
 use Rattle.trap_mount.specs.declared.fault.MountFault.TheVariants.{NotAnArray}
 use Rattle.trap_array.specs.declared.fault.Denied.TheVariants as denied
 use Rattle.trap_session.specs.declared.outcome.SessionFault.TheVariants as serving
 use Rattle.trap_session.specs.Serving.{Serves, HoldsStill, Took}
-use Rattle.trap_session.proofs.Stopping.{took_none}
+use Rattle.trap_cli.proofs.Saying.{took_none}
 use Rattle.trap_cli.specs.declared.outcome.Ended.{Ended}
 use Rattle.trap_cli.specs.declared.outcome.Ended.TheVariants.{Done, Usage, BadGeometry, NotCreated, NotMounted, Stopped, Port, Memory}
 use Rattle.trap_cli.specs.Command.{command_session}
 use Rattle.trap_cli.specs.Ended.{is_refused}
-use Rattle.trap_cli.specs.Cause.{SessionCause, Passes, MemberFaults, NamesRecord}
+use Rattle.trap_cli.specs.Cause.{SessionCause, Passes, MemberFaults, NamesRecord, WantsMemory}
 use Rattle.trap_cli.specs.Stops.{held_store, BeginsTold, SessionStops, HasEnded, EndsBy, NamesEnd}
 use Rattle.trap_cli.specs.Run.{Works, reads_input, ends_silent, MembersStay}
 use Rattle.trap_cli.proofs.Saying.{rose_since}
-use Rattle.trap_cli.proofs.Heads.{same_heads, mounted_holds, keeps_found, keeps_like}
+use Rattle.trap_cli.proofs.Heads.{same_heads, mounted_holds, keeps_found, keeps_like, found_out, mounting_moves}
 use Rattle.trap_cli.proofs.Stopping.{stops_held}
 use Rattle.trap_cli.proofs.Crashing.{unmounted_steps, session_steps}
 
@@ -135,15 +135,16 @@ only_memory array Memory old new from to by is = refl
 
 module _ (a b : View) (from : Stream) (mounted : Moves a b (Mounts a) (Mounts a)) (sizes : (e : ℕ) → b.sizes e ≡ a.sizes e)
     (contents : IsTrue a.tells → Quiet (Mounts a) a.now b.now)
+    (writes : WritesHead a b)
     (lost : (g : Geometry) (h k : Head) (s t : State) → IsTrue a.tells → HoldsBy g h s a.now.disks → HoldsBy g k t b.now.disks → FoundLost g h k a b)
     (others : IsTrue a.tells → (e : ℕ) → e ≢ 0 → b.now.disks e ≡ a.now.disks e) where
   -- The array could not be mounted.
-  pub unmounted_works : (why : MountFault) → (IsNoLog (a.sizes 0) → why ≡ NotAnArray) → (IsTrue a.tells → Refuses a why) → MountFails why a b
+  pub unmounted_works : (why : MountFault) → (IsNoLog (a.sizes 0) → why ≡ NotAnArray) → (IsTrue a.tells → Refuses a why) → MountFails why a b → WantsMemory why a b
       → (is_refusal why ≡ true → IsTrue a.tells → b.now ≡ a.now)
       → ((g : Geometry) (s : State) → IsTrue a.tells → Holds g s a.now.disks → is_refusal why ≡ false)
       → Works command_session (NotMounted why) a b from from
-  unmounted_works why no_log refuses fails unwritten held = record {
-    cause = (refuses, fails);
+  unmounted_works why no_log refuses fails wants unwritten held = record {
+    cause = (refuses, fails, wants);
     first = λ none. ap NotMounted (no_log none);
     refused = λ is. record { sizes = sizes; disks = λ told. ap (λ (c : Contents). c.disks) (unwritten is told) };
     stops = λ g s input begins. (
@@ -166,7 +167,7 @@ module _ (a b : View) (from : Stream) (mounted : Moves a b (Mounts a) (Mounts a)
     took = took_none from;
     silent = λ is told. (contents told).said;
     members = λ g s t h k told was is. keeps_found g h k a b b (lost g h k s t told was is) (λ e. omega arith);
-    steps = unmounted_steps a b from why mounted;
+    steps = unmounted_steps a b from why (mounting_moves a b mounted writes.lost);
   }
 
   module _ (c : View) (to : Stream) (array : Mounted) (ended : Ended)
@@ -236,7 +237,7 @@ module _ (a b : View) (from : Stream) (mounted : Moves a b (Mounts a) (Mounts a)
       took = took;
       silent = λ is told. ap (λ (x : Contents). x.said) (idle (only_memory array ended b c from to by is)).0 ∙ (contents told).said;
       members = members_now;
-      steps = session_steps a b c from to ended array stands mounted served;
+      steps = session_steps a b c from to ended array stands (λ g s told holds. found_out g s a b array lost told (told_mid told) (stands g s told holds)) (mounting_moves a b mounted writes.lost) served;
     }
 
 -- There was no memory for the session.

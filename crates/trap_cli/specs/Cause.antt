@@ -18,6 +18,7 @@ use Rattle.trap_mount.specs.declared.fault.CreateFault.{CreateFault}
 use Rattle.trap_mount.specs.declared.fault.CreateFault.TheVariants as creating
 use Rattle.trap_array.specs.declared.fault.Denied.TheVariants as denied
 use Rattle.trap_mount.specs.declared.fault.MountFault.{MountFault}
+use Rattle.trap_mount.specs.declared.fault.MountFault.TheVariants.{OutOfMemory}
 use Rattle.trap_session.specs.Serving.{TookQuit}
 use Rattle.trap_session.specs.declared.outcome.SessionFault.{SessionFault}
 use Rattle.trap_session.specs.declared.outcome.SessionFault.TheVariants as serving
@@ -85,9 +86,16 @@ CreateFails g (creating.Exists disk) old new = IsLowest g old disk
 CreateFails g creating.LogFault old new = Rose (old.faults 0) (new.faults 0)
 CreateFails g (creating.MemberFault first second) old new = (second < g.members) × MemberRose first second old new
 
+-- over disks that hold a state, where disk 0 didn't fail and no member did but one that is out, only memory is wanting
+abbrev pub WantsMemory : MountFault → View → View → Type 0
+WantsMemory why old new = (g : Geometry) (h : Head) (s : State) → IsTrue old.tells → HoldsBy g h s old.now.disks
+    → (Rose (old.faults 0) (new.faults 0) → ⊥)
+    → ((m : ℕ) → m < g.members → Rose (old.faults (m + 1)) (new.faults (m + 1)) → IsOut h.lost old.now.disks m)
+    → why ≡ OutOfMemory
+
 -- why an array could not be mounted: its refusals say what stands on the disks
 abbrev pub UnmountedBy : MountFault → View → View → Type 0
-UnmountedBy why old new = (IsTrue old.tells → Refuses old why) × MountFails why old new
+UnmountedBy why old new = (IsTrue old.tells → Refuses old why) × MountFails why old new × WantsMemory why old new
 
 -- Why `session` ends so. What is said of the disks holds where the bank tells.
 abbrev pub SessionCause : Ended → View → View → Stream → Stream → Type 0

@@ -189,14 +189,6 @@ module _ (r0 r' : LineReader) (s0 s' : Stream) (passed : List ℕ) (none0 : pend
     most = let long = bytes_long in let most = r'.at_most in omega (arith, long, most);
   }
 
--- nothing was taken
-pub took_none : (s : Stream) → Took s s
-took_none s = record { bytes = []; taken = same s.left; given = omega arith; most = omega arith }
-  where
-    same : (left : Option (List ℕ)) → Consumes left left []
-    same None = tt
-    same (Some rest) = refl
-
 -- a `Q` was taken
 pub took_quit : (size : ℕ) (r0 r r' : LineReader) (s0 s s' : Stream) (passed line : List ℕ) → pending r0 ≡ [] → taken r0 ≡ 0
     → r'.end ≤ length r'.chunk.items → AreWholeLines passed

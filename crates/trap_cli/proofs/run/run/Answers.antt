@@ -51,7 +51,7 @@ returns-clause-completes g c command is =
     let view = g.B.Bank.view in
     let stream = g.S.Source.stream in
     run_completes c.status.result command (view c.args.bank.now) (view c.say_last.new.bank) (stream c.args.source.now) (stream c.work-ended.new.source)
-    (returns-clause-runs g c command is)
+    (g.met.B.Bank.lawful c.args.bank.now) (returns-clause-runs g c command is)
 
 pub returns-clause-members : goal.returns-clause-members
 returns-clause-members g c =

@@ -1,5 +1,5 @@
 use Rattle.std.proofs.Common.{refl}
-use Rattle.trap_session.proofs.Stopping.{took_none}
+use Rattle.trap_cli.proofs.Saying.{took_none}
 use Rattle.trap_cli.proofs.Sessions.{memory_steps, memory_held}
 use Rattle.trap_cli.proofs.session.answer_lines.Goals as goal
 
