@@ -5,14 +5,10 @@ use Rattle.trap_bank.specs.Calls.{Writes, Syncs}
 use Rattle.trap_bank.specs.Steps.{Moves, Same}
 use Rattle.trap_bank.proofs.Regions.{region_beside, byte_in_region, byte_beside}
 use Rattle.trap_bank.proofs.Moves.{write_steps, sync_steps, synced_steps, moves_then, moves_wider, moves_again, moves_same, torn_again, torn_same, torn_wider}
-use Rattle.trap_cell.specs.Slots.{is_on, Slots, Stands, place_of, cell_area, current_slot, cell_value}
+use Rattle.trap_cell.specs.Slots.{is_on, Stands, begun, place_of, cell_area, current_slot, cell_value}
 use Rattle.trap_cell.specs.Steps.{IsFirst}
 use Rattle.trap_cell.proofs.Gates.{alone, off_gate, value_of}
 use Rattle.trap_cell.proofs.Keeping.{stands_on_disk, value_on_disk}
-
--- a cell that was begun with its first value
-abbrev pub begun : ℕ → ℕ → ℕ → Slots
-begun d at size = record { place = place_of d at size; second = false; turn = 0; other_open = false }
 
 -- a write within the cell
 pub begin_part : {T E : Type 0} (result : Result T E) (d at from size : ℕ) (bytes : List ℕ) (a b : View) → Writes d from bytes result a b → at ≤ from → from + length bytes ≤ at + 2 * (2 + size) → Moves a b (Differs (cell_area (place_of d at size))) (Differs (cell_area (place_of d at size)))
@@ -56,7 +52,7 @@ pub first_written : (d at : ℕ) (value : List ℕ) (x y z : Disks)
     → region x d at 2 ≡ 165 ∷ 0 ∷ []
     → Differs (Within d (at + 2) (length value)) x y → region y d (at + 2) (length value) ≡ value
     → Differs (Within d (at + (2 + length value)) 1) y z → region z d (at + (2 + length value)) 1 ≡ 0 ∷ []
-    → (cell_value (place_of d at (length value)) z ≡ Some value) × Stands (begun d at (length value)) z
+    → (cell_value (place_of d at (length value)) z ≡ Some value) × Stands (begun (place_of d at (length value))) z
 first_written d at value x y z head second there third off = (
   value_of (place_of d at (length value)) false z now ∙ ap {B = Option (List ℕ)} Some kept,
   record {
@@ -107,8 +103,8 @@ pub begin_done : {T E : Type 0} (v1 v2 v3 v4 : T) (d at : ℕ) (value : List ℕ
     → Writes {T = T} {E = E} d (at + 2) value (Ok v2) b1 b2
     → Writes {T = T} {E = E} d (at + (2 + length value)) (0 ∷ []) (Ok v3) b2 b3
     → Syncs {T = T} {E = E} d (Ok v4) b3 b4
-    → Moves a b4 (Differs (cell_area (place_of d at (length value)))) (IsFirst b4 (begun d at (length value)) value)
-begin_done {T} {E} v1 v2 v3 v4 d at value a b1 b2 b3 b4 w1 w2 w3 sync = moves_then a b3 b4 (Differs area) (Differs area) Same _ (Differs area) (IsFirst b4 (begun d at (length value)) value) writes (synced_steps {T = T} {E = E} v4 b3 b4 d sync)
+    → Moves a b4 (Differs (cell_area (place_of d at (length value)))) (IsFirst b4 (begun (place_of d at (length value))) value)
+begin_done {T} {E} v1 v2 v3 v4 d at value a b1 b2 b3 b4 w1 w2 w3 sync = moves_then a b3 b4 (Differs area) (Differs area) Same _ (Differs area) (IsFirst b4 (begun (place_of d at (length value))) value) writes (synced_steps {T = T} {E = E} v4 b3 b4 d sync)
     (λ x y was torn. torn)
     (λ x y z was torn mid same. subst (Differs area x.disks) (sym same) torn)
     (λ x y z was torn mid at_rest.
@@ -117,7 +113,7 @@ begin_done {T} {E} v1 v2 v3 v4 d at value a b1 b2 b3 b4 w1 w2 w3 sync = moves_th
     record {
       differs = subst (Differs area x.disks) (sym at_rest.same) torn;
       value = value_on_disk (place_of d at (length value)) b3.now.disks z.disks read ∙ both.0;
-      stands = stands_on_disk (begun d at (length value)) b3.now.disks z.disks read both.1;
+      stands = stands_on_disk (begun (place_of d at (length value))) b3.now.disks z.disks read both.1;
       read = at_rest.read;
     })
   where

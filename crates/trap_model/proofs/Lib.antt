@@ -1,6 +1,7 @@
 pub mod ZeroRuns
 pub mod Splits
 pub mod LogRecords
+pub mod AnySizes
 pub mod SameBytes
 pub mod RunLemmas
 pub mod Images
