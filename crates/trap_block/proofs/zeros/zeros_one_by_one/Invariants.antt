@@ -1,6 +1,6 @@
 use Rattle.std.proofs.Common.{length, ◌-◌}
-use Rattle.trap_zrun.proofs.Scanning.{AreZerosTo}
-use Rattle.trap_zrun.proofs.scans.zeros_from.Given as goal
+use Rattle.trap_block.proofs.ScanLemmas.{AreZerosTo}
+use Rattle.trap_block.proofs.zeros.zeros_one_by_one.Given as goal
 
 abbrev pub invariant-loop-end : goal.invariant-loop-end
 invariant-loop-end l = AreZerosTo l.bytes l.at l.end
