@@ -1,5 +1,5 @@
 -- The header of the replica's disk, piece by piece.
-use Rattle.std.proofs.Common.{subst, ◌≡◌, ℕ, ◌-◌, ◌≤◌, ◌<◌, ◌^◌, List, [], ◌∷◌, ◌++◌, length, take, drop, get_or, replicate, refl, ap, sym, ◌∙◌, arith, None, true, not, nat_le}
+use Rattle.std.proofs.Common.{subst, ◌≡◌, ℕ, ◌<◌, ◌^◌, List, [], ◌∷◌, length, replicate, ap, arith}
 use Rattle.std.proofs.Math.Bridge.{le_prop}
 use Rattle.std.proofs.Math.Nat.{ℕ_set}
 use Rattle.std.proofs.Math.Bool.{Bool-set}
@@ -8,10 +8,9 @@ use Rattle.std.specs.Int.{w16, w32, w64, to_be_bytes}
 use Rattle.trap_block.specs.Fields.{put_over}
 use Rattle.trap_format.specs.declared.shape.Shape.{Shape}
 use Rattle.trap_format.specs.Shape.{AreShapeLimits}
-use Rattle.trap_format.specs.ReplicaDisk.{first_broken_shape, HasShape, replica_start, replica_header}
+use Rattle.trap_format.specs.ReplicaDisk.{replica_start, replica_header}
 use Rattle.trap_format.proofs.BigEndian.{same_of_2, same_of_4, same_of_8}
 use Rattle.trap_format.proofs.Written.{written_none, written_more, written_all}
-use Rattle.trap_format.proofs.Cuts.{piece, byte_is, front}
 
 pub replica_written : (s : Shape) (a b c d e f g : List ℕ) → length a ≡ 32 → b ≡ put_over 0 replica_start a → c ≡ put_over 5 (1 ∷ []) b → d ≡ put_over 6 (to_be_bytes w64 s.id) c
     → e ≡ put_over 14 (to_be_bytes w16 s.block) d → f ≡ put_over 16 (to_be_bytes w32 s.volume) e → g ≡ put_over 20 (replicate 12 0) f → g ≡ replica_header s
@@ -23,29 +22,6 @@ replica_written s a b c d e f g len start version id block volume zeros =
     let fourth = written_more 32 14 _ (to_be_bytes w16 s.block) d e third (omega arith) block in
     let fifth = written_more 32 16 _ (to_be_bytes w32 s.volume) e f fourth (omega arith) volume in
     written_all 32 _ g (written_more 32 20 _ (replicate 12 0) f g fifth (omega arith) zeros)
-
--- the header that was read is that of the numbers at its places
-pub replica_read : (bytes : List ℕ) (s : Shape) (id block volume : ℕ) → length bytes ≡ 32 → take 5 bytes ≡ replica_start → get_or bytes 5 0 ≡ 1 → drop 20 bytes ≡ replicate (length bytes - 20) 0
-    → to_be_bytes w64 id ≡ slice_range bytes 6 14 → to_be_bytes w16 block ≡ slice_range bytes 14 16 → to_be_bytes w32 volume ≡ slice_range bytes 16 20 → HasShape s id block volume → bytes ≡ replica_header s
-replica_read bytes s id block volume len start version zeros at_id at_block at_volume has =
-    let last : drop 20 bytes ≡ replicate 12 0 = zeros ∙ ap (λ (n : ℕ). replicate (n - 20) 0) len in
-    let third = piece bytes (to_be_bytes w32 s.volume) _ 16 20 (omega arith) (ap (to_be_bytes w32) has.volume ∙ at_volume) last in
-    let second = piece bytes (to_be_bytes w16 s.block) _ 14 16 (omega arith) (ap (to_be_bytes w16) has.block ∙ at_block) third in
-    let first = piece bytes (to_be_bytes w64 s.id) _ 6 14 (omega arith) (ap (to_be_bytes w64) has.id ∙ at_id) second in
-    let which = byte_is bytes 1 _ 5 (omega arith) (sym version) first in
-    front bytes _ _ 5 start which
-
--- the numbers of a shape break no limit
-none_broken : (s : Shape) → first_broken_shape s.block s.volume 0 ≡ None
-none_broken s = let within = s.within in grind arith
-
--- where the bytes are the header of a replica, the numbers at its places break no limit
-pub replica_keeps : (bytes : List ℕ) (s : Shape) (block volume : ℕ) → block < 2 ^ 16 → volume < 2 ^ 32 → to_be_bytes w16 block ≡ slice_range bytes 14 16 → to_be_bytes w32 volume ≡ slice_range bytes 16 20
-    → bytes ≡ replica_header s → first_broken_shape block volume 0 ≡ None
-replica_keeps bytes s block volume block_fits volume_fits at_block at_volume is =
-    let same_block : block ≡ s.block = same_of_2 block s.block block_fits (omega (arith, s.within.block_most)) (at_block ∙ ap (λ (xs : List ℕ). slice_range xs 14 16) is) in
-    let same_volume : volume ≡ s.volume = same_of_4 volume s.volume volume_fits (omega (arith, s.within.volume_most)) (at_volume ∙ ap (λ (xs : List ℕ). slice_range xs 16 20) is) in
-    ap (λ (n : ℕ). first_broken_shape n volume 0) same_block ∙ ap (λ (n : ℕ). first_broken_shape s.block n 0) same_volume ∙ none_broken s
 
 -- numbers keep their limits in one way
 limits_prop : (block volume : ℕ) → IsProp (AreShapeLimits block volume)

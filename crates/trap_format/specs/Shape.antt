@@ -1,5 +1,5 @@
 -- Which numbers a replica can have.
-use Rattle.std.specs.Prelude.{◌≡◌, ℕ, ◌^◌, ◌≤◌, Bool, true}
+use Rattle.std.specs.Prelude.{◌≡◌, ℕ, ◌^◌, ◌≤◌, true}
 use Rattle.trap_model.specs.Limits.{is_block_size}
 
 -- the numbers of a replica are within their limits
