@@ -15,3 +15,4 @@ pub mod Records
 pub mod Further
 pub mod Refusals
 pub mod Retained
+pub mod Frames

@@ -2,10 +2,13 @@
 #![tactic(auto)]
 
 pub mod array_laws;
+mod arrival;
 mod asked;
 mod bytes;
 mod code;
 mod entry_size;
+mod frame;
+pub mod frame_laws;
 mod history;
 mod image;
 mod instants;
@@ -18,8 +21,10 @@ mod plain;
 mod refusing;
 mod request;
 
+pub use arrival::{Arrival, Parity, Taken};
 pub use asked::Asked;
 pub use bytes::Block;
+pub use frame::Frame;
 pub use history::{Entries, Entry, State};
 pub use image::Image;
 pub use known::{Known, Path, Way};
