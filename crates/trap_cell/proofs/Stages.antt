@@ -1,11 +1,11 @@
 -- The stages of a put, as a crash at any moment leaves them.
-use Rattle.std.proofs.Common.{◌≡◌, Bool, Result, if◌then◌else◌, ℕ, ◌+◌, ◌<◌, ◌≤◌, List, length, IsTrue, true, false, not, inl, inr, ⊎_elim, refl, sym, subst, ◌∙◌, arith}
-use Rattle.trap_bank.specs.Disks.{View, Disks, Contents, Within, Differs, Quiet, byte}
+use Rattle.std.proofs.Common.{◌≡◌, Bool, Result, if◌then◌else◌, ℕ, List, length, IsTrue, true, not, inl, inr, sym, subst, ◌∙◌, arith}
+use Rattle.trap_bank.specs.Disks.{View, Disks, Within, Differs, Quiet, byte}
 use Rattle.trap_bank.specs.Called.{TakesCalls}
 use Rattle.trap_bank.specs.Steps.{Moves, Always, PlacedThrough}
 use Rattle.trap_bank.proofs.Regions.{differs_again, differs_none, byte_of_disk}
 use Rattle.trap_bank.proofs.Moves.{moves_then, moves_weaken, no_moves}
-use Rattle.trap_cell.specs.Slots.{Slots, Stands, slot_at, turn_of, value_in, other_slot, other_gate, next_turn}
+use Rattle.trap_cell.specs.Slots.{Slots, slot_at, turn_of, value_in, other_slot, other_gate, next_turn}
 use Rattle.trap_cell.specs.Steps.{Keeps, Shuts, Fills, IsFilling, IsOpening, PutStage}
 use Rattle.trap_cell.proofs.Keeping.{gate_part, beyond_gate, value_beyond}
 use Rattle.trap_cell.proofs.Putting.{at_gate}

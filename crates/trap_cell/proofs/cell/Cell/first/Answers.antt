@@ -20,22 +20,22 @@ pub returns-clause-any_moment : goal.returns-clause-any_moment
 returns-clause-any_moment g c = begin_synced _ c.args.disk c.args.at (length c.args.value.now) _ _ _ (begin_three c.args.disk c.args.at (length c.args.value.now) _ _ _ _ (begin_part _ _ _ _ _ _ _ _ c.write.ensures.call (omega arith) (omega arith)) (begin_part _ _ _ _ _ _ _ _ c.write-2.ensures.call (omega arith) (omega arith)) (begin_part _ _ _ _ _ _ _ _ c.write-3.ensures.call (omega arith) (omega arith))) c.sync.ensures.call
 
 pub returns-clause-ok : goal.returns-clause-ok
-returns-clause-ok g c = begin_done _ _ _ _ c.args.disk c.args.at c.args.value.now _ _ _ _ _ c.in_ok-write.ensures.call c.in_ok-write-2.ensures.call c.in_ok-write-3.ensures.call c.in_ok-sync.ensures.call
+returns-clause-ok g c = begin_done _ _ _ _ c.args.disk c.args.at _ c.args.value.now _ _ _ _ _ (omega arith) c.in_ok-write.ensures.call c.in_ok-write-2.ensures.call c.in_ok-write-3.ensures.call c.in_ok-sync.ensures.call
 
 pub returns-in_err-write-clause-contents : goal.returns-in_err-write-clause-contents
 returns-in_err-write-clause-contents g c = part_torn _ _ _ _ _ _ _ _ c.write.ensures.call (omega arith) (omega arith)
 
 pub returns-in_err-write-2-clause-contents : goal.returns-in_err-write-2-clause-contents
-returns-in_err-write-2-clause-contents g c = two_torn _ _ _ _ _ _ _ _ _ refl c.write.ensures.call c.write-2.ensures.call
+returns-in_err-write-2-clause-contents g c = two_torn _ _ _ _ _ _ _ _ _ _ refl c.write.ensures.call c.write-2.ensures.call
 
 pub returns-in_err-write-3-clause-contents : goal.returns-in_err-write-3-clause-contents
-returns-in_err-write-3-clause-contents g c = three_torn _ _ _ _ _ _ _ _ _ _ _ refl c.write.ensures.call c.write-2.ensures.call c.write-3.ensures.call
+returns-in_err-write-3-clause-contents g c = three_torn _ _ _ _ _ _ _ _ _ _ _ _ refl c.write.ensures.call c.write-2.ensures.call c.write-3.ensures.call
 
 pub returns-in_err-sync-clause-contents : goal.returns-in_err-sync-clause-contents
-returns-in_err-sync-clause-contents g c = all_torn _ _ _ _ _ _ _ _ _ _ _ _ _ refl c.write.ensures.call c.write-2.ensures.call c.write-3.ensures.call c.sync.ensures.call
+returns-in_err-sync-clause-contents g c = all_torn _ _ _ _ _ _ _ _ _ _ _ _ _ _ refl c.write.ensures.call c.write-2.ensures.call c.write-3.ensures.call c.sync.ensures.call
 
 pub returns-clause-contents : goal.returns-clause-contents
-returns-clause-contents g c = all_torn _ _ _ _ _ _ _ _ _ _ _ _ _ refl c.write.ensures.call c.write-2.ensures.call c.write-3.ensures.call c.sync.ensures.call
+returns-clause-contents g c = all_torn _ _ _ _ _ _ _ _ _ _ _ _ _ _ refl c.write.ensures.call c.write-2.ensures.call c.write-3.ensures.call c.sync.ensures.call
 
 pub returns-in_err-write-clause-calls : goal.returns-in_err-write-clause-calls
 returns-in_err-write-clause-calls g c = record { ok = search rules; most = called_at_most 1 4 _ _ (omega arith) (called_once _ _ _ c.write.ensures.call.goes) }
