@@ -1,14 +1,14 @@
 -- Masks of 32 lanes, and the bits in them.
-use Rattle.std.proofs.Common.{◌≡◌, ◌↔◌, ℕ, zero, suc, ◌+◌, ◌-◌, ◌*◌, ◌/◌, ◌%◌, ◌^◌, ◌<◌, ◌≤◌, List, Bool, true, false, cond, eqb, length, get_or, map, replicate, refl, sym, ap, subst, ◌∙◌, arith, w8, w32, ⊎_elim, shr-shr, eqb-true, eq-eqb, min, bit_and}
+use Rattle.std.proofs.Common.{◌≡◌, ◌↔◌, ℕ, zero, suc, ◌+◌, ◌/◌, ◌%◌, ◌^◌, ◌<◌, ◌≤◌, List, Bool, true, false, cond, eqb, length, get_or, map, replicate, refl, sym, ap, subst, ◌∙◌, arith, w8, w32, ⊎_elim, shr-shr, eqb-true, eq-eqb, min, bit_and}
 use Rattle.std.specs.Int.{bit_at, trailing_zeros, trailing_ones}
 use lib.Count.{count_trailing_zeros}
 use Rattle.std.specs.Simd.Lanes.{zip2, mask_l, top}
 use Rattle.std.proofs.lemmas.Simd.{bitmask_splat, mask_l-lt, bit_mask_l}
-use Rattle.std.proofs.lemmas.Bool.{cases_lt, cases_eq}
+use Rattle.std.proofs.lemmas.Bool.{cases_lt}
 use Rattle.std.proofs.lemmas.List.{length-map, get_or-map}
 use Rattle.std.proofs.lemmas.Nat.{and_le_l}
-use Rattle.std.proofs.lemmas.Nat.Bits.{bit_at_and, bit_at-zero, bit_at-lt, bit_at_above, bit_at_ones, bit_at-trailing_zeros, bit_at-trailing_ones}
-use Rattle.trap_block.specs.Zeros.{AreZeros, FourSet}
+use Rattle.std.proofs.lemmas.Nat.Bits.{bit_at_and, bit_at-zero, bit_at-lt, bit_at_ones, bit_at-trailing_zeros, bit_at-trailing_ones}
+use Rattle.trap_block.specs.Zeros.{FourSet}
 
 -- the mask of the lanes that are zero
 abbrev pub mask_of : List ℕ → ℕ

@@ -1,4 +1,4 @@
-use Rattle.std.proofs.Common.{ℕ, length, arith, eqb-true, eq-eqb}
+use Rattle.std.proofs.Common.{length, eqb-true, eq-eqb}
 use Rattle.trap_block.proofs.ZeroLemmas.{zero_all, zero_whole}
 use Rattle.trap_block.proofs.bits.is_zero.Goals as goal
 

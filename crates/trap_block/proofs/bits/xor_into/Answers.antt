@@ -1,4 +1,4 @@
-use Rattle.std.proofs.Common.{◌≡◌, ℕ, ◌+◌, ◌-◌, ◌<◌, ◌≤◌, List, length, get_or, sym, subst, ap, ◌∙◌, arith, ⊎_elim}
+use Rattle.std.proofs.Common.{arith}
 use Rattle.trap_block.proofs.XorLemmas.{xor_stored}
 use Rattle.trap_block.proofs.bits.xor_into.Goals as goal
 

@@ -1,6 +1,5 @@
-use Rattle.std.proofs.Common.{ℕ, ◌+◌, ◌<◌, length, get_or, sym, subst, arith, ◌≡◌, ◌-◌}
-use Rattle.trap_block.proofs.ScanLemmas.{IsMask, zeros_between, zeros-more, mask-zeros, mask-nonzero}
-use Rattle.trap_block.specs.Zeros.{AreZeros}
+use Rattle.std.proofs.Common.{◌+◌, arith}
+use Rattle.trap_block.proofs.ScanLemmas.{IsMask, zeros_between, zeros-more, mask-zeros}
 use Rattle.trap_block.proofs.zeros.zeros_from.Goals as goal
 
 pub returns-then-zeros-lt32-clause-zeros : goal.returns-then-zeros-lt32-clause-zeros
