@@ -4,6 +4,7 @@
 mod head;
 mod head_value;
 pub mod laws;
+pub mod layout;
 mod limits;
 mod log_disk;
 mod member_disk;

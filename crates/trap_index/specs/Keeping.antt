@@ -5,7 +5,7 @@ use Rattle.trap_model.specs.Image.{volume}
 use Rattle.trap_index.specs.declared.item.Item.{Item}
 use Rattle.trap_index.specs.Indexed.{Indexed, last_seq, last_time, recs_len, newest, no_rec, item_behind}
 
--- the records have the numbers behind this one, one after the other
+-- the records have the numbers that follow this one
 abbrev pub AreNumbered : ℕ → List LogRec → Type 0
 AreNumbered before [] = Unit {0}
 AreNumbered before (rec ∷ later) = (rec.seq ≡ before + 1) × AreNumbered (before + 1) later
@@ -33,7 +33,7 @@ rec_of q item = record {
   slen = item.slen;
 }
 
--- the headers of items that have the numbers behind this one
+-- the headers of items that have the numbers that follow this one
 abbrev pub recs_of : ℕ → List Item → List LogRec
 recs_of before [] = []
 recs_of before (item ∷ later) = rec_of (before + 1) item ∷ recs_of (before + 1) later
@@ -50,8 +50,8 @@ link first number = if nat_le number first then 0 else number
 abbrev pub told : ℕ → Item → Item
 told first item = record item { prev = link first item.prev }
 
--- the items are told as those of the records, a number is kept for each block, and the rest goes with the last record;
--- no record has more than 8232 bytes
+-- the items are told as those of the records, a number is kept for each block, and the rest goes
+-- with the last record; no record has more than 8232 bytes
 pub record IsKept (i : Indexed) (items : List Item) (capacity : ℕ) (heads : List ℕ) (end_off last : ℕ) : Type 0 where
   pub indexed : IsIndexed i
   pub room : capacity ≡ i.g.entries

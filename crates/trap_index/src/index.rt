@@ -16,15 +16,16 @@ use trap_model::{Geometry, Known, LogRec, Path, Way};
 /// The bytes of a record's header.
 const HEADER_BYTES: u64 = 26;
 
-/// The retained records. A contract sees the list of their headers, the oldest first. It holds 40 bytes for each
-/// entry that the array can retain and 8 bytes for each block: 48 MiB where both are 2^20.
+/// The retained records. A contract sees the list of their headers, the oldest first. It holds 40
+/// bytes for each entry that the array can retain and 8 bytes for each block: 48 MiB where both are
+/// 2^20.
 #[derive(Drop)]
 pub struct Index {
     g: Geometry,
     first: u64,
     base_time: u64,
     first_off: u64,
-    /// The offset behind the last record.
+    /// The offset after the last record.
     end_off: u64,
     last_time: u64,
     /// Each with the number of its block's previous entry, dropped or not, or 0.
@@ -70,7 +71,7 @@ impl Index {
         ensures { IfOk result (λ index. index ≡ nothing_indexed g.now first base_time first_off) }
     {
         let items = HeapCircularBuffer::with_capacity(alloc, g.entries as usize)?;
-        let newest = vec![in alloc; 0; volume(g)]?;
+        let newest = vec![in alloc; 0; g.volume() as usize]?;
         Ok(Index {
             g: *g,
             first,
@@ -109,21 +110,23 @@ impl Index {
         self.last_time = rec.time;
     }
 
-    /// Drops the entries up to this number. No link is touched: those to dropped entries are read as 0.
+    /// Drops the entries up to this number. No link is touched: those to dropped entries are read
+    /// as 0.
     pub fn drop_to(&mut self, seq: u64)
         requires low { self.old.first ≤ seq }
         requires high { seq ≤ last_seq self.old }
         ensures { self.new ≡ dropped_to self.old seq }
     {
         let kept = (self.last() - seq) as usize;
-        let (base_time, first_off) = (self.time_at(seq), self.off_behind(seq));
+        let (base_time, first_off) = (self.time_at(seq), self.off_after(seq));
         self.first = seq;
         self.base_time = base_time;
         self.first_off = first_off;
         self.items.truncate_front(kept);
     }
 
-    /// The time of the record with this number, or the base time where it is the last dropped one's.
+    /// The time of the record with this number, or the base time where it is the last dropped
+    /// one's.
     fn time_at(&self, seq: u64) -> u64
         requires low { self.now.first ≤ seq }
         requires high { seq ≤ last_seq self.now }
@@ -135,8 +138,8 @@ impl Index {
         self.retained(seq).time
     }
 
-    /// The offset behind the record with this number, or where the first one begins.
-    fn off_behind(&self, seq: u64) -> u64
+    /// The offset after the record with this number, or where the first one begins.
+    fn off_after(&self, seq: u64) -> u64
         requires low { self.now.first ≤ seq }
         requires high { seq ≤ last_seq self.now }
         ensures { result ≡ self.now.first_off + recs_len (recs_up_to self.now seq) }
@@ -233,8 +236,8 @@ impl Index {
         self.first + count_by(&self.items, t) as u64
     }
 
-    /// From where a block's contents after the entry with this number are reached: no entry is marked, so from the
-    /// present back over the block's entries above it.
+    /// From where a block's contents after the entry with this number are reached: no entry is
+    /// marked, so from the present back over the block's entries above it.
     pub fn path(&self, block: u32, seq: u64) -> Path
         requires block { block < volume self.now.g }
         requires low { self.now.first ≤ seq }
@@ -253,11 +256,4 @@ impl Index {
             way: Way::Back,
         }
     }
-}
-
-/// How many blocks the array has.
-fn volume(g: &Geometry) -> usize
-    ensures { result ≡ volume g.now }
-{
-    g.rows as usize * (g.members as usize - 1)
 }

@@ -1,5 +1,5 @@
-//! What an index of a state's records tells of the state. Each law is a function with no body, and its contract is the
-//! law.
+//! What an index of a state's records tells of the state. Each law is a function with no body, and
+//! its contract is the law.
 
 ghost use Rattle.std.specs.Prelude.{◌≡◌, ℕ, ◌+◌, ◌-◌, ◌<◌, ◌≤◌, take, drop};
 ghost use Rattle.trap_model.specs.declared.history.Entry.{Entry};
@@ -15,8 +15,8 @@ ghost use Rattle.trap_index.specs.Indexed.{Indexed, nothing_indexed, with_record
 ghost use Rattle.trap_index.specs.Keeping.{IsIndexed, link, told};
 ghost use Rattle.trap_index.specs.Describes.{Describes, IsLastOf, IsItemOf, block_before};
 
-/// An index without records describes the fresh state, and an index with the record of a further entry the state with
-/// that entry. With entries dropped it describes the state without them.
+/// An index without records describes the fresh state, and an index with the record of a further
+/// entry the state with that entry. With entries dropped it describes the state without them.
 pub fn described()
     ensures fresh { (g : Geometry) (first_off : ℕ) → Describes (nothing_indexed g 0 0 first_off) (fresh g) }
     ensures further { (i : Indexed) (s : State) (e : Entry) → Describes i s
@@ -25,8 +25,8 @@ pub fn described()
         → Describes (dropped_to i q) (kept_from s q) }
 {}
 
-/// What dropping leaves: the last number and time, where the last record ends, and each retained record's item, whose
-/// link and whose block's newest number are 0 where they name a dropped entry.
+/// What dropping leaves: the last number and time, where the last record ends, and each retained
+/// record's item, whose link and whose block's newest number are 0 where they name a dropped entry.
 pub fn drops()
     ensures last { (i : Indexed) (q : ℕ) → i.first ≤ q → q ≤ last_seq i
         → last_seq (dropped_to i q) ≡ last_seq i }
@@ -50,8 +50,9 @@ pub fn tells()
         → IsLastOf s block (last s) (newest block i.recs) }
 {}
 
-/// What it finds in the ring, and of an instant, is so of the state: the record of an entry stands where its item says,
-/// the last number by a time has the image by that time, and the path is the state's.
+/// What it finds in the ring, and of an instant, is so of the state: the record of an entry stands
+/// where its item says, the last number by a time has the image by that time, and the path is the
+/// state's.
 pub fn finds()
     ensures record_there { (i : Indexed) (s : State) (q : ℕ) → Describes i s → s.first < q → q ≤ last s
         → take (rec_len (rec_at i q)) (drop ((item_at i q).off - i.first_off) (records s))

@@ -49,7 +49,8 @@ fn add(rt: &impl Abort, index: &mut Index, time: u64, block: u32, plen: u16)
     });
 }
 
-// Ten entries were dropped. Number 11 and 13 write block 3, number 12 writes block 1 at the time of number 13.
+// Ten entries were dropped. Number 11 and 13 write block 3, number 12 writes block 1 at the time of
+// number 13.
 fn three_entries(rt: &impl Abort, alloc: Global) -> Result<Index, AllocError>
     ensures { IfOk result (λ index. volume index.g ≡ 8) }
 {

@@ -6,5 +6,6 @@ pub mod FitLemmas
 pub mod DrainLemmas
 pub mod DrainSteps
 pub mod DrainCosts
+pub mod Covering
 pub mod MemberLemmas
 pub mod ZeroLemmas

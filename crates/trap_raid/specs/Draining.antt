@@ -16,7 +16,8 @@ writes_to stage upto = drop (last_of stage - upto) stage.pending
 -- each place that counts and that these writes cover holds the newest of their bytes
 abbrev pub AreDrained : Geometry → Option ℕ → ℕ → List Staged → Disks → Type 0
 AreDrained g lost rebuilt writes disks = (row m : ℕ) (bytes : List ℕ) → row < g.rows → m < g.members
-    → Counts lost rebuilt row m → newest_at g writes row m ≡ Some bytes → member_place g disks row m ≡ bytes
+    → Counts lost rebuilt row m → newest_at g writes row m ≡ Some bytes
+    → member_place g disks row m ≡ bytes
 
 -- the positions of the places that count and that these writes cover
 pub record InDrained (g : Geometry) (lost : Option ℕ) (rebuilt : ℕ) (writes : List Staged)
@@ -24,8 +25,10 @@ pub record InDrained (g : Geometry) (lost : Option ℕ) (rebuilt : ℕ) (writes 
   pub covered : Covered g writes e i
   pub counts : Counts lost rebuilt covered.row covered.member
 
--- no byte changed but in the places that count and that these writes cover, and each of those holds the newest bytes
-pub record Drains (g : Geometry) (lost : Option ℕ) (rebuilt : ℕ) (writes : List Staged) (old new : Disks) : Type 0 where
+-- no byte changed but in the places that count and that these writes cover, and each of those holds
+-- the newest bytes
+pub record Drains (g : Geometry) (lost : Option ℕ) (rebuilt : ℕ) (writes : List Staged)
+    (old new : Disks) : Type 0 where
   pub differs : Differs (InDrained g lost rebuilt writes) old new
   pub there : AreDrained g lost rebuilt writes new
 
@@ -39,7 +42,8 @@ pub record InCounted (g : Geometry) (lost : Option ℕ) (rebuilt row member e i 
   pub within : place_area g row member e i
 
 -- where this place counts it holds these bytes, and no other byte changed
-pub record PlaceWritten (g : Geometry) (lost : Option ℕ) (rebuilt row member : ℕ) (bytes : List ℕ) (old new : Disks) : Type 0 where
+pub record PlaceWritten (g : Geometry) (lost : Option ℕ) (rebuilt row member : ℕ)
+    (bytes : List ℕ) (old new : Disks) : Type 0 where
   pub differs : Differs (InCounted g lost rebuilt row member) old new
   pub there : Counts lost rebuilt row member → member_place g new row member ≡ bytes
 
@@ -68,6 +72,7 @@ drain_calls g lost rebuilt (staged ∷ older) =
     write_calls g lost rebuilt staged + drain_calls g lost rebuilt older
 
 -- the bank was called exactly so often where all went well, and never more often
-pub record CostsWhole {T E : Type 0} (calls : ℕ) (result : Result T E) (old new : View) : Type 0 where
+pub record CostsWhole {T E : Type 0} (calls : ℕ) (result : Result T E)
+    (old new : View) : Type 0 where
   pub whole : OnOk result (Costs calls old new)
   pub most : CostsAtMost calls old new

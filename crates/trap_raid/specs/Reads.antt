@@ -19,8 +19,9 @@ pub record HasFailed (g : Geometry) (lost : Option ℕ) (old new : View) (member
   pub apart : lost ≢ Some member
   pub rose : Rose (old.faults (member + 1)) (new.faults (member + 1))
 
--- A place of member m is read for the place of this member in its row, and nothing is pending for either: it is the
--- place itself, or where the member is lost, that of another one. The lost member's is never read.
+-- A place of member m is read for the place of this member in its row, and nothing is pending for
+-- either: it is the place itself, or where the member is lost, that of another one. The lost
+-- member's is never read.
 pub record IsReadFor (g : Geometry) (lost : Option ℕ) (writes : List Staged)
     (row member m : ℕ) : Type 0 where
   pub inside : m < g.members
@@ -59,8 +60,9 @@ calls_for (Some bytes) = 0
 abbrev pub NonePending : Geometry → List Staged → ℕ → Type 0
 NonePending g writes row = (member : ℕ) → member < g.members → newest_at g writes row member ≡ None
 
--- A read of a place takes no call where bytes are pending for it. Else it takes one call, or where the member is lost, at
--- most one for each other member, and exactly that where nothing is pending in the row.
+-- A read of a place takes no call where bytes are pending for it. Else it takes one call, or where
+-- the member is lost, at most one for each other member, and exactly that where nothing is pending
+-- in the row.
 pub record ReadCosts {T E : Type 0} (g : Geometry) (lost : Option ℕ) (writes : List Staged)
     (row member : ℕ) (result : Result T E) (old new : View) : Type 0 where
   pub pending : newest_at g writes row member ≢ None → Costs 0 old new
@@ -68,8 +70,8 @@ pub record ReadCosts {T E : Type 0} (g : Geometry) (lost : Option ℕ) (writes :
   pub others : lost ≡ Some member → NonePending g writes row → OnOk result (Costs (g.members - 1) old new)
   pub most : CostsAtMost (g.members - 1) old new
 
--- a plan takes two calls where no member is lost and nothing is pending in the block's row, and never more than there
--- are members
+-- a plan takes two calls where no member is lost and nothing is pending in the block's row, and
+-- never more than there are members
 pub record PlanCosts {T E : Type 0} (g : Geometry) (lost : Option ℕ) (writes : List Staged) (block : ℕ)
     (result : Result T E) (old new : View) : Type 0 where
   pub whole : lost ≡ None → NonePending g writes (block_place g block).row → OnOk result (Costs 2 old new)

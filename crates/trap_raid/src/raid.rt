@@ -144,8 +144,8 @@ impl Raid {
             → OnOk result (IsPlan self.now.g image block fresh.now delta.new parity.new) }
         ensures cause { IfErr result (λ failed.
             HasFailed self.now.g self.now.lost (B.view bank.old) (B.view bank.new) failed.member) }
-        ensures read { IfErr result (λ failed. IsReadForBlock self.now.g self.now.lost stage.now.pending
-            block failed.member) }
+        ensures read { IfErr result (λ failed.
+            IsReadForBlock self.now.g self.now.lost stage.now.pending block failed.member) }
         ensures cost { PlanCosts self.now.g self.now.lost stage.now.pending block result
             (B.view bank.old) (B.view bank.new) }
 
@@ -164,9 +164,9 @@ impl Raid {
         Ok(())
     }
 
-    /// Writes the pending writes up to this number to the members, the oldest first, and syncs each place. Places that
-    /// don't count are left, as are the writes above the number. The slots stay pending: the caller puts a head with the
-    /// new number first.
+    /// Writes the pending writes up to this number to the members, the oldest first, and syncs each
+    /// place. Places that don't count are left, as are the writes above the number. The slots stay
+    /// pending: the caller puts a head with the new number first.
     pub fn drain<B: Bank>(&self, bank: &mut B, stage: &Stage, upto: u64) -> Result<(), MemberFailed>
         requires stage { stage.now.g ≡ self.now.g }
         requires low { stage.now.drained ≤ upto }
@@ -182,11 +182,13 @@ impl Raid {
         ensures sizes { (e : ℕ) → (B.view bank.new).sizes e ≡ (B.view bank.old).sizes e }
         ensures cause { IfErr result (λ failed. HasFailed self.now.g None
             (B.view bank.old) (B.view bank.new) failed.member) }
-        ensures counts { IfErr result (λ failed. Counts self.now.lost self.now.rebuilt 0 failed.member) }
+        ensures counts { IfErr result (λ failed.
+            Counts self.now.lost self.now.rebuilt 0 failed.member) }
 
         // It fails only by a member that it writes.
-        ensures place { IfErr result (λ failed. IsDrainedTo self.now.g self.now.lost self.now.rebuilt
-            (writes_to stage.now upto) failed.member) }
+        ensures place { IfErr result (λ failed.
+            IsDrainedTo self.now.g self.now.lost self.now.rebuilt (writes_to stage.now upto)
+            failed.member) }
         ensures cost { CostsWhole (drain_calls self.now.g self.now.lost self.now.rebuilt
             (writes_to stage.now upto)) result (B.view bank.old) (B.view bank.new) }
 

@@ -8,6 +8,7 @@ ghost use Rattle.trap_raid.specs.Reads.{OnlyReads, HasFailed, Costs, CostsAtMost
 
 use trap_bank::{Bank, Failed};
 use trap_block::xor_into;
+use trap_format::layout::MEMBER_HEADER_BYTES;
 use trap_map::Place;
 use trap_model::Geometry;
 use trap_stage::Stage;
@@ -36,7 +37,7 @@ pub(crate) fn read_member<B: Bank>(
     ensures cost { Costs 1 (B.view bank.old) (B.view bank.new) }
     ensures any_moment { OnlyReads (B.view bank.old) (B.view bank.new) }
 {
-    let at = 16 + u64::from(place.row) * u64::from(g.block);
+    let at = MEMBER_HEADER_BYTES + u64::from(place.row) * u64::from(g.block);
     match bank.read(place.member + 1, at, into) {
         Ok(()) => Ok(()),
         Err(Failed) => Err(MemberFailed {

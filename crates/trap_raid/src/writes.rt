@@ -12,6 +12,7 @@ ghost use Rattle.trap_raid.specs.Reads.{HasFailed};
 
 use crate::MemberFailed;
 use trap_bank::{Bank, Failed};
+use trap_format::layout::MEMBER_HEADER_BYTES;
 use trap_map::{Place, parity_of, place_of};
 use trap_model::Geometry;
 
@@ -27,7 +28,8 @@ fn write_and_sync<B: Bank>(bank: &mut B, d: u8, at: u64, bytes: &[u8]) -> Result
     requires disk { d ≤ 20 }
     requires room { Fits (B.view bank.old) d (at + length bytes.now) }
     ensures ok { OnOk result (Moves (B.view bank.old) (B.view bank.new)
-        (Differs (Within d at (length bytes.now))) (PlacedThrough (B.view bank.new) d at bytes.now)) }
+        (Differs (Within d at (length bytes.now)))
+        (PlacedThrough (B.view bank.new) d at bytes.now)) }
     ensures contents { IsTrue (B.view bank.old).tells
         → Torn (Within d at (length bytes.now)) (B.view bank.old).now (B.view bank.new).now }
     ensures sizes { (e : ℕ) → (B.view bank.new).sizes e ≡ (B.view bank.old).sizes e }
@@ -59,7 +61,8 @@ pub(crate) fn write_place<B: Bank>(
         (Differs (InCounted g.now lost rebuilt place.row place.member))
         (PlaceWritten g.now lost rebuilt place.row place.member bytes.now)) }
     ensures contents { IsTrue (B.view bank.old).tells
-        → Torn (InCounted g.now lost rebuilt place.row place.member) (B.view bank.old).now (B.view bank.new).now }
+        → Torn (InCounted g.now lost rebuilt place.row place.member)
+        (B.view bank.old).now (B.view bank.new).now }
     ensures sizes { (e : ℕ) → (B.view bank.new).sizes e ≡ (B.view bank.old).sizes e }
     ensures cause { IfErr result (λ failed.
         HasFailed g.now None (B.view bank.old) (B.view bank.new) failed.member) }
@@ -76,7 +79,7 @@ pub(crate) fn write_place<B: Bank>(
     if !counts(lost, rebuilt, place) {
         return Ok(());
     }
-    let at = 16 + u64::from(place.row) * u64::from(g.block);
+    let at = MEMBER_HEADER_BYTES + u64::from(place.row) * u64::from(g.block);
     // The place is stable before the head has the write drained, and its slot may be filled again.
     match write_and_sync(bank, place.member + 1, at, bytes) {
         Ok(()) => Ok(()),

@@ -22,14 +22,14 @@ made c =
 times : (c : goal.After-truncate_front) → (dropped_to (before c) c.args.seq).base_time ≡ c.time_at-base_time.result
 times c = ap (λ (i : Indexed). (dropped_to i c.args.seq).base_time) c.self.view_is ∙ sym c.time_at-base_time.ensures
 
-offs : (c : goal.After-truncate_front) → (dropped_to (before c) c.args.seq).first_off ≡ c.off_behind-first_off.result
-offs c = ap (λ (i : Indexed). (dropped_to i c.args.seq).first_off) c.self.view_is ∙ sym c.off_behind-first_off.ensures
+offs : (c : goal.After-truncate_front) → (dropped_to (before c) c.args.seq).first_off ≡ c.off_after-first_off.result
+offs c = ap (λ (i : Indexed). (dropped_to i c.args.seq).first_off) c.self.view_is ∙ sym c.off_after-first_off.ensures
 
 pub invariant_of-self : goal.invariant_of-self
 invariant_of-self c =
     let recs = recs_of c.args.seq c.truncate_front.new.self.items in
     let P : ℕ → ℕ → Type 0 = λ t o. IsKept (record { g = c.self.inside.g; first = c.args.seq; base_time = t; first_off = o; recs = recs }) c.truncate_front.new.self.items c.truncate_front.new.self.capacity c.self.inside.newest.items c.self.inside.end_off c.self.inside.last_time in
-    subst (λ (t : ℕ). P t c.off_behind-first_off.result) (times c) (subst (λ (o : ℕ). P (dropped_to (before c) c.args.seq).base_time o) (offs c) (made c).kept)
+    subst (λ (t : ℕ). P t c.off_after-first_off.result) (times c) (subst (λ (o : ℕ). P (dropped_to (before c) c.args.seq).base_time o) (offs c) (made c).kept)
 
 pub returns : goal.returns
 returns c =
