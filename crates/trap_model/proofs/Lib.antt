@@ -15,3 +15,4 @@ pub mod Further
 pub mod Refusals
 pub mod Retained
 pub mod Frames
+pub mod Windows
