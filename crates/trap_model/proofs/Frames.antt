@@ -1,10 +1,10 @@
 -- The laws of frames: the header tells its fields, and so where the code behind it ends.
-use Rattle.std.proofs.Common.{◌≡◌, ◌⊎◌, ℕ, ◌+◌, ◌-◌, ◌^◌, ◌<◌, ◌≤◌, List, [], ◌∷◌, ◌++◌, length, take, drop, slice_range, refl, sym, ◌∙◌, ap, subst, inl, inr, arith, w16, w32, w64, append_assoc, length-append, take_at, drop_at}
+use Rattle.std.proofs.Common.{◌≡◌, ℕ, ◌+◌, ◌-◌, ◌^◌, ◌<◌, ◌≤◌, List, [], ◌∷◌, ◌++◌, length, take, drop, refl, sym, ◌∙◌, ap, subst, inl, inr, arith, w16, w32, w64, append_assoc, length-append, take_at}
 use Rattle.std.specs.Int.{from_be_bytes}
 use Rattle.std.proofs.lemmas.Nat.{from_be_bytes-to_be_bytes_2, from_be_bytes-to_be_bytes_4, from_be_bytes-to_be_bytes_8}
 use Rattle.trap_model.specs.declared.frame.Frame.{Frame}
-use Rattle.trap_model.specs.ZeroRun.{ZeroRun, IsCode}
-use Rattle.trap_model.specs.Frame.{frame_header, frame_len, code_in, KeepsRanges, SpellsFrame, BeginsFrame, BreaksOff, HasBadCode, IsPart, IsCut, IsNoHeader, IsBadFrame, Sent, BeginsWithFrames, Ending, AtEnd, CutAt, BadAt, Ends, AreFrames}
+use Rattle.trap_model.specs.ZeroRun.{IsCode}
+use Rattle.trap_model.specs.Frame.{frame_header, frame_len, code_in, KeepsRanges, SpellsFrame, BeginsFrame, IsPart, IsBadFrame, Sent, BeginsWithFrames, Ending, AtEnd, CutAt, BadAt, Ends, AreFrames}
 use Rattle.trap_model.proofs.ZeroRuns.{ZeroRun-apart}
 use Rattle.trap_model.proofs.LogRecords.{front-same}
 

@@ -16,3 +16,4 @@ pub mod Further
 pub mod Refusals
 pub mod Retained
 pub mod Frames
+pub mod Windows

@@ -1,5 +1,5 @@
 -- A receiver of frames: what it has applied and what it holds, and what becomes of each frame that comes.
-use Rattle.std.specs.Prelude.{◌≡◌, ◌≢◌, ℕ, ◌+◌, ◌<◌, ◌≤◌, List, [], ◌∷◌, ◌++◌, map, set, Bool, true, false, ◌||◌, ◌==◌, nat_lt, nat_le, if◌then◌else◌}
+use Rattle.std.specs.Prelude.{◌≡◌, ℕ, ◌+◌, ◌<◌, ◌≤◌, List, [], ◌∷◌, ◌++◌, map, set, Bool, false, ◌||◌, ◌==◌, nat_lt, nat_le, if◌then◌else◌}
 use Rattle.trap_block.specs.Xor.{xor}
 use Rattle.trap_model.specs.Image.{block_of}
 use Rattle.trap_model.specs.declared.arrival.Arrival.{Arrival}

@@ -18,6 +18,7 @@ pub mod laws;
 mod log_record;
 mod numbers;
 mod plain;
+pub mod receiver_laws;
 mod refusing;
 mod request;
 
