@@ -50,7 +50,8 @@ fn word_of(rt: &HostRuntime, number: usize) -> Result<Option<String>, u8> {
     Err(no_memory(rt))
 }
 
-// The words behind the program's name, whose own bytes may be any, or the status that says why there are none.
+// The words behind the program's name, whose own bytes may be any, or the status that says why
+// there are none.
 fn words_of(rt: &HostRuntime) -> Result<Vec<String>, u8> {
     let mut words = Vec::new(rt.alloc());
     for number in 1..usize::MAX {

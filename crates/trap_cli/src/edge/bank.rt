@@ -59,7 +59,7 @@ pub struct FileBank<R: Files<File = File> + Print> {
 }
 
 impl<R: Files<File = File> + Print + Drop> FileBank<R> {
-    /// Locks the folder and opens the files that are there. From here on no standard stream is a disk.
+    /// Locks the folder and opens the files that are there. No standard stream ever becomes a disk.
     pub fn new(rt: R, alloc: Global) -> Result<FileBank<R>, BankFault>
         ensures counts { IfOk result (λ bank. bank.faults ≡ replicate 21 0) }
         ensures port_count { IfOk result (λ bank. bank.port_faults ≡ 0) }

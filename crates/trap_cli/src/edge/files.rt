@@ -18,8 +18,8 @@ const DEVICE_FAILS: [i32; 3] = [
     19, // ENODEV
 ];
 
-// Opens the file to read and to write, and tells its length in bytes. There is none where no file has the name, or
-// its device fails. Any other error says nothing of the file, so it is no reason to go on without it.
+// Opens the file to read and to write, and tells its length in bytes. There is none where no file
+// has the name, or its device fails. Any other error doesn't say that the file is lost.
 pub fn open_there<R: Files<File = File>>(rt: &R, name: &str) -> io::Result<Option<(File, u64)>> {
     match open_measured(rt, name) {
         Ok(opened) => Ok(Some(opened)),
@@ -31,8 +31,8 @@ pub fn open_there<R: Files<File = File>>(rt: &R, name: &str) -> io::Result<Optio
 fn open_measured<R: Files<File = File>>(rt: &R, name: &str) -> io::Result<(File, u64)> {
     let file = OpenOptions::new().read(true).write(true).open(rt, name)?;
     let len = file.metadata()?.len();
-    // After a sync that failed the kernel may keep bytes that the disk doesn't have. It is asked to drop
-    // them, and to read them from the disk. This is advice, so its answer decides nothing.
+    // After a sync that failed the kernel may keep bytes that the disk doesn't have. It is asked to
+    // drop them, and to read from the disk. This is advice, so its answer decides nothing.
     let _ = libc::posix_fadvise(file.as_raw_fd(), 0, 0, libc::POSIX_FADV_DONTNEED);
     Ok((file, len))
 }
@@ -47,9 +47,9 @@ fn is_gone(why: &io::Error) -> bool {
 // The name of a file while it is made.
 const UNFINISHED: &str = "new.trap";
 
-// Makes a file of that many zero bytes, and makes it and its name stable. It gets its name when it is whole, so that a
-// program that is stopped leaves no part of it there. Where the file is to be new, a name that is there is an error:
-// its file has no size since its device fails or a link leads nowhere, and neither is replaced.
+// Makes a file of that many zero bytes, and makes it and its name stable. It gets its name when it
+// is whole, so that a program that is stopped leaves no part of it there. Where the file is to be
+// new, a name that is there is an error: its device fails or its link leads nowhere, and it stays.
 pub fn make_zero<R: Files<File = File>>(
     rt: &R,
     folder: &Folder,

@@ -57,8 +57,8 @@ impl Folder {
     }
 }
 
-// Opens the folder under a descriptor that no standard stream has. A stream that is closed becomes the
-// folder itself, whose reads and writes fail, so that no file opened later takes its place.
+// Opens the folder under a descriptor that no standard stream has. A stream that is closed becomes
+// the folder itself, whose reads and writes fail, so that no file opened later takes its place.
 fn open_folder<R: Files<File = File>>(rt: &R) -> io::Result<File> {
     for _ in 0..=LAST_STREAM {
         let folder = File::open(rt, ".")?;
