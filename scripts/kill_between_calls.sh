@@ -20,7 +20,7 @@ import os, shutil, subprocess, sys, tempfile
 from concurrent.futures import ThreadPoolExecutor
 
 program = sys.argv[1]
-CALLS = ['openat', 'read', 'pread64', 'pwrite64', 'fdatasync', 'fsync', 'rename', 'write', 'close']
+CALLS = ['openat', 'flock', 'unlink', 'read', 'pread64', 'pwrite64', 'fdatasync', 'fsync', 'rename', 'write', 'close']
 MOST = 100
 ARRAY = 'create 7 3 1 16 4 1 2 8 2048'.split()
 MEMBERS = ['m00.trap', 'm01.trap', 'm02.trap']

@@ -7,7 +7,7 @@ ghost use Rattle.trap_format.specs.declared.head.Head.{Head};
 ghost use Rattle.trap_model.specs.declared.numbers.Geometry.{Geometry};
 ghost use Rattle.trap_model.specs.declared.history.State.{State};
 ghost use Rattle.trap_array.specs.Holding.{HoldsBy};
-ghost use Rattle.trap_array.specs.Mounting.{IsNoLog, Mounts, FoundLost};
+ghost use Rattle.trap_array.specs.Mounting.{IsNoLog, Mounts, FoundLost, WritesHead};
 ghost use Rattle.trap_array.specs.MountEnds.{MountsFor, MountEnds};
 ghost use Rattle.trap_mount.specs.declared.fault.MountFault.{MountFault};
 
@@ -38,6 +38,9 @@ impl Array {
         // current; or they hold what they held.
         ensures any_moment { Moves (B.view bank.old) (B.view bank.new)
             (Mounts (B.view bank.old)) (Mounts (B.view bank.old)) }
+
+        // Nothing is written but the head, over whatever disks, and that only where the lost member or its mark changed.
+        ensures writes { WritesHead (B.view bank.old) (B.view bank.new) }
     {
         let found = trap_mount::mount(alloc, bank)?;
         Ok(Array::assemble(

@@ -71,7 +71,7 @@ nothing_unsynced seed x (Some disk) i h = h
 
 -- the bank behind a crash
 abbrev pub behind_crash : Memory → List (Option Kept) → Memory
-behind_crash m disks = record m { disks = disks; past = []; since = m.moment; chosen = replicate 8 0; fuse = None }
+behind_crash m disks = record m { disks = disks; past = []; since = m.moment; chosen = replicate 8 0; fuse = None; spared = replicate 21 None }
 
 pub crashes : (seed : ℕ) (m : Memory) (disks : List (Option Kept)) → AllCrashed seed m.disks disks → Crashes seed m (behind_crash m disks)
 crashes seed m disks all = record {

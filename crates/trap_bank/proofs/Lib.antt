@@ -11,3 +11,5 @@ pub mod MemoryMakes
 pub mod Drawing
 pub mod CrashedRanges
 pub mod CrashedDisks
+pub mod Called
+pub mod OnlyReads

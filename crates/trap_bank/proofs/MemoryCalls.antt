@@ -1,11 +1,11 @@
 -- What the calls of a bank in memory do, by the views before and behind them.
-use Rattle.std.proofs.Common.{◌≡◌, ℕ, ◌-◌, ◌^◌, ◌<◌, ◌≤◌, List, [], length, Option, Some, None, Bool, true, false, Ok, Err, IsTrue, refl, sym, inl, inr, arith, append-nil, le_refl}
+use Rattle.std.proofs.Common.{◌≡◌, ℕ, ◌-◌, ◌^◌, ◌<◌, ◌≤◌, List, [], length, Option, Some, None, Bool, true, false, Ok, Err, IsTrue, refl, sym, inl, inr, arith, append-nil, le_refl, subst}
 use Rattle.trap_bank.specs.Disks.{bytes_of, size_of, region}
 use Rattle.trap_bank.specs.Calls.{Fits, Goes, Reads, Writes, Syncs, Says, Makes}
 use Rattle.trap_bank.specs.Counts.{one_more, with_raised}
 use Rattle.trap_bank.specs.Record.{bytes_kept}
 use Rattle.trap_bank.specs.Memory.{Memory, IsSound, disk_at, view_of}
-use Rattle.trap_bank.specs.MemorySteps.{IsStruck, IsWorn}
+use Rattle.trap_bank.specs.MemorySteps.{IsStruck, IsStruckOn, IsWorn, counted_on}
 use Rattle.trap_bank.proofs.MemoryTime.{recounted, goes, idle, raised, none_falls}
 
 -- a disk with a number
@@ -112,6 +112,10 @@ fails_saying error m piece s sound = record {
 pub has_a_number : (m : Memory) (b : Bool) → b ≡ false → (IsStruck m → IsTrue b) → m.moment ≡ 2 ^ 64 - 1 → ⊥
 has_a_number m b not_struck struck worn = let is : b ≡ true = struck (inr (inr worn)) in cc
 
+-- nor does a call on a disk that isn't to fail lack one
+pub has_one_on : (m : Memory) (d : ℕ) (b : Bool) → b ≡ false → (IsStruckOn m d → IsTrue b) → m.moment ≡ 2 ^ 64 - 1 → ⊥
+has_one_on m d b not_struck struck worn = let is : b ≡ true = struck (inr (inr (inr worn))) in cc
+
 -- so has a call where not all numbers are used up
 pub not_used_up : (m : Memory) (b : Bool) → b ≡ false → (IsWorn m → IsTrue b) → m.moment ≡ 2 ^ 64 - 1 → ⊥
 not_used_up m b not_worn worn is_worn = let is : b ≡ true = worn is_worn in cc
@@ -119,3 +123,10 @@ not_used_up m b not_worn worn is_worn = let is : b ≡ true = worn is_worn in cc
 -- at the last moment no time goes by
 pub used_up : (m : Memory) → IsWorn m → m.moment ≡ one_more m.moment
 used_up m worn = omega arith
+
+-- counting a call on a disk changes nothing of that
+pub worn_before : (m : Memory) (d : ℕ) (n : Memory) → n ≡ counted_on m d → IsWorn n → IsWorn m
+worn_before m d n is worn = subst IsWorn is worn
+
+pub worn_behind : (m : Memory) (d : ℕ) (n : Memory) → n ≡ counted_on m d → IsWorn m → IsWorn n
+worn_behind m d n is worn = subst IsWorn (sym is) worn

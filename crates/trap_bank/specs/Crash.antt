@@ -66,7 +66,7 @@ pub record Crashes (seed : ℕ) (old new : Memory) : Type 0 where
   pub last_sync : seed ≡ 1 → (d : ℕ) → (view_of new).now.disks d ≡ stable_kept (disk_at old d)
   pub exact : (d : ℕ) → disk_at new d ≡ option_crashed seed (first_draw seed old.disks d) (disk_at old d)
   pub synced : (d i : ℕ) → (view_of new).unsynced d i → ⊥
-  pub rest : new ≡ record old { disks = new.disks; past = []; since = old.moment; chosen = replicate 8 0; fuse = None }
+  pub rest : new ≡ record old { disks = new.disks; past = []; since = old.moment; chosen = replicate 8 0; fuse = None; spared = replicate 21 None }
 
 -- the disk is absent, and of earlier moments nothing is known
 abbrev pub removed : Memory → ℕ → Memory

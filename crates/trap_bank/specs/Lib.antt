@@ -2,6 +2,7 @@ pub mod Faults
 pub mod Disks
 pub mod Calls
 pub mod Steps
+pub mod Called
 pub mod Stream
 pub mod Schedule
 pub mod Counts
@@ -13,5 +14,6 @@ pub mod Memory
 pub mod MemoryFields
 pub mod MemorySteps
 pub mod Struck
+pub mod Effects
 pub mod Draws
 pub mod Crash

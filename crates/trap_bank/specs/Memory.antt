@@ -27,6 +27,8 @@ pub record Memory : Type 0 where
   pub chosen : List ℕ
   -- after how many calls every call fails
   pub fuse : Option ℕ
+  -- after how many more calls on it each disk fails every call
+  pub spared : List (Option ℕ)
 
 -- there are twenty-one disks, and the record agrees with the counts
 pub record IsMemory (m : Memory) : Type 0 where
@@ -35,6 +37,7 @@ pub record IsMemory (m : Memory) : Type 0 where
   pub since : m.since ≤ m.moment
   pub began : BeganBefore m.past m.moment
   pub starved : m.starved ≤ m.moment
+  pub spared : length m.spared ≡ 21
 
 -- what holds of every bank in memory
 pub record IsSound (m : Memory) : Type 0 where
@@ -74,6 +77,7 @@ no_disks = record {
   starved = 0;
   chosen = replicate 8 0;
   fuse = None;
+  spared = replicate 21 None;
 }
 
 -- seen under the bank's own view

@@ -15,4 +15,5 @@ memory_of bank = record {
   starved = bank.starved;
   chosen = bank.chosen.numbers;
   fuse = bank.fuse;
+  spared = bank.spared;
 }

@@ -1,5 +1,5 @@
 -- The steps of which the calls of a bank in memory are made.
-use Rattle.std.specs.Prelude.{◌≡◌, ◌⊎◌, ℕ, ◌+◌, ◌-◌, ◌^◌, ◌≤◌, List, [], ◌∷◌, ◌++◌, length, slice_range, slice_set, Option, Some, None, MatchOption, Contains}
+use Rattle.std.specs.Prelude.{◌≡◌, ◌⊎◌, ℕ, ◌+◌, ◌-◌, ◌^◌, ◌≤◌, List, [], ◌∷◌, ◌++◌, length, slice_range, slice_set, Option, Some, None, get_or, MatchOption, Contains}
 use Rattle.trap_bank.specs.declared.record.Change.TheVariants.{Made, Written, Synced, Said}
 use Rattle.trap_bank.specs.Counts.{one_more, with_raised}
 use Rattle.trap_bank.specs.Kept.{Kept, zero_disk, written_disk, settled_disk}
@@ -17,6 +17,23 @@ IsBurnt m = MatchOption m.fuse ⊥ (λ calls. calls ≤ m.moment)
 -- the next call is to fail: its number was chosen, or the fuse has burnt down, or it has no number
 abbrev pub IsStruck : Memory → Type 0
 IsStruck m = Contains m.chosen (m.moment + 1) ⊎ (IsBurnt m ⊎ IsWorn m)
+
+-- the calls on the disk that were spared have been made
+abbrev pub IsSpent : Memory → ℕ → Type 0
+IsSpent m d = get_or m.spared d None ≡ Some 0
+
+-- the next call on the disk is to fail
+abbrev pub IsStruckOn : Memory → ℕ → Type 0
+IsStruckOn m d = IsSpent m d ⊎ IsStruck m
+
+-- one call less is spared, where a number of them is
+abbrev pub one_less : Option ℕ → Option ℕ
+one_less None = None
+one_less (Some calls) = Some (calls - 1)
+
+-- a call on the disk counts, whatever becomes of it
+abbrev pub counted_on : Memory → ℕ → Memory
+counted_on m d = record m { spared = slice_set m.spared d (one_less (get_or m.spared d None)) }
 
 -- a call was made, and nothing else
 abbrev pub passed : Memory → Memory

@@ -1,5 +1,5 @@
 -- What a run of calls does to a bank, crashes at any moment included.
-use Rattle.std.specs.Prelude.{◌≡◌, ◌≢◌, ◌⊎◌, ℕ, ◌≤◌, List, ◌++◌, length, replicate, Some, None}
+use Rattle.std.specs.Prelude.{◌≡◌, ◌≢◌, ◌⊎◌, ℕ, ◌≤◌, List, ◌++◌, length, replicate, Some, None, IsTrue}
 use Rattle.trap_bank.specs.Disks.{Contents, View, Disks, Quiet, Differs, Within, region}
 use Rattle.trap_bank.specs.Calls.{MayLeave, SaysPart}
 
@@ -60,6 +60,12 @@ pub record RemadeDisk (d n : ℕ) (old new : Disks) : Type 0 where
 pub record MadeDisk (d n : ℕ) (old new : Disks) : Type 0 where
   pub others : (e : ℕ) → e ≢ d → new e ≡ old e
   pub disk : new d ≡ Some (replicate n 0)
+
+-- The run only read: sizes, what a read gives and what was said are the same, also after a crash at any moment.
+pub record OnlyReads (old new : View) : Type 0 where
+  pub sizes : (e : ℕ) → new.sizes e ≡ old.sizes e
+  pub same : IsTrue old.tells → new.now ≡ old.now
+  pub moves : Moves old new Same Same
 
 -- every crash now leaves disks with this
 abbrev pub Always : View → (Disks → Type 0) → Type 0

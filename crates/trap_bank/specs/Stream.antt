@@ -1,5 +1,5 @@
 -- What a source means: the bytes that are left, and what it has given.
-use Rattle.std.specs.Prelude.{◌≡◌, ℕ, ◌+◌, ◌==◌, List, take, Option, Bool, Result, MatchResult}
+use Rattle.std.specs.Prelude.{◌≡◌, ℕ, ◌+◌, ◌==◌, List, take, Option, None, Bool, Result, MatchResult}
 use Rattle.std.specs.Io.KnownBytes.{Consumes, IsAtEnd}
 
 pub record Stream : Type 0 where
@@ -18,6 +18,8 @@ pub record Gave (bytes : List ℕ) (count : ℕ) (old new : Stream) : Type 0 whe
   pub given : new.given ≡ old.given + count
   pub ended : new.ended ≡ (count == 0)
   pub at_end : count ≡ 0 → IsAtEnd new.left
+  -- a source that doesn't tell its bytes never begins to
+  pub untold : old.left ≡ None → new.left ≡ None
 
 -- nothing but the count of faults changed
 pub record GaveNothing (old new : Stream) : Type 0 where

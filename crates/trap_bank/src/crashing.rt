@@ -32,8 +32,9 @@ impl MemoryBank {
 
     /// Goes on as after a crash. Seed 0 keeps what was written, and seed 1 gives back what the last
     /// sync of each disk left. Any other seed fills what was written since then, one disk after another
-    /// and one write after another, with bytes that follow from the seed. It ends what `fail_at` and
-    /// `fuse` have set, takes no memory, and forgets what a crash may have left at earlier moments.
+    /// and one write after another, with bytes that follow from the seed. It ends what `fail_at`,
+    /// `fail_on` and `fuse` have set, takes no memory, and forgets what a crash may have left at earlier
+    /// moments.
     pub fn crash(&mut self, seed: u64)
         ensures { Crashes seed self.old self.new }
     {
@@ -42,6 +43,7 @@ impl MemoryBank {
         self.since = self.moment;
         self.chosen = Chosen::new();
         self.fuse = None;
+        self.spared = [None; 21];
     }
 }
 

@@ -1,6 +1,6 @@
 //! A bank in memory, with a record of its calls.
 
-ghost use Rattle.std.specs.Prelude.{◌≡◌, ◌↔◌, ◌+◌, ◌-◌, ◌<◌, ◌≤◌, ◌^◌, ◌∷◌, IfOk, IsTrue, MatchOption, OnErr, OnOk, length, take};
+ghost use Rattle.std.specs.Prelude.{◌≡◌, ◌↔◌, ◌+◌, ◌-◌, ◌<◌, ◌≤◌, ◌^◌, ◌∷◌, IfOk, IsTrue, MatchOption, OnErr, OnOk, length, slice_set, take};
 ghost use Rattle.trap_bank.specs.Calls.{Fits};
 ghost use Rattle.trap_bank.specs.Memory.{view_of, disk_at, no_disks};
 ghost use Rattle.trap_bank.specs.MemorySteps.{IsWorn, IsStruck, passed, found_no_memory, blamed, port_blamed, written, synced, made, spoken};
@@ -31,6 +31,7 @@ pub struct MemoryBank {
     pub(crate) starved: u64,
     pub(crate) chosen: Chosen,
     pub(crate) fuse: Option<u64>,
+    pub(crate) spared: [Option<u64>; 21],
 }
 
 impl Model for MemoryBank {
@@ -66,6 +67,7 @@ impl MemoryBank {
             starved: 0,
             chosen: Chosen::new(),
             fuse: None,
+            spared: [None; 21],
         })
     }
 
@@ -75,6 +77,17 @@ impl MemoryBank {
         ensures { self.new ≡ record self.old { chosen = call ∷ take 7 self.old.chosen } }
     {
         self.chosen.add(call);
+    }
+
+    /// Makes each call on the disk fail after so many more on it. A later number for the same disk takes
+    /// the place of the earlier one.
+    pub fn fail_on(&mut self, d: u8, after: u64)
+        requires { d ≤ 20 }
+        ensures { self.new ≡ record self.old {
+          spared = slice_set self.old.spared d (Some after);
+        } }
+    {
+        self.spared[d as usize] = Some(after);
     }
 
     /// All bytes on the port.

@@ -3,7 +3,8 @@
 ghost use Rattle.std.specs.Prelude.{◌≡◌, ◌+◌, ◌≤◌, length};
 ghost use Rattle.trap_bank.specs.Calls.{Fits, Makes, Reads, Writes, Syncs, Says};
 ghost use Rattle.trap_bank.specs.Memory.{view_of, lawful_view};
-ghost use Rattle.trap_bank.specs.Struck.{DiskCall, PortCall, Lays, Leaves};
+ghost use Rattle.trap_bank.specs.Struck.{DiskCall, PortCall};
+ghost use Rattle.trap_bank.specs.Effects.{MakeEffect, ReadEffect, WriteEffect, SyncEffect, SayEffect};
 
 use crate::{Bank, Failed, MemoryBank};
 
@@ -23,9 +24,11 @@ impl Bank for MemoryBank {
         requires { d ≤ 20 }
         ensures call { Makes d len result (view_of self.old) (view_of self.new) }
         ensures struck { DiskCall d result self.old self.new }
-        ensures stays { Leaves result self.old self.new }
+        ensures effect { MakeEffect d len result self.old self.new }
     {
-        if self.is_struck() {
+        let struck = self.is_struck_on(d);
+        self.count_on(d);
+        if struck {
             self.pass();
             return Err(self.blame(d));
         }
@@ -43,8 +46,11 @@ impl Bank for MemoryBank {
         requires room { Fits (view_of self.old) d (at + length buf.old) }
         ensures call { Reads d at buf.old buf.new result (view_of self.old) (view_of self.new) }
         ensures struck { DiskCall d result self.old self.new }
+        ensures effect { ReadEffect d result self.old self.new }
     {
-        if self.is_struck() {
+        let struck = self.is_struck_on(d);
+        self.count_on(d);
+        if struck {
             self.pass();
             return Err(self.blame(d));
         }
@@ -58,12 +64,13 @@ impl Bank for MemoryBank {
         requires room { Fits (view_of self.old) d (at + length bytes.now) }
         ensures call { Writes d at bytes.now result (view_of self.old) (view_of self.new) }
         ensures struck { DiskCall d result self.old self.new }
-        ensures lays { Lays d at bytes.now self.old self.new }
+        ensures effect { WriteEffect d at bytes.now result self.old self.new }
     {
+        let struck = self.is_struck_on(d);
+        self.count_on(d);
         if self.is_worn() {
             return Err(self.blame(d));
         }
-        let struck = self.is_struck();
         match self.lay(d, at, bytes) {
             Ok(()) => { if struck { Err(self.blame(d)) } else { Ok(()) } }
             Err(_) => {
@@ -78,9 +85,11 @@ impl Bank for MemoryBank {
         requires there { Fits (view_of self.old) d 0 }
         ensures call { Syncs d result (view_of self.old) (view_of self.new) }
         ensures struck { DiskCall d result self.old self.new }
-        ensures stays { Leaves result self.old self.new }
+        ensures effect { SyncEffect d result self.old self.new }
     {
-        if self.is_struck() {
+        let struck = self.is_struck_on(d);
+        self.count_on(d);
+        if struck {
             self.pass();
             let failed = self.blame(d);
             return Err(failed);
@@ -97,7 +106,7 @@ impl Bank for MemoryBank {
     fn say(&mut self, bytes: &[u8]) -> Result<(), Failed>
         ensures call { Says bytes.now result (view_of self.old) (view_of self.new) }
         ensures struck { PortCall result self.old self.new }
-        ensures stays { Leaves result self.old self.new }
+        ensures effect { SayEffect bytes.now result self.old self.new }
     {
         if self.is_struck() {
             self.pass();

@@ -5,7 +5,7 @@ ghost use Rattle.trap_bank.specs.declared.record.Entry.{Entry};
 ghost use Rattle.trap_bank.specs.Calls.{Fits};
 ghost use Rattle.trap_bank.specs.Disks.{region};
 ghost use Rattle.trap_bank.specs.Memory.{view_of, IsSound};
-ghost use Rattle.trap_bank.specs.MemorySteps.{IsWorn, IsStruck, IsBurnt, passed, found_no_memory, blamed, port_blamed, written, synced, made, spoken};
+ghost use Rattle.trap_bank.specs.MemorySteps.{IsWorn, IsStruck, IsStruckOn, IsBurnt, one_less, counted_on, passed, found_no_memory, blamed, port_blamed, written, synced, made, spoken};
 
 use crate::disk::Disk;
 use crate::record::{Change, Entry};
@@ -35,6 +35,25 @@ impl MemoryBank {
             return true;
         }
         is_burnt(self.fuse, calls)
+    }
+
+    /// The next call on the disk is to fail.
+    pub(crate) fn is_struck_on(&self, d: u8) -> bool
+        requires { d ≤ 20 }
+        ensures struck { IsTrue result ↔ IsStruckOn self.now d }
+        ensures sound { IsSound self.now }
+    {
+        let spent = is_spent(self.spared[d as usize]);
+        let struck = self.is_struck();
+        spent || struck
+    }
+
+    /// A call on the disk counts.
+    pub(crate) fn count_on(&mut self, d: u8)
+        requires { d ≤ 20 }
+        ensures { self.new ≡ counted_on self.old d }
+    {
+        self.spared[d as usize] = one_less(self.spared[d as usize]);
     }
 
     /// A call goes by.
@@ -180,5 +199,25 @@ fn is_burnt(fuse: Option<u64>, moment: u64) -> bool
     match fuse {
         Some(calls) => calls <= moment,
         None => false,
+    }
+}
+
+/// No further call is spared.
+fn is_spent(spared: Option<u64>) -> bool
+    ensures { IsTrue result ↔ spared ≡ Some 0 }
+{
+    match spared {
+        Some(calls) => calls == 0,
+        None => false,
+    }
+}
+
+/// One call less is spared.
+fn one_less(spared: Option<u64>) -> Option<u64>
+    ensures { result ≡ one_less spared }
+{
+    match spared {
+        Some(calls) => Some(calls.saturating_sub(1)),
+        None => None,
     }
 }

@@ -135,6 +135,23 @@ fn each_kind_of_call_fails_by_its_number_and_by_the_fuse(rt: HostRuntime) -> Res
 }
 
 #[test]
+fn calls_on_one_disk_fail_after_so_many_more(rt: HostRuntime) -> Result<(), Fail> {
+    let mut bank = bank_of_eight(rt.alloc())?;
+    bank.fail_on(0, 0);
+    bank.fail_on(0, 2);
+    assert!(rt; write(&mut bank, 0, 0, &[2; 4]));
+    assert!(rt; bank.make(1, 4).is_ok());
+    assert!(rt; sync(&mut bank, 0));
+    assert!(rt; !write(&mut bank, 0, 0, &[3; 4]));
+    assert!(rt; !sync(&mut bank, 0));
+    assert!(rt; bank.say(b"ok").is_ok());
+    bank.crash(1);
+    assert!(rt; holds(&bank, &[2, 2, 2, 2, 0, 0, 0, 0]));
+    assert!(rt; sync(&mut bank, 0));
+    Ok(())
+}
+
+#[test]
 fn a_call_that_is_made_to_fail_leaves_its_traces(rt: HostRuntime) -> Result<(), Fail> {
     let mut bank = bank_of_eight(rt.alloc())?;
     bank.fuse(0);

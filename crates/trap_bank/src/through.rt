@@ -3,6 +3,7 @@
 ghost use Rattle.std.specs.Prelude.{◌≡◌, ◌+◌, ◌≤◌, ℕ, length, OnErr, OnOk, IsTrue};
 ghost use Rattle.trap_bank.specs.Faults.{Rose};
 ghost use Rattle.trap_bank.specs.Disks.{Within, Differs, Torn, region};
+ghost use Rattle.trap_bank.specs.Called.{TakesCalls};
 ghost use Rattle.trap_bank.specs.Calls.{Fits};
 ghost use Rattle.trap_bank.specs.Steps.{Moves, PlacedThrough};
 
@@ -16,6 +17,7 @@ pub fn write_through<B: Bank>(bank: &mut B, d: u8, at: u64, bytes: &[u8]) -> Res
     ensures cause { OnErr result (Rose ((B.view bank.old).faults d) ((B.view bank.new).faults d)) }
     ensures contents { IsTrue (B.view bank.old).tells
         → Torn (Within d at (length bytes.now)) (B.view bank.old).now (B.view bank.new).now }
+    ensures calls { TakesCalls 2 result (B.view bank.old) (B.view bank.new) }
     ensures written { IsTrue (B.view bank.old).tells
         → OnOk result (region (B.view bank.new).now.disks d at (length bytes.now) ≡ bytes.now) }
 

@@ -1,3 +1,5 @@
 pub mod XorLemmas
 pub mod OverLemmas
 pub mod ZeroLemmas
+pub mod LaneLemmas
+pub mod ScanLemmas

@@ -1,5 +1,8 @@
 -- The algebra of exclusive-or on lists of bytes.
-use Rattle.std.proofs.Common.{◌≡◌, ℕ, zero, suc, ◌<◌, List, [], ◌∷◌, length, get_or, refl, arith}
+use Rattle.std.proofs.Common.{◌≡◌, ℕ, zero, suc, ◌+◌, ◌-◌, ◌<◌, ◌≤◌, List, [], ◌∷◌, length, get_or, refl, sym, ap, subst, ◌∙◌, arith, ⊎_elim}
+use Rattle.std.specs.Simd.Lanes.{chunk, put_chunk}
+use Rattle.std.proofs.lemmas.Bool.{cases_lt}
+use Rattle.std.proofs.lemmas.Simd.{length-chunk, get_or-chunk, length-put_chunk, get_or-put_chunk_below, get_or-put_chunk_at, get_or-put_chunk_above}
 use Rattle.std.specs.Int.Bits.{bit_xor, xor_assoc, xor_self, xor_zero_r}
 use Rattle.std.proofs.lemmas.Nat.{xor_comm}
 use Rattle.trap_block.specs.Xor.{xor, zeros}
@@ -50,3 +53,36 @@ pub xor-zeros : (xs : List ℕ) (n : ℕ) → length xs ≡ n → xor xs (zeros 
 xor-zeros [] n e = refl
 xor-zeros (x ∷ xs) zero e = cc
 xor-zeros (x ∷ xs) (suc n) e = let h = xor_zero_r x in let r = xor-zeros xs n (omega arith) in cc
+
+-- where the exclusive-or stands before one place, and what was there from it on
+pub record IsXoredTo (at : ℕ) (old src new : List ℕ) : Type 0 where
+  pub inside : at ≤ length new
+  pub done : (k : ℕ) → k < at → get_or new k 0 ≡ bit_xor (get_or old k 0) (get_or src k 0)
+  pub still : (k : ℕ) → at ≤ k → get_or new k 0 ≡ get_or old k 0
+
+-- one vector more is stored
+pub xor_stored : (at : ℕ) (old src dst both : List ℕ) → at + 32 ≤ length dst → length src ≡ length dst
+    → ((k : ℕ) → k < at → get_or dst k 0 ≡ bit_xor (get_or old k 0) (get_or src k 0)) → ((k : ℕ) → at ≤ k → get_or dst k 0 ≡ get_or old k 0)
+    → both ≡ xor (chunk at 32 dst) (chunk at 32 src) → IsXoredTo (at + 32) old src (put_chunk at dst both)
+xor_stored at old src dst both room same done still is =
+    let len_d = length-chunk at 32 dst room in
+    let len_s = length-chunk at 32 src (omega arith) in
+    let len : length both ≡ 32 = ap length is ∙ length-xor (chunk at 32 dst) (chunk at 32 src) (len_s ∙ sym len_d) ∙ len_d in
+    let all = length-put_chunk at dst both in
+    let lane : (j : ℕ) → j < 32 → get_or (put_chunk at dst both) (at + j) 0 ≡ bit_xor (get_or old (at + j) 0) (get_or src (at + j) 0) =
+    λ j small.
+    get_or-put_chunk_at at dst both j 0 (omega arith) (omega arith)
+    ∙ ap (λ (l : List ℕ). get_or l j 0) is
+    ∙ get_or-xor (chunk at 32 dst) (chunk at 32 src) j (len_s ∙ sym len_d)
+    ∙ ap (λ (x : ℕ). bit_xor x (get_or (chunk at 32 src) j 0)) (get_or-chunk at 32 dst j 0 small ∙ still (at + j) (omega arith))
+    ∙ ap (λ (x : ℕ). bit_xor (get_or old (at + j) 0) x) (get_or-chunk at 32 src j 0 small) in
+    record {
+      inside = omega arith;
+      done = λ k below. ⊎_elim
+          (λ (before : k < at). get_or-put_chunk_below at dst both k 0 before ∙ done k before)
+          (λ (behind : at ≤ k).
+          let e : at + (k - at) ≡ k = omega arith in
+          subst (λ (i : ℕ). get_or (put_chunk at dst both) i 0 ≡ bit_xor (get_or old i 0) (get_or src i 0)) e (lane (k - at) (omega arith)))
+          (cases_lt k at);
+      still = λ k from. get_or-put_chunk_above at dst both k 0 (omega arith) ∙ still k (omega arith);
+    }

@@ -1,2 +1,3 @@
 pub mod Xor
+pub mod Zeros
 pub mod Fields

@@ -60,11 +60,11 @@ pub gate_part : (s : Slots) (x y : Disks) → Differs (Within s.place.disk (slot
 gate_part s x y torn = differs_wider s.place.disk (slot_at s.place (not s.second)) 1 (slot_at s.place (not s.second)) (2 + s.place.size) x y (omega arith) (omega arith) torn
 
 -- the other slot's turn stays where only its gate byte may change
-beyond_gate : (s : Slots) (x y : Disks) → Differs (Within s.place.disk (slot_at s.place (not s.second)) 1) x y → turn_of s.place (not s.second) y ≡ turn_of s.place (not s.second) x
+pub beyond_gate : (s : Slots) (x y : Disks) → Differs (Within s.place.disk (slot_at s.place (not s.second)) 1) x y → turn_of s.place (not s.second) y ≡ turn_of s.place (not s.second) x
 beyond_gate s x y torn = byte_beside s.place.disk (slot_at s.place (not s.second)) 1 x y (slot_at s.place (not s.second) + 1) torn (inr (omega arith))
 
 -- and its value
-value_beyond : (s : Slots) (x y : Disks) → Differs (Within s.place.disk (slot_at s.place (not s.second)) 1) x y → value_in s.place (not s.second) y ≡ value_in s.place (not s.second) x
+pub value_beyond : (s : Slots) (x y : Disks) → Differs (Within s.place.disk (slot_at s.place (not s.second)) 1) x y → value_in s.place (not s.second) y ≡ value_in s.place (not s.second) x
 value_beyond s x y torn = region_beside s.place.disk (slot_at s.place (not s.second)) 1 x y (slot_at s.place (not s.second) + 2) s.place.size torn (inr (omega arith))
 
 -- an open gate that is torn

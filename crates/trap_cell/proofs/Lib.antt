@@ -4,3 +4,4 @@ pub mod Putting
 pub mod Beginning
 pub mod Mounting
 pub mod Beside
+pub mod Stages

@@ -9,7 +9,7 @@ use Rattle.trap_cell.specs.Steps.{PutsIn, IsPut, Keeps, Shuts, Fills, IsReady}
 use Rattle.trap_cell.proofs.Keeping.{keeps_torn, shuts_written, shuts_none, keeps_none, shuts_stands, keeps_then, keeps_puts, keeps_puts_then, fills_ready, puts_torn, put_written, shuts_torn}
 
 -- a change of the other slot's gate byte, where disk and start have names of their own
-at_gate : (s : Slots) (d start : ℕ) (x y : Disks) → d ≡ s.place.disk → start ≡ slot_at s.place (not s.second) → Differs (Within d start 1) x y → Differs (Within s.place.disk (slot_at s.place (not s.second)) 1) x y
+pub at_gate : (s : Slots) (d start : ℕ) (x y : Disks) → d ≡ s.place.disk → start ≡ slot_at s.place (not s.second) → Differs (Within d start 1) x y → Differs (Within s.place.disk (slot_at s.place (not s.second)) 1) x y
 at_gate s d start x y same place torn = differs_at d start 1 s.place.disk (slot_at s.place (not s.second)) 1 x y same place refl torn
 
 -- and the byte that stands there

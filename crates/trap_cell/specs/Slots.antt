@@ -85,3 +85,11 @@ shut_of s = record s { other_open = false }
 -- the other slot is current, with the next turn
 abbrev pub turned : Slots → Slots
 turned s = record { place = s.place; second = not s.second; turn = next_turn s.turn; other_open = true }
+
+-- the gate byte of the slot that isn't current
+abbrev pub other_gate : Slots → Area
+other_gate s = Within s.place.disk (slot_at s.place (not s.second)) 1
+
+-- a cell that was begun with its first value: slot 0 is current with turn 0, and slot 1 is off
+abbrev pub begun : Place → Slots
+begun p = record { place = p; second = false; turn = 0; other_open = false }

@@ -1,14 +1,16 @@
 //! A cell: its first value, its mount and its puts.
 
 ghost use Rattle.std.specs.Prelude.{◌≡◌, ◌+◌, ◌*◌, ◌<◌, ◌≤◌, ◌^◌, ◌↔◌, ℕ, None, length, not};
-ghost use Rattle.std.specs.Prelude.{OnErr, OnOk, IfOk, IsErrOf, IsTrue};
+ghost use Rattle.std.specs.Prelude.{OnErr, OnOk, IfOk, IsErrOf, IsTrue, if◌then◌else◌};
 ghost use Rattle.trap_bank.specs.Faults.{Rose};
 ghost use Rattle.trap_bank.specs.Disks.{Differs, Torn, Quiet, region};
+ghost use Rattle.trap_bank.specs.Called.{TakesCalls};
 ghost use Rattle.trap_bank.specs.Calls.{Fits};
 ghost use Rattle.trap_bank.specs.Steps.{Moves, Same, Always};
 ghost use Rattle.trap_cell.specs.Slots.{Slots, Stands, place_of, slot_at, next_turn, cell_len};
-ghost use Rattle.trap_cell.specs.Slots.{cell_area, cell_value, shut_of, turned};
+ghost use Rattle.trap_cell.specs.Slots.{cell_area, cell_value, shut_of, turned, other_gate, begun};
 ghost use Rattle.trap_cell.specs.Steps.{PutsIn, IsPut, IsFirst, IsMounted, Keeps, Shuts, Fills, IsReady};
+ghost use Rattle.trap_cell.specs.Steps.{PutStage, AfterPut, MountCalls};
 
 use crate::fault::CellFault;
 use crate::heads::{HEAD_BYTES, Heads, ON, slot_start};
@@ -58,6 +60,8 @@ impl Cell {
             (Differs (cell_area (place_of disk at (length value.now)))) (IsFirst (B.view bank.new) cell value.now)) }
         ensures contents { IsTrue (B.view bank.old).tells
             → Torn (cell_area (place_of disk at (length value.now))) (B.view bank.old).now (B.view bank.new).now }
+        ensures cell { IfOk result (λ cell. cell ≡ begun (place_of disk at (length value.now))) }
+        ensures calls { TakesCalls 4 result (B.view bank.old) (B.view bank.new) }
         ensures sizes { (e : ℕ) → (B.view bank.new).sizes e ≡ (B.view bank.old).sizes e }
         ensures cause { OnErr result (Rose ((B.view bank.old).faults disk) ((B.view bank.new).faults disk)) }
 
@@ -102,6 +106,7 @@ impl Cell {
         ensures no_value { IsTrue (B.view bank.old).tells → ¬ IsErrOf result CellFault.DiskFault
             → (IsErrOf result CellFault.NoValue
             ↔ (cell_value (place_of disk at (length value.old)) (B.view bank.old).now.disks ≡ None)) }
+        ensures calls { MountCalls result (B.view bank.old) (B.view bank.new) }
         ensures same { IsTrue (B.view bank.old).tells → (B.view bank.new).now ≡ (B.view bank.old).now }
         ensures sizes { (e : ℕ) → (B.view bank.new).sizes e ≡ (B.view bank.old).sizes e }
         ensures cause { IsErrOf result CellFault.DiskFault
@@ -178,6 +183,10 @@ impl Cell {
             → Quiet (Keeps self.now) (B.view bank.old).now (B.view bank.new).now }
         ensures ok { OnOk result
             (Moves (B.view bank.old) (B.view bank.new) (Keeps self.now) (Shuts self.now)) }
+        ensures gate { Moves (B.view bank.old) (B.view bank.new)
+            (Differs (other_gate self.now)) (Differs (other_gate self.now)) }
+        ensures calls { TakesCalls (if self.now.other_open then 2 else 0) result
+            (B.view bank.old) (B.view bank.new) }
     {
         let is_open = self.is_other_open();
         let disk = self.disk();
@@ -204,6 +213,9 @@ impl Cell {
             → Quiet (Shuts self.now) (B.view bank.old).now (B.view bank.new).now }
         ensures ok { OnOk result
             (Moves (B.view bank.old) (B.view bank.new) (Shuts self.now) (Fills self.now fresh.now)) }
+        ensures stable { OnOk result (Always (B.view bank.new) (λ disks. disks self.now.place.disk
+            ≡ (B.view bank.new).now.disks self.now.place.disk)) }
+        ensures calls { TakesCalls 3 result (B.view bank.old) (B.view bank.new) }
     {
         let disk = self.disk();
         let start = self.other_start();
@@ -229,6 +241,9 @@ impl Cell {
             → Quiet (PutsIn self.now fresh.now) (B.view bank.old).now (B.view bank.new).now }
         ensures ok { OnOk result (Moves (B.view bank.old) (B.view bank.new)
             (PutsIn self.now fresh.now) (IsPut (B.view bank.new) self.now (turned self.now) fresh.now)) }
+        ensures gate { Moves (B.view bank.old) (B.view bank.new)
+            (Differs (other_gate self.now)) (Differs (other_gate self.now)) }
+        ensures calls { TakesCalls 2 result (B.view bank.old) (B.view bank.new) }
     {
         let disk = self.disk();
         let start = self.other_start();
@@ -248,6 +263,7 @@ impl Cell {
             (PutsIn self.old value.now) (IsPut (B.view bank.new) self.old self.new value.now)) }
         ensures contents { IsTrue (B.view bank.old).tells
             → Quiet (PutsIn self.old value.now) (B.view bank.old).now (B.view bank.new).now }
+        ensures cell { AfterPut result self.old self.new (B.view bank.old) (B.view bank.new) }
         ensures place { self.new.place ≡ self.old.place }
         ensures sizes { (e : ℕ) → (B.view bank.new).sizes e ≡ (B.view bank.old).sizes e }
         ensures cause { OnErr result
@@ -257,6 +273,11 @@ impl Cell {
         // current has changed.
         ensures any_moment { Moves (B.view bank.old) (B.view bank.new)
             (PutsIn self.old value.now) (PutsIn self.old value.now) }
+
+        // The gate is off before the value is written over, and all of the disk is stable before it opens.
+        ensures stages { Moves (B.view bank.old) (B.view bank.new)
+            (PutStage (B.view bank.old).now.disks self.old value.now)
+            (PutStage (B.view bank.old).now.disks self.old value.now) }
     {
         self.shut(bank)?;
         self.fill(bank, value)?;

@@ -3,6 +3,7 @@
 ghost use Rattle.std.specs.Prelude.{◌≡◌, ◌+◌, ◌*◌, ◌<◌, ◌≤◌, ◌^◌, ◌==◌, ℕ};
 ghost use Rattle.std.specs.Prelude.{Some, if◌then◌else◌, IfOk, OnErr, IsTrue};
 ghost use Rattle.trap_bank.specs.Faults.{Rose};
+ghost use Rattle.trap_bank.specs.Called.{TakesCalls};
 ghost use Rattle.trap_bank.specs.Calls.{Fits};
 ghost use Rattle.trap_bank.specs.Steps.{Moves, Same};
 ghost use Rattle.trap_cell.specs.Slots.{is_on, current, slot_at, place_of, cell_len};
@@ -54,6 +55,7 @@ impl Heads {
         requires room { Fits (B.view bank.old) disk (at + 2 * (2 + size)) }
         ensures heads { IfOk result (λ heads. IsTrue (B.view bank.old).tells
             → AreAt heads (place_of disk at size) (B.view bank.old).now.disks) }
+        ensures calls { TakesCalls 2 result (B.view bank.old) (B.view bank.new) }
         ensures same { IsTrue (B.view bank.old).tells → (B.view bank.new).now ≡ (B.view bank.old).now }
         ensures sizes { (e : ℕ) → (B.view bank.new).sizes e ≡ (B.view bank.old).sizes e }
         ensures cause { OnErr result (Rose ((B.view bank.old).faults disk) ((B.view bank.new).faults disk)) }

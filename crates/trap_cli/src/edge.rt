@@ -2,8 +2,11 @@
 //! input. No clause can say what these give or take, so they tell nothing of content.
 
 mod bank;
+mod fault;
 mod files;
+mod folder;
 mod stdin;
 
 pub use bank::FileBank;
+pub use fault::BankFault;
 pub use stdin::StdinSource;

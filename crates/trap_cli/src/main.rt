@@ -13,28 +13,73 @@ mod session;
 #[cfg(test)]
 mod tests;
 
-pub use edge::{FileBank, StdinSource};
+pub use edge::{BankFault, FileBank, StdinSource};
 pub use run::run;
 use std::alloc::Global;
-use std::env;
-use std::io::ErrorKind;
+use std::env::FillError;
 use std::process::ExitCode;
+use std::rt::Env;
 use trap_bank::Steady;
 
-// The words behind the program's name, or the status that says why there are none.
+// Says that there was no memory, and answers the status.
+fn no_memory(rt: &HostRuntime) -> u8 {
+    let _ = eprintln!(rt; "limuvosel: {}", BankFault::OutOfMemory);
+    10
+}
+
+// The word of that number, none behind the last, or the status that says why there are none.
+fn word_of(rt: &HostRuntime, number: usize) -> Result<Option<String>, u8> {
+    let mut room = 256usize;
+    for _ in 0..usize::BITS {
+        let mut bytes = Vec::new(rt.alloc());
+        if bytes.resize(room, 0u8).is_err() {
+            return Err(no_memory(rt));
+        }
+        match rt.arg(number, bytes.as_mut_slice()) {
+            Ok(len) => {
+                bytes.truncate(len);
+                return match String::from_utf8(bytes) {
+                    Ok(word) => Ok(Some(word)),
+                    Err(_) => Err(2),
+                };
+            }
+            Err(FillError::TooLong) => room = room.saturating_add(room),
+            Err(FillError::NotPresent) => return Ok(None),
+        }
+    }
+    Err(no_memory(rt))
+}
+
+// The words behind the program's name, whose own bytes may be any, or the status that says why
+// there are none.
 fn words_of(rt: &HostRuntime) -> Result<Vec<String>, u8> {
     let mut words = Vec::new(rt.alloc());
-    match env::args(rt) {
-        Ok(args) => {
-            for word in args.skip(1) {
+    for number in 1..usize::MAX {
+        match word_of(rt, number)? {
+            Some(word) => {
                 if words.push(word).is_err() {
-                    return Err(10);
+                    return Err(no_memory(rt));
                 }
             }
-            Ok(words)
+            None => break,
         }
-        Err(e) if e.kind() == ErrorKind::InvalidData => Err(2),
-        Err(_) => Err(10),
+    }
+    Ok(words)
+}
+
+// Makes the bank, or says on standard error why there is none.
+fn open_bank(rt: HostRuntime, alloc: Global) -> Option<FileBank<HostRuntime>> {
+    match FileBank::new(rt, alloc) {
+        Ok(bank) => {
+            if let Some(why) = bank.unlocked() {
+                let _ = eprintln!(rt; "limuvosel: this folder can't be locked: {why}");
+            }
+            Some(bank)
+        }
+        Err(why) => {
+            let _ = eprintln!(rt; "limuvosel: {why}");
+            None
+        }
     }
 }
 
@@ -44,13 +89,10 @@ fn main(rt: HostRuntime) -> ExitCode {
         Err(status) => return ExitCode::from(status),
     };
     let alloc: Global = rt.alloc();
-    let Ok(input) = rt.clone() else {
+    let Some(mut bank) = open_bank(rt, alloc) else {
         return ExitCode::from(10);
     };
-    let Ok(mut bank) = FileBank::new(rt, alloc) else {
-        return ExitCode::from(10);
-    };
-    let mut source = StdinSource::new(input);
+    let mut source = StdinSource::new(rt);
     let mut turns = Steady::new();
     ExitCode::from(run(alloc, words.as_slice(), &mut bank, &mut source, &mut turns))
 }

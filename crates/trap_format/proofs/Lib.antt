@@ -7,3 +7,4 @@ pub mod MemberHeaders
 pub mod LogHeaders
 pub mod Heads
 pub mod Spellings
+pub mod ReplicaHeaders

@@ -9,7 +9,8 @@ use Rattle.trap_format.specs.declared.limits.Field.TheVariants.{Members, Chunk, 
 abbrev pub is_between : ℕ → ℕ → ℕ → Bool
 is_between least most n = nat_le least n && nat_le n most
 
--- whether a field keeps its limit; an array has one staging slot, and no sequence number is asked for
+-- whether a field keeps its limit; an array has one staging slot, and no sequence number is asked
+-- for
 abbrev pub keeps : Asked → Field → Bool
 keeps asked Members = is_between 3 16 asked.members
 keeps asked Chunk = is_between 1 128 asked.chunk

@@ -31,7 +31,7 @@ pub record KeepsNumbers (g : Geometry) (h : Head) : Type 0 where
   pub pending : h.last ≤ h.drained + g.slots
   pub retained : h.last ≤ h.first + g.entries
 
--- the ring's part from the first record to behind the last
+-- the ring's part from the first record to the end of the last
 pub record KeepsOffsets (g : Geometry) (h : Head) : Type 0 where
   pub order : h.first_off ≤ h.end_off
   pub window : h.end_off ≤ h.first_off + g.ring

@@ -17,7 +17,7 @@ pub struct Head {
     pub first_off: u64,
     /// The number of the last entry, at most 2^40.
     pub last: u64,
-    /// The ring offset behind the last record, in bytes.
+    /// The ring offset after the last record, in bytes.
     pub end_off: u64,
     /// Entries up to this number are on the members.
     pub drained: u64,

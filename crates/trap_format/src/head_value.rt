@@ -6,9 +6,31 @@ ghost use Rattle.trap_format.specs.declared.head.Head.{Head};
 ghost use Rattle.trap_format.specs.HeadValue.{lost_byte, head_value, KeepsLost, KeepsNumbers, KeepsOffsets, IsEmpty, IsHead, IsHeadValue, HeadStandsIn, HeadFits};
 
 use crate::head::Head;
+use crate::limits::greatest_record;
 use crate::pieces::put_byte;
 use trap_block::{get_u32, get_u64, put_u32, put_u64};
 use trap_model::Geometry;
+
+// Where each number begins in the value.
+const VERSION_AT: usize = 0;
+
+const LOST_AT: usize = 1;
+
+const REBUILT_AT: usize = 2;
+
+const FIRST_AT: usize = 6;
+
+const BASE_TIME_AT: usize = 14;
+
+const FIRST_OFF_AT: usize = 22;
+
+const LAST_AT: usize = 30;
+
+const END_OFF_AT: usize = 38;
+
+const DRAINED_AT: usize = 46;
+
+const LAST_TIME_AT: usize = 54;
 
 /// The greatest sequence number.
 const LAST_NUMBER: u64 = 1 << 40;
@@ -18,16 +40,16 @@ pub fn spell_head(h: &Head, out: &mut [u8; 62])
     requires { ForSome h.now.lost (λ member. member < 16) }
     ensures { out.new ≡ head_value h.now }
 {
-    put_byte(out, 0, h.version);
-    put_byte(out, 1, byte_of(h.lost));
-    put_u32(out, 2, h.rebuilt);
-    put_u64(out, 6, h.first);
-    put_u64(out, 14, h.base_time);
-    put_u64(out, 22, h.first_off);
-    put_u64(out, 30, h.last);
-    put_u64(out, 38, h.end_off);
-    put_u64(out, 46, h.drained);
-    put_u64(out, 54, h.last_time);
+    put_byte(out, VERSION_AT, h.version);
+    put_byte(out, LOST_AT, byte_of(h.lost));
+    put_u32(out, REBUILT_AT, h.rebuilt);
+    put_u64(out, FIRST_AT, h.first);
+    put_u64(out, BASE_TIME_AT, h.base_time);
+    put_u64(out, FIRST_OFF_AT, h.first_off);
+    put_u64(out, LAST_AT, h.last);
+    put_u64(out, END_OFF_AT, h.end_off);
+    put_u64(out, DRAINED_AT, h.drained);
+    put_u64(out, LAST_TIME_AT, h.last_time);
 }
 
 /// The head, where the bytes are the value of one of such an array.
@@ -63,16 +85,16 @@ fn head_in(bytes: &[u8; 62]) -> Head
     ensures fits { HeadFits result }
 {
     Head {
-        version: bytes[0],
-        lost: lost_of(bytes[1]),
-        rebuilt: get_u32(bytes, 2),
-        first: get_u64(bytes, 6),
-        base_time: get_u64(bytes, 14),
-        first_off: get_u64(bytes, 22),
-        last: get_u64(bytes, 30),
-        end_off: get_u64(bytes, 38),
-        drained: get_u64(bytes, 46),
-        last_time: get_u64(bytes, 54),
+        version: bytes[VERSION_AT],
+        lost: lost_of(bytes[LOST_AT]),
+        rebuilt: get_u32(bytes, REBUILT_AT),
+        first: get_u64(bytes, FIRST_AT),
+        base_time: get_u64(bytes, BASE_TIME_AT),
+        first_off: get_u64(bytes, FIRST_OFF_AT),
+        last: get_u64(bytes, LAST_AT),
+        end_off: get_u64(bytes, END_OFF_AT),
+        drained: get_u64(bytes, DRAINED_AT),
+        last_time: get_u64(bytes, LAST_TIME_AT),
     }
 }
 
@@ -114,7 +136,7 @@ fn keeps_offsets(g: &Geometry, h: &Head) -> bool
 {
     h.first_off <= h.end_off
         && h.end_off - h.first_off <= g.ring
-        && h.end_off <= h.last * (26 + 2 * (g.block as u64 + 7))
+        && h.end_off <= h.last * greatest_record(g.block as u64)
 }
 
 fn is_empty(h: &Head) -> bool

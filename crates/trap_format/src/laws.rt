@@ -8,8 +8,8 @@ ghost use Rattle.trap_format.specs.HeadValue.{IsHeadValue};
 use crate::Head;
 use trap_model::Geometry;
 
-/// No bytes are the header of two arrays, or of two members, or the value of two heads. So what was written is
-/// what is read again.
+/// No bytes are the header of two arrays, or of two members, or the value of two heads. So what was
+/// written is what is read again.
 pub fn spellings()
     ensures logs { (g h : Geometry) (bytes : List ℕ) → g.id < 2 ^ 64 → h.id < 2 ^ 64
         → IsLogHeader g bytes → IsLogHeader h bytes → g ≡ h }

@@ -4,16 +4,22 @@
 mod head;
 mod head_value;
 pub mod laws;
+pub mod layout;
 mod limits;
 mod log_disk;
 mod member_disk;
 mod pieces;
+mod replica_disk;
+pub mod replica_laws;
+mod shape;
 
 pub use head::Head;
 pub use head_value::{read_head, spell_head};
 pub use limits::{BadGeometry, Field, check};
 pub use log_disk::{is_log, log_len, read_log, spell_log};
 pub use member_disk::{member_len, read_member, spell_member};
+pub use replica_disk::{check_shape, is_replica, read_replica, replica_len, spell_replica};
+pub use shape::Shape;
 
 #[cfg(test)]
 mod tests;

@@ -1,9 +1,10 @@
 //! Which numbers an array can have.
 
-ghost use Rattle.std.specs.Prelude.{◌≡◌, ◌↔◌, ◌%◌, ◌^◌, ◌<◌, ◌==◌, ◌&&◌, None, IsOk, IfOk, IfErr};
-ghost use Rattle.trap_model.specs.Limits.{is_block_size};
+ghost use Rattle.std.specs.Prelude.{◌≡◌, ◌↔◌, ◌%◌, ◌^◌, ◌<◌, ◌≤◌, ◌==◌, ◌&&◌, None, IsOk, IfOk, IfErr};
+ghost use Rattle.trap_model.specs.Limits.{is_block_size, greatest_record};
 ghost use Rattle.trap_format.specs.Checked.{is_between, first_broken, HasNumbers};
 
+use crate::layout::RECORD_HEADER_BYTES;
 use trap_model::{Asked, Geometry};
 
 /// What a number that breaks its limit is of. The order is the one in which they are looked at.
@@ -79,11 +80,20 @@ fn first_broken(asked: &Asked) -> Option<Field>
         Some(Field::Gap)
     } else if !is_between(1, 1 << 20, asked.entries) {
         Some(Field::Entries)
-    } else if !is_between(2 * (26 + 2 * (asked.block + 7)), 1 << 32, asked.ring) {
+    } else if !is_between(2 * greatest_record(asked.block), 1 << 32, asked.ring) {
         Some(Field::Ring)
     } else {
         None
     }
+}
+
+/// The greatest length of a log record over blocks of a size: its header, and two codes.
+pub(crate) fn greatest_record(block: u64) -> u64
+    requires { block ≤ 4096 }
+    ensures is { result ≡ greatest_record block }
+    ensures most { result ≤ 8232 }
+{
+    RECORD_HEADER_BYTES + 2 * (block + 7)
 }
 
 fn is_between(least: u64, most: u64, n: u64) -> bool

@@ -128,8 +128,8 @@ fn each_limit_at_both_ends(rt: HostRuntime) {
     }
 }
 
-/// Version, lost byte, rebuilt, first, base time, first offset, last, end offset, drained and last time, and
-/// whether this is a head of the array.
+/// Version, lost byte, rebuilt, first, base time, first offset, last, end offset, drained and last
+/// time, and whether this is a head of the array.
 const HEADS: [([u64; 10], bool); 25] = [
     ([1, 0, 0, 2, 20, 70, 3, 105, 3, 30], true),
     ([2, 0, 0, 2, 20, 70, 3, 105, 3, 30], false),

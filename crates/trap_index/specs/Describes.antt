@@ -10,7 +10,8 @@ use Rattle.trap_model.specs.State.{up_to, image_at}
 use Rattle.trap_index.specs.declared.item.Item.{Item}
 use Rattle.trap_index.specs.Indexed.{Indexed}
 
--- the headers of the records of these entries, the first of them over this image and with the number behind q
+-- the headers of the records of these entries, the first of them over this image and with the
+-- number after q
 abbrev pub headers_from : List (List ℕ) → ℕ → List Entry → List LogRec
 headers_from image q [] = []
 headers_from image q (entry ∷ later) =
@@ -26,7 +27,8 @@ pub record Describes (i : Indexed) (s : State) : Type 0 where
   pub base_time : i.base_time ≡ s.base_time
   pub recs : i.recs ≡ headers s
 
--- of the retained entries up to a number, the last that writes the block has number n, or none does and n is 0
+-- of the retained entries up to a number, the last that writes the block has number n, or none does
+-- and n is 0
 pub record IsLastOf (s : State) (block upto n : ℕ) : Type 0 where
   pub high : n ≤ upto
   pub writes : (n ≡ 0) ⊎ ((s.first < n) × ((entry_at s n).block ≡ block))

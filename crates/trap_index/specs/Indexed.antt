@@ -7,8 +7,8 @@ use Rattle.trap_model.specs.declared.log_record.LogRec.{LogRec}
 use Rattle.trap_model.specs.declared.numbers.Geometry.{Geometry}
 use Rattle.trap_index.specs.declared.item.Item.{Item}
 
--- the numbers of an array, how many entries were dropped and the time of the last of them, the offset behind them in
--- the ring, and the headers of the retained records, the oldest first
+-- the numbers of an array, how many entries were dropped and the time of the last of them, the
+-- offset after them in the ring, and the headers of the retained records, the oldest first
 pub record Indexed : Type 0 where
   pub g : Geometry
   pub first : ℕ
@@ -74,6 +74,16 @@ recs_up_to i q = take (q - i.first) i.recs
 abbrev pub recs_above : Indexed → ℕ → List LogRec
 recs_above i q = drop (q - i.first) i.recs
 
+-- with the entries up to number q dropped, for first ≤ q ≤ last
+abbrev pub dropped_to : Indexed → ℕ → Indexed
+dropped_to i q = record {
+  g = i.g;
+  first = q;
+  base_time = time_behind i.base_time (recs_up_to i q);
+  first_off = i.first_off + recs_len (recs_up_to i q);
+  recs = recs_above i q;
+}
+
 -- what a record's header tells, where the first record begins at an offset and these lie between
 abbrev pub item_behind : ℕ → List LogRec → LogRec → Item
 item_behind first_off before rec = record {
@@ -90,13 +100,15 @@ item_behind first_off before rec = record {
 abbrev pub item_at : Indexed → ℕ → Item
 item_at i q = item_behind i.first_off (take (q - (i.first + 1)) i.recs) (rec_at i q)
 
--- the number is the last one whose time is at most t, or `first` where there is none: times never fall
+-- the number is the last one whose time is at most t, or `first` where there is none: times never
+-- fall
 pub record IsLastBy (i : Indexed) (t q : ℕ) : Type 0 where
   pub low : i.first ≤ q
   pub high : q ≤ last_seq i
   pub by : (k : ℕ) → i.first < k → k ≤ q → (rec_at i k).time ≤ t
   pub later : (k : ℕ) → q < k → k ≤ last_seq i → t < (rec_at i k).time
 
--- From the present back to the instant behind record number q: over each of the block's records above q.
+-- From the present back to the instant after record number q: over each of the block's records
+-- above q.
 abbrev pub path_to : Indexed → ℕ → ℕ → Path
 path_to i block q = record { from = Present; turns = length (of_block block (recs_above i q)); way = Back }

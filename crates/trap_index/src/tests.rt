@@ -49,7 +49,8 @@ fn add(rt: &impl Abort, index: &mut Index, time: u64, block: u32, plen: u16)
     });
 }
 
-// Ten entries were dropped. Number 11 and 13 write block 3, number 12 writes block 1 at the time of number 13.
+// Ten entries were dropped. Number 11 and 13 write block 3, number 12 writes block 1 at the time of
+// number 13.
 fn three_entries(rt: &impl Abort, alloc: Global) -> Result<Index, AllocError>
     ensures { IfOk result (λ index. volume index.g ≡ 8) }
 {
@@ -114,5 +115,29 @@ fn a_path_turns_at_each_entry_of_its_block(rt: HostRuntime) -> Result<(), Fail> 
         };
         assert_eq!(rt; index.path(block, seq), back, "{block} at {seq}");
     }
+    Ok(())
+}
+
+#[test]
+fn what_is_dropped_is_told_no_more(rt: HostRuntime) -> Result<(), Fail> {
+    let mut index = three_entries(&rt, rt.alloc())?;
+    let (first, last) = (index.first(), index.last());
+    assert!(rt; first <= 12 && 12 <= last);
+    index.drop_to(12);
+    assert_eq!(rt; (index.first(), index.last()), (12, 13));
+    assert_eq!(rt; (index.base_time(), index.last_time()), (105, 105));
+    assert_eq!(rt; index.bytes_kept(), 49);
+    assert_eq!(rt; index.item(12), None);
+    let kept = Item {
+        time: 105,
+        block: 3,
+        off: 1066,
+        plen: 23,
+        slen: 0,
+        snap: false,
+        prev: 0,
+    };
+    assert_eq!(rt; index.item(13), Some(kept));
+    assert_eq!(rt; (index.newest(3), index.newest(1)), (13, 0));
     Ok(())
 }

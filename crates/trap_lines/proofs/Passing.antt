@@ -18,6 +18,7 @@ passes_nothing r s = record {
   given = refl;
   faults = omega arith;
   same_room = refl;
+  untold = λ none. none;
 }
 
 -- what two calls pass over, one after the other
@@ -29,6 +30,7 @@ passes_trans {a} {b} {r} {r'} {r''} {s} {s'} {s''} p q = record {
   given = omega arith;
   faults = omega arith;
   same_room = q.same_room ∙ p.same_room;
+  untold = λ none. q.untold (p.untold none);
 }
 
 -- a call between that passes over nothing
@@ -69,6 +71,7 @@ passes_front r r' s count within inside step =
         given = omega arith;
         faults = omega arith;
         same_room = step.same_room;
+        untold = λ none. none;
       },
     )
 

@@ -1,5 +1,5 @@
 -- What a reader of lines has before it, and what one call passes over.
-use Rattle.std.specs.Prelude.{◌≡◌, ℕ, ◌+◌, ◌-◌, ◌^◌, ◌<◌, ◌≤◌, ◌==◌, List, [], ◌∷◌, ◌++◌, length, take, drop, All, Option, Bool, true, false}
+use Rattle.std.specs.Prelude.{◌≡◌, ℕ, ◌+◌, ◌-◌, ◌^◌, ◌<◌, ◌≤◌, ◌==◌, List, [], ◌∷◌, ◌++◌, length, take, drop, All, Option, None, Bool, true, false}
 use Rattle.std.specs.Io.KnownBytes.{Consumes, IsAtEnd, prepend_known}
 use Rattle.trap_bank.specs.Faults.{Rose}
 use Rattle.trap_bank.specs.Stream.{Stream}
@@ -36,6 +36,8 @@ pub record Passes (passed : List ℕ) (r r' : LineReader) (s s' : Stream) : Type
   pub given : s'.given + taken r ≡ s.given + taken r'
   pub faults : s.faults ≤ s'.faults
   pub same_room : room r' ≡ room r
+  -- a source that doesn't tell its bytes hasn't begun to
+  pub untold : s.left ≡ None → s'.left ≡ None
 
 -- the reader went over so many of the bytes that were taken
 pub record GoesOn (count : ℕ) (r r' : LineReader) : Type 0 where

@@ -5,7 +5,8 @@ use Rattle.std.specs.Prelude.{ℕ, ◌+◌, ◌-◌, ◌/◌, ◌%◌}
 abbrev pub parity_in : ℕ → ℕ → ℕ
 parity_in members stripe = (members - 1) - stripe % members
 
--- a stripe's data chunks follow its parity round the members: where one with so many before it stands
+-- a stripe's data chunks follow its parity round the members: where one with so many before it
+-- stands
 abbrev pub member_in : ℕ → ℕ → ℕ → ℕ
 member_in members stripe before = (parity_in members stripe + 1 + before) % members
 

@@ -1,6 +1,7 @@
 pub mod ZeroRuns
 pub mod Splits
 pub mod LogRecords
+pub mod AnySizes
 pub mod SameBytes
 pub mod RunLemmas
 pub mod Images
@@ -14,3 +15,5 @@ pub mod Records
 pub mod Further
 pub mod Refusals
 pub mod Retained
+pub mod Frames
+pub mod Windows

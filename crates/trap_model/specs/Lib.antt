@@ -11,3 +11,5 @@ pub mod ArrayStep
 pub mod PlainArray
 pub mod Records
 pub mod Path
+pub mod Frame
+pub mod Receiver

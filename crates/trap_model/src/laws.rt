@@ -5,6 +5,7 @@ ghost use Rattle.trap_model.specs.ZeroRun.{ZeroRun, IsRefused};
 ghost use Rattle.trap_model.specs.LogRecord.{LogRecord};
 
 use crate::LogRec;
+pub use crate::array_laws::kept_valid;
 
 /// Each block that isn't empty has exactly one spelling, of at least 4 bytes and at most 7 more
 /// than its own. Of blocks of one size no spelling begins another, and none stands for two blocks;
@@ -18,6 +19,13 @@ pub fn spellings()
         → ZeroRun a x → ZeroRun b y → x ++ more_x ≡ y ++ more_y → (a ≡ b) × (x ≡ y) }
     ensures records { (size : ℕ) (r q : LogRec) (p u s v x y more_x more_y : List ℕ) → size < 2 ^ 15
         → LogRecord size r p s x → LogRecord size q u v y → x ++ more_x ≡ y ++ more_y
+        → (r ≡ q) × (p ≡ u) × (s ≡ v) × (x ≡ y) }
+{}
+
+/// No log record begins another, of whatever block sizes they are.
+pub fn records()
+    ensures { (n m : ℕ) (r q : LogRec) (p u s v x y more_x more_y : List ℕ) → n < 2 ^ 15 → m < 2 ^ 15
+        → LogRecord n r p s x → LogRecord m q u v y → x ++ more_x ≡ y ++ more_y
         → (r ≡ q) × (p ≡ u) × (s ≡ v) × (x ≡ y) }
 {}
 

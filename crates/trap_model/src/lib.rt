@@ -2,10 +2,13 @@
 #![tactic(auto)]
 
 pub mod array_laws;
+mod arrival;
 mod asked;
 mod bytes;
 mod code;
 mod entry_size;
+mod frame;
+pub mod frame_laws;
 mod history;
 mod image;
 mod instants;
@@ -15,11 +18,14 @@ pub mod laws;
 mod log_record;
 mod numbers;
 mod plain;
+pub mod receiver_laws;
 mod refusing;
 mod request;
 
+pub use arrival::{Arrival, Parity, Taken};
 pub use asked::Asked;
 pub use bytes::Block;
+pub use frame::Frame;
 pub use history::{Entries, Entry, State};
 pub use image::Image;
 pub use known::{Known, Path, Way};

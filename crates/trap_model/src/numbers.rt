@@ -26,3 +26,16 @@ pub struct Geometry {
     pub ring: u64,
     pub ghost within: { AreWithinLimits members chunk block rows slots gap entries ring },
 }
+
+impl Geometry {
+    ghost use Rattle.std.specs.Prelude.{◌≡◌, ◌^◌, ◌≤◌};
+    ghost use Rattle.trap_model.specs.Image.{volume};
+
+    /// How many blocks the array has.
+    pub fn volume(&self) -> u32
+        ensures is { result ≡ volume self.now }
+        ensures most { result ≤ 2 ^ 20 }
+    {
+        self.rows * (u32::from(self.members) - 1)
+    }
+}

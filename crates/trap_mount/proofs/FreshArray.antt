@@ -3,7 +3,7 @@ use Rattle.std.proofs.Common.{◌≡◌, ℕ, ◌+◌, ◌*◌, ◌<◌, List, [
 use Rattle.std.proofs.lemmas.List.{length-append, length-replicate}
 use Rattle.trap_bank.specs.Disks.{Contents, View, Disks, Quiet, bytes_of, size_of}
 use Rattle.trap_bank.specs.Calls.{MayLeave, IsLawful}
-use Rattle.trap_bank.specs.Steps.{Moves}
+use Rattle.trap_bank.specs.Steps.{Moves, Always}
 use Rattle.trap_bank.proofs.Moves.{moves_then, moves_weaken, read_is_left}
 use Rattle.trap_format.specs.MemberDisk.{member_header}
 use Rattle.trap_model.specs.Image.{zero_image}
@@ -11,7 +11,7 @@ use Rattle.trap_model.specs.State.{fresh}
 use Rattle.trap_model.specs.declared.numbers.Geometry.{Geometry}
 use Rattle.trap_model.proofs.KeptValid.{fresh_valid}
 use Rattle.trap_raid.specs.Members.{IsMember, IsOut, MembersHold}
-use Rattle.trap_mount.specs.Holding.{IsHeadOf, Holds}
+use Rattle.trap_mount.specs.Holding.{IsHeadOf, Holds, HoldsBy}
 use Rattle.trap_mount.specs.Creating.{Creates, HasCreated, NoneIsThere, OnlyMembers, new_member, HasMembers, fresh_head, IsGateOff, IsNewLog, MakesLog, HasNewLog}
 use Rattle.trap_mount.proofs.Zeros.{zero_table, zero_place}
 use Rattle.trap_mount.proofs.LogGate.{off_no_array, absent_off}
@@ -40,20 +40,17 @@ module _ (g : Geometry) (x : Disks) (made : (m : ℕ) → m < g.members → x (m
         ap (λ (disk : Option (List ℕ)). take g.block (drop (16 + row * g.block) (bytes_of disk))) (made m inside) ∙ zero_place g m row below ∙ sym (zero_table g row m below inside);
   }
 
-  -- with a new log, they hold the fresh array
-  pub fresh_held : IsNewLog g x → Holds g (fresh g) x
-  fresh_held new = record {
-    head = fresh_head;
-    by = record {
-      value = new.value;
-      fits = record {
-        valid = fresh_valid g;
-        head = fresh_is_head;
-        log = new.log;
-        ring = λ k below. absurd (omega (arith, below));
-        slots = λ q low high. absurd (omega (arith, low, high));
-        members = new_members;
-      };
+  -- with a new log, they hold the fresh array by the head before the first write
+  pub fresh_by : IsNewLog g x → HoldsBy g fresh_head (fresh g) x
+  fresh_by new = record {
+    value = new.value;
+    fits = record {
+      valid = fresh_valid g;
+      head = fresh_is_head;
+      log = new.log;
+      ring = λ k below. absurd (omega (arith, below));
+      slots = λ q low high. absurd (omega (arith, low, high));
+      members = new_members;
     };
   }
     where
@@ -74,6 +71,9 @@ module _ (g : Geometry) (x : Disks) (made : (m : ℕ) → m < g.members → x (m
         last_time = refl;
         window = refl;
       }
+
+  pub fresh_held : IsNewLog g x → Holds g (fresh g) x
+  fresh_held new = record { head = fresh_head; by = fresh_by new }
 
 -- a disk with no size is absent, whatever a crash leaves
 left_absent : (a : View) (w : Contents) → IsLawful a → MayLeave a w → a.sizes 0 ≡ None → w.disks 0 ≡ None
@@ -114,6 +114,13 @@ module _ (g : Geometry) (a : View) (lawful : IsLawful a) (none : NoneIsThere g a
       (λ x y was step. before_log x y was step)
       (λ x y z was step mid makes. with_log x y z was step makes)
       (λ x y z was step mid new. fresh_held g z.disks (λ m inside. new.others (m + 1) (λ log. omega (arith, log)) ∙ step.disks m inside) new.log)
+
+-- every crash after it leaves the fresh array
+pub create_holds : (g : Geometry) (a b c : View) → Moves a b (OnlyMembers g) (HasMembers g g.members) → Moves b c (MakesLog g) (HasNewLog g) → Always c (HoldsBy g fresh_head (fresh g))
+create_holds g a b c members log z left =
+    let from = log.now z left in
+    let made = (members.now from.origin from.was).by.disks in
+    fresh_by g z.disks (λ m inside. from.by.disks.others (m + 1) (λ zero_. omega (arith, zero_)) ∙ made.disks m inside) from.by.disks.log
 
 -- what a read gives is among what a crash leaves
 pub create_contents : (g : Geometry) (a b : View) → Moves a b (Creates g) (Creates g) → IsTrue a.tells → Quiet (Creates g) a.now b.now

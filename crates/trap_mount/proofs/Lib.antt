@@ -1,5 +1,6 @@
 pub mod Frames
 pub mod Puts
+mod HeadTests
 mod FreshArray
 mod LogGate
 mod MemberDisks

@@ -1,5 +1,5 @@
 -- How the members' disks are made, one after the other.
-use Rattle.std.proofs.Common.{◌≡◌, ◌≢◌, ℕ, ◌+◌, ◌*◌, ◌-◌, ◌<◌, ◌≤◌, List, ◌++◌, length, replicate, get_or, Option, Some, IsTrue, inr, ⊎_elim, refl, sym, ap, subst, ◌∙◌, arith}
+use Rattle.std.proofs.Common.{◌≡◌, ◌≢◌, ◌⊎◌, ℕ, ◌+◌, ◌*◌, ◌-◌, ◌<◌, ◌≤◌, List, ◌++◌, length, replicate, get_or, Option, Some, IsTrue, inr, ⊎_elim, refl, sym, ap, subst, ◌∙◌, arith}
 use Rattle.std.proofs.lemmas.Bool.{cases_eq}
 use Rattle.std.proofs.lemmas.List.{length-append, length-replicate, get_or_append_left, get_or-append_right}
 use Rattle.trap_bank.specs.Disks.{View, Disks, Within, Torn, Differs, byte, bytes_of, size_of, region}
@@ -8,7 +8,7 @@ use Rattle.trap_bank.proofs.Regions.{disk_beside, disk_ext, byte_beside, byte_in
 use Rattle.trap_bank.proofs.Moves.{moves_then, moves_weaken}
 use Rattle.trap_format.specs.MemberDisk.{member_size, member_header}
 use Rattle.trap_model.specs.declared.numbers.Geometry.{Geometry}
-use Rattle.trap_mount.specs.Creating.{OnlyDisk, OnlyMembers, new_member, HasMember, HasMembers}
+use Rattle.trap_mount.specs.Creating.{OnlyDisk, OnlyMembers, new_member, HasMember, HasMembers, AreSized}
 use Rattle.trap_mount.proofs.Zeros.{below_or, zero_byte}
 
 -- a change of one disk and then another
@@ -80,3 +80,14 @@ module _ (g : Geometry) (m : ℕ) where
   -- what a read gives of the other disks
   pub members_touch : (a b c : View) → m < g.members → b.tells ≡ a.tells → (IsTrue a.tells → OnlyMembers g a.now.disks b.now.disks) → (IsTrue b.tells → OnlyDisk (m + 1) b.now.disks c.now.disks) → IsTrue a.tells → OnlyMembers g a.now.disks c.now.disks
   members_touch a b c inside tells first second told e out = beside_members inside b.now.disks c.now.disks (second (subst IsTrue (sym tells) told)) e out ∙ first told e out
+
+-- a disk beside the members' isn't a member's
+pub apart_from : (g : Geometry) (m e : ℕ) → m < g.members → (e ≡ 0) ⊎ (g.members < e) → e ≢ m + 1
+apart_from g m e inside = ⊎_elim (λ (zero_ : e ≡ 0). λ is. omega (arith, zero_, is)) (λ (beyond : g.members < e). λ is. omega (arith, inside, beyond, is))
+
+-- one disk more has its size
+pub sized_more : (g : Geometry) (n : ℕ) (a b : View) → ((e : ℕ) → e ≢ n + 1 → b.sizes e ≡ a.sizes e) → AreSized g n a → b.sizes (n + 1) ≡ Some (member_size g) → AreSized g (n + 1) b
+sized_more g n a b same sized next m below =
+    ⊎_elim (λ (is : m ≡ n). subst (λ (k : ℕ). b.sizes (k + 1) ≡ Some (member_size g)) (sym is) next)
+    (λ (other : m ≢ n). same (m + 1) (λ is. other (omega (arith, is))) ∙ sized m (omega (arith, below, other)))
+    (cases_eq m n)

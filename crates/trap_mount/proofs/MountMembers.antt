@@ -12,8 +12,8 @@ use Rattle.trap_format.specs.declared.head.Head.{Head}
 use Rattle.trap_model.specs.declared.numbers.Geometry.{Geometry}
 use Rattle.trap_raid.specs.Members.{IsMember, IsOut}
 use Rattle.trap_raid.specs.Reads.{OnlyReads}
-use Rattle.trap_mount.specs.Mounting.{HasRecords, HasMembers, AreOut, IsWrong, Refuses}
-use Rattle.trap_mount.specs.MountSteps.{IsOnlyOut, IsFirstOut, FindsLost, ReadsMember, ReadsMembers, KeepsRows, FindsMembers}
+use Rattle.trap_mount.specs.Mounting.{HasRecords, HasMembers, AreOut, AreAbsent, IsWrong, IsFailing, Refuses}
+use Rattle.trap_mount.specs.MountSteps.{IsOnlyOut, IsFirstOut, FindsLost, ReadsMember, ReadsMembers, IsNext, KeepsRows, FindsMembers}
 use Rattle.trap_mount.specs.declared.fault.MountFault.{MountFault}
 use Rattle.trap_mount.proofs.MountReads.{told_after, disks_same, stable_reads, rose_later, refused_before}
 
@@ -99,29 +99,50 @@ are_out g h v lawful told out first second is one two = record {
     same_some : (m : ℕ) → Some first ≡ Some m → first ≡ m
     same_some m e = cc
 
+-- and so the sizes show
+pub are_absent : (g : Geometry) (recorded : Option ℕ) (v : View) (out : Option ℕ) (first second : ℕ) → out ≡ Some first → IsFirstOut g recorded v (Some first)
+    → (second < g.members) × (out ≢ Some second) × (v.sizes (second + 1) ≡ None) × ((k : ℕ) → k < second → out ≢ Some k → v.sizes (k + 1) ≢ None)
+    → AreAbsent g first second v
+are_absent g recorded v out first second is one two = record {
+  first_inside = one.0;
+  inside = two.0;
+  apart = λ same. two.1 (is ∙ ap {B = Option ℕ} Some (sym same));
+  absent = two.2;
+  lowest = λ m below other. two.3 m below (λ e. other (sym (same_some m (sym is ∙ e))));
+}
+  where
+    same_some : (m : ℕ) → Some first ≡ Some m → first ≡ m
+    same_some m e = cc
+
 -- a disk of another size isn't the member's own
 pub other_size : (g : Geometry) (v : View) (m : ℕ) → IsLawful v → IsTrue v.tells → v.sizes (m + 1) ≢ Some (member_size g) → IsMember g v.now.disks m → ⊥
 other_size g v m lawful told other member = other (sym (lawful.sized told (m + 1)) ∙ member.size)
 
--- the first wrong disk among those that were looked at
-pub first_wrong : (g : Geometry) (h : Head) (lost : Option ℕ) (n : ℕ) (a b : View) → IsTrue a.tells → n < g.members → lost ≢ Some n
-    → IsOnlyOut g h.lost lost a.now.disks → ReadsMembers g lost n a b
-    → (IsMember g a.now.disks n → ⊥) → IsWrong g h a.now.disks n
-first_wrong g h lost n a b told inside other is_out members wrong = record {
+-- the member that is looked at after those below it
+pub member_next : (g : Geometry) (h : Head) (lost : Option ℕ) (n : ℕ) (a b : View) → IsTrue a.tells → n < g.members → lost ≢ Some n
+    → IsOnlyOut g h.lost lost a.now.disks → ReadsMembers g lost n a b → IsNext g h a.now.disks n
+member_next g h lost n a b told inside other is_out members = record {
   inside = inside;
   counts = λ is. other (is_out.only n inside is);
-  wrong = wrong;
   lowest = λ m below counts. (members m below (λ is. counts (is_out.out m is))).own told;
 }
 
+-- it is the lowest wrong one where its disk isn't its own
+pub wrong_next : (g : Geometry) (h : Head) (x : Disks) (n : ℕ) → IsNext g h x n → (IsMember g x n → ⊥) → IsWrong g h x n
+wrong_next g h x n next wrong = record { inside = next.inside; counts = next.counts; wrong = wrong; lowest = next.lowest }
+
+-- and it may fail where its disk has its size
+pub failing_next : (g : Geometry) (h : Head) (v : View) (n : ℕ) → IsLawful v → IsTrue v.tells → v.sizes (n + 1) ≡ Some (member_size g) → IsNext g h v.now.disks n → IsFailing g h v.now.disks n
+failing_next g h v n lawful told size next = record { inside = next.inside; counts = next.counts; sized = lawful.sized told (n + 1) ∙ size; lowest = next.lowest }
+
 -- what is refused at one disk is refused of all
 pub check_refused : (g : Geometry) (lost : Option ℕ) (n : ℕ) (a b : View) (why : MountFault) → OnlyReads a b → n < g.members → lost ≢ Some n → ReadsMembers g lost n a b
-    → (IsTrue b.tells → (h : Head) → ((IsMember g b.now.disks n → ⊥) → IsWrong g h b.now.disks n) → HasMembers g h b.now.disks → Refuses b why)
+    → (IsTrue b.tells → (h : Head) → IsNext g h b.now.disks n → HasMembers g h b.now.disks → Refuses b why)
     → IsTrue a.tells → (h : Head) → IsOnlyOut g h.lost lost a.now.disks → HasMembers g h a.now.disks → Refuses a why
 check_refused g lost n a b why reads inside other members refused told h only has =
     let same = disks_same a b reads told in
     refused_before a b why reads (λ later. refused later h
-    (λ wrong. subst (λ (x : Disks). IsWrong g h x n) (sym same) (first_wrong g h lost n a b told inside other only members (subst (λ (x : Disks). IsMember g x n → ⊥) same wrong)))
+    (subst (λ (x : Disks). IsNext g h x n) (sym same) (member_next g h lost n a b told inside other only members))
     (subst (λ (x : Disks). HasMembers g h x) (sym same) has)) told
 
 -- ---- tests

@@ -1,6 +1,6 @@
 -- What mounting leaves, from what it found and the put of its head.
-use Rattle.std.proofs.Common.{◌≡◌, ◌≢◌, ℕ, ◌+◌, ◌<◌, ◌≤◌, List, Option, Some, None, Bool, false, IsTrue, inl, inr, ⊎_elim, refl, sym, ap, subst, ◌∙◌, arith}
-use Rattle.trap_bank.specs.Disks.{Contents, View, Disks, Quiet, Differs, size_of}
+use Rattle.std.proofs.Common.{◌≡◌, ◌≢◌, ℕ, ◌+◌, ◌<◌, ◌≤◌, List, length, Option, Some, None, Bool, true, false, IsTrue, inl, inr, ⊎_elim, refl, sym, ap, subst, ◌∙◌, arith}
+use Rattle.trap_bank.specs.Disks.{Contents, View, Disks, Quiet, Differs, size_of, region}
 use Rattle.trap_bank.specs.Calls.{MayLeave, IsLawful}
 use Rattle.trap_bank.specs.Faults.{Rose}
 use Rattle.trap_bank.specs.Steps.{Moves, Same, Always}
@@ -8,31 +8,33 @@ use Rattle.trap_bank.proofs.Regions.{region_of_disk, disk_apart}
 use Rattle.trap_bank.proofs.Moves.{moves_then, moves_weaken, always_same, read_is_left}
 use Rattle.trap_cell.specs.Slots.{Place, Slots, Stands, slot_at, value_at, current_slot, cell_value, other_slot}
 use Rattle.trap_cell.specs.Steps.{PutsIn, IsPut}
-use Rattle.trap_format.specs.LogDisk.{log_size}
+use Rattle.trap_format.specs.LogDisk.{log_size, IsLogHeader}
 use Rattle.trap_format.specs.MemberDisk.{member_size}
 use Rattle.trap_format.specs.HeadValue.{IsHead, head_value}
 use Rattle.trap_format.specs.declared.head.Head.{Head}
-use Rattle.trap_format.proofs.Spellings.{heads_same}
+use Rattle.trap_format.proofs.Spellings.{heads_same, logs_same}
 use Rattle.trap_index.specs.Indexed.{Indexed}
 use Rattle.trap_model.specs.State.{last}
 use Rattle.trap_model.specs.declared.numbers.Geometry.{Geometry}
 use Rattle.trap_model.specs.declared.history.State.{State}
 use Rattle.trap_raid.specs.Members.{Counts, IsMember, IsOut}
 use Rattle.trap_raid.specs.Reads.{OnlyReads}
-use Rattle.trap_stage.specs.Slots.{Stage}
+use Rattle.trap_stage.specs.Slots.{Stage, SlotsAre}
 use Rattle.trap_stage.specs.Pending.{pending}
 use Rattle.trap_stage.specs.Found.{IsFound}
 use Rattle.trap_stage.proofs.FurtherSlots.{found_pending}
 use Rattle.trap_mount.specs.Holding.{head_place, Fits, Holds, HoldsBy}
 use Rattle.trap_mount.specs.Mounted.{Mounted, StandsFor, IsReady}
-use Rattle.trap_mount.specs.Mounting.{HoldsStill, Mounts, HasRecords, HasMembers, FoundLost, HasFound, Refuses, MountFails}
+use Rattle.trap_mount.specs.Mounting.{HoldsStill, Mounts, HasRecords, HasMembers, FoundLost, HasFound, IsFailing, Refuses, MountFails, is_refusal, PutsHead, MayPutHead, HasPutHead, KeepsLost, WritesHead}
+use Rattle.trap_mount.specs.MountEnds.{KnowsDisks}
 use Rattle.trap_mount.specs.MountSteps.{ReadsLog, ReadsStage, ReadsMember, FindsMembers, MayPut, HasPut}
 use Rattle.trap_mount.specs.Reading.{ReadsIndex}
 use Rattle.trap_mount.specs.declared.fault.MountFault.{MountFault}
-use Rattle.trap_mount.specs.declared.fault.MountFault.TheVariants.{LogFault}
+use Rattle.trap_mount.specs.declared.fault.MountFault.TheVariants.{NotAnArray, BadVersion, WrongMember, TooManyLost, Damaged, LogFault, MemberFault, OutOfMemory}
 use Rattle.trap_mount.proofs.MountRecords.{read_described}
 use Rattle.trap_mount.proofs.Puts.{put_in_cell, fits_put, held_by_read}
 use Rattle.trap_mount.proofs.MountReads.{reads_then, told_before, told_after, disks_same, stable_reads, rose_later, rose_before, refused_before}
+use Rattle.trap_mount.proofs.MountRefusals.{never_refused}
 use Rattle.trap_mount.proofs.MountMembers.{absent_disk, is_some_or_not, finds_only, finds_one}
 use Rattle.trap_mount.proofs.MountStands.{one_array, fits_agree, fits_changed}
 
@@ -66,6 +68,37 @@ one_head g h k s t x y by also same = heads_same g h k (head_value h) (record { 
     some_same : (xs ys : List ℕ) → Some xs ≡ Some ys → xs ≡ ys
     some_same xs ys e = cc
 
+-- over disks that hold a state nothing is refused, and a member that fails is one that isn't out
+module _ (a b : View) (g : Geometry) (h : Head) (s : State) (told : IsTrue a.tells) (by : HoldsBy g h s a.now.disks) (log : Rose (a.faults 0) (b.faults 0) → ⊥)
+    (members : (m : ℕ) → m < g.members → Rose (a.faults (m + 1)) (b.faults (m + 1)) → IsOut h.lost a.now.disks m) where
+  holds : Holds g s a.now.disks
+  holds = record { head = h; by = by }
+
+  never : (why : MountFault) → Refuses a why → is_refusal why ≡ true → ⊥
+  never why refused is = two (sym is ∙ never_refused g s a.now.disks holds why refused)
+    where
+      two : true ≡ false → ⊥
+      two same = cc
+
+  never_fails : (k : Geometry) (l : Head) (m : ℕ) → HasMembers k l a.now.disks → IsFailing k l a.now.disks m → Rose (a.faults (m + 1)) (b.faults (m + 1)) → ⊥
+  never_fails k l m has failing rose =
+      let head = has.records.slots.head in
+      let one : g ≡ k = one_array k g s a.now.disks head.header holds in
+      let here = subst (λ (n : Geometry). HoldsBy n h s a.now.disks) one by in
+      let there = held_by_read k l s a.now.disks (subst (λ (n : Geometry). Holds n s a.now.disks) one holds) head.value head.head in
+      let same : h ≡ l = one_head k h l s s a.now.disks a.now.disks here there refl in
+      failing.counts (subst (λ (t : Head). IsOut t.lost a.now.disks m) same (members m (subst (λ (n : Geometry). m < n.members) (sym one) failing.inside) rose))
+
+  pub complete : (why : MountFault) → (IsTrue a.tells → Refuses a why) → MountFails why a b → why ≡ OutOfMemory
+  complete NotAnArray refused fails = absurd (never NotAnArray (refused told) refl)
+  complete (BadVersion version) refused fails = absurd (never (BadVersion version) (refused told) refl)
+  complete (WrongMember member) refused fails = absurd (never (WrongMember member) (refused told) refl)
+  complete (TooManyLost first second) refused fails = absurd (never (TooManyLost first second) (refused told) refl)
+  complete (Damaged offset) refused fails = absurd (never (Damaged offset) (refused told) refl)
+  complete LogFault refused fails = absurd (log fails)
+  complete (MemberFault first second) refused fails = let named = refused told in absurd (never_fails named.0 named.1 second named.2 named.3 fails.2)
+  complete OutOfMemory refused fails = refl
+
 -- the same head has the same lost member
 same_lost : (g : Geometry) (h k : Head) (old new : View) → h ≡ k → FoundLost g h k old new
 same_lost g h k old new same = subst (λ (t : Head). FoundLost g h t old new) same (record { same = refl; lost = λ m is. inl is; still = λ m is. is; mark = inl refl })
@@ -78,20 +111,65 @@ read_lost a b reads g h k s t told by also =
 pub read_others : (a b : View) → OnlyReads a b → IsTrue a.tells → (e : ℕ) → e ≢ 0 → b.now.disks e ≡ a.now.disks e
 read_others a b reads told e other = ap (λ (x : Disks). x e) (disks_same a b reads told)
 
--- a put of these bytes is one of the head that they spell
-pub may_put : (a b : View) (cell : Slots) (k : Head) (bytes : List ℕ) → bytes ≡ head_value k → Moves a b (PutsIn cell bytes) (PutsIn cell bytes) → Moves a b (MayPut cell k) (MayPut cell k)
-may_put a b cell k bytes is put = moves_weaken a b (PutsIn cell bytes) (PutsIn cell bytes) (MayPut cell k) (MayPut cell k) put
-    (λ x y was step. inr (subst (λ (value : List ℕ). PutsIn cell value x.disks y.disks) is step))
-    (λ x y was left step. inr (subst (λ (value : List ℕ). PutsIn cell value x.disks y.disks) is step))
+-- a put of these bytes is one of the head that they spell, which isn't the one that was found
+module _ (a b : View) (cell : Slots) (h k : Head) (other : k ≢ h) (bytes : List ℕ) (is : bytes ≡ head_value k) where
+  put_of : (x y : Disks) → PutsIn cell bytes x y → MayPut cell h k x y
+  put_of x y step = inr (other, subst (λ (value : List ℕ). PutsIn cell value x y) is step)
 
-pub has_put : (a b : View) (cell after : Slots) (h k : Head) (bytes : List ℕ) → bytes ≡ head_value k → Moves a b (PutsIn cell bytes) (IsPut b cell after bytes) → Moves a b (MayPut cell k) (HasPut b cell after h k)
-has_put a b cell after h k bytes is put = moves_weaken a b (PutsIn cell bytes) (IsPut b cell after bytes) (MayPut cell k) (HasPut b cell after h k) put
-    (λ x y was step. inr (subst (λ (value : List ℕ). PutsIn cell value x.disks y.disks) is step))
-    (λ x y was left step. inr (subst (λ (value : List ℕ). IsPut b cell after value x.disks y.disks) is step))
+  pub may_put : Moves a b (PutsIn cell bytes) (PutsIn cell bytes) → Moves a b (MayPut cell h k) (MayPut cell h k)
+  may_put put = moves_weaken a b (PutsIn cell bytes) (PutsIn cell bytes) (MayPut cell h k) (MayPut cell h k) put
+      (λ x y was step. put_of x.disks y.disks step)
+      (λ x y was left step. put_of x.disks y.disks step)
 
--- a put that is under way, or done
-puts_of : (v : View) (cell after : Slots) (h k : Head) (x y : Disks) → HasPut v cell after h k x y → MayPut cell k x y
-puts_of v cell after h k x y put = ⊎_elim (λ none. inl none.0) (λ done. inr (record { differs = done.differs; either = inr done.value })) put
+  pub may_put_now : Quiet (PutsIn cell bytes) a.now b.now → Quiet (MayPut cell h k) a.now b.now
+  may_put_now put = record { disks = put_of a.now.disks b.now.disks put.disks; said = put.said }
+
+  pub has_put : (after : Slots) → Moves a b (PutsIn cell bytes) (IsPut b cell after bytes) → Moves a b (MayPut cell h k) (HasPut b cell after h k)
+  has_put after put = moves_weaken a b (PutsIn cell bytes) (IsPut b cell after bytes) (MayPut cell h k) (HasPut b cell after h k) put
+      (λ x y was step. put_of x.disks y.disks step)
+      (λ x y was left step. inr (other, subst (λ (value : List ℕ). IsPut b cell after value x.disks y.disks) is step))
+
+-- a head that is put is the lost member's, or the one before
+lost_put : (v w : View) (x y : Disks) → MayPutHead v w x y → KeepsLost v w x y
+lost_put v w x y step g h k s t by also = ⊎_elim
+    (λ same. same_lost g h k v w (one_head g h k s t x y by also (ap (cell_value head_place) same)))
+    (λ puts. decide puts.0 puts.1)
+    step
+  where
+    some_same : (xs ys : List ℕ) → Some xs ≡ Some ys → xs ≡ ys
+    some_same xs ys e = cc
+
+    decide : (put : Head) → PutsHead v w put x y → FoundLost g h k v w
+    decide put puts =
+        let header = puts.passed.records.slots.head.header in
+        let value = value_of_disk v.now.disks x puts.synced ∙ puts.passed.records.slots.head.value in
+        let one : g ≡ puts.g = logs_same g puts.g (region x 0 0 64) by.fits.log.id header.id by.fits.log.header
+        (subst (λ (bytes : List ℕ). IsLogHeader puts.g bytes) (sym (region_of_disk v.now.disks x 0 0 64 puts.synced)) header.header) in
+        let found : puts.found ≡ h = heads_same puts.g puts.found h (head_value puts.found) (record { head = puts.passed.records.slots.head.head; spelled = refl })
+        (record { head = subst (λ (q : Geometry). IsHead q h) one by.fits.head.head; spelled = some_same (head_value puts.found) (head_value h) (sym value ∙ by.value) }) in
+        ⊎_elim
+        (λ same. same_lost g h k v w (one_head g h k s t x y by also (same ∙ sym value)))
+        (λ fresh.
+        let now : put ≡ k = heads_same puts.g put k (head_value put) (record { head = puts.head; spelled = refl })
+        (record { head = subst (λ (q : Geometry). IsHead q k) one also.fits.head.head; spelled = some_same (head_value put) (head_value k) (sym fresh ∙ also.value) }) in
+        subst (λ (q : Geometry). FoundLost q h k v w) (sym one)
+        (subst (λ (q : Head). FoundLost puts.g q k v w) found (subst (λ (q : Head). FoundLost puts.g puts.found q v w) now puts.lost)))
+        puts.value
+
+-- what is written at any moment says which member is lost
+head_writes : (a d : View) → Moves a d (MayPutHead a d) (MayPutHead a d) → (IsTrue a.tells → Quiet (MayPutHead a d) a.now d.now) → WritesHead a d
+head_writes a d moves contents = record {
+  contents = contents;
+  any_moment = moves;
+  lost = moves_weaken a d (MayPutHead a d) (MayPutHead a d) (KeepsLost a d) (KeepsLost a d) moves
+      (λ x y was step. lost_put a d x.disks y.disks step)
+      (λ x y was left step. lost_put a d x.disks y.disks step);
+}
+
+-- a run that writes nothing
+pub head_read : (a b : View) → OnlyReads a b → WritesHead a b
+head_read a b reads = head_writes a b (moves_weaken a b Same Same (MayPutHead a b) (MayPutHead a b) reads.moves (λ x y was same. inl same) (λ x y was left same. inl same))
+    (λ told. record { disks = inl (disks_same a b reads told); said = ap (λ (n : Contents). n.said) (reads.same told) })
 
 -- the array that was mounted
 abbrev pub mounted_by : Geometry → Head → Slots → Stage → Indexed → Mounted
@@ -133,6 +211,24 @@ module _ (g : Geometry) (h k : Head) (cell : Slots) (stage : Stage) (a b c : Vie
         mark = ⊎_elim inl (λ rest. inr (rest.0, λ m is. ⊎_elim (λ rose. inl (rose_later _ _ _ (to_b.moves.faults (m + 1)) rose)) (λ not. inr (subst (λ (x : Disks). IsMember g x m → ⊥) same not)) (rest.1 m is))) found.mark;
       }
 
+  -- and until a later moment
+  found_until : (w : View) → ((e : ℕ) → c.faults e ≤ w.faults e) → IsTrue a.tells → FoundLost g h k a w
+  found_until w later told =
+      let found = found_entry told in
+      record {
+        same = found.same;
+        lost = found.lost;
+        still = found.still;
+        mark = ⊎_elim inl (λ rest. inr (rest.0, λ m is. ⊎_elim (λ rose. inl (rose_before _ _ _ (later (m + 1)) rose)) inr (rest.1 m is))) found.mark;
+      }
+
+  -- every step passed
+  all_passed : IsTrue a.tells → HasMembers g h a.now.disks
+  all_passed told =
+      let later = told_after a b to_b told in
+      let same = disks_same a b to_b told in
+      subst (λ (x : Disks). HasMembers g h x) same (finds_one g h k.lost b lawful later members.lost (subst (λ (x : Disks). HasRecords g h x) (sym same) (log.records told)))
+
   -- a state that was held on entry fits the head that is put
   fits_entry : IsTrue a.tells → (s : State) → Holds g s a.now.disks → Fits g k s a.now.disks
   fits_entry told s holds =
@@ -157,8 +253,8 @@ module _ (g : Geometry) (h k : Head) (cell : Slots) (stage : Stage) (a b c : Vie
   header_entry told g' s holds = one_array g g' s a.now.disks (log.header.header told) holds
 
   -- at any moment of the put
-  put_mounts : (y : Contents) (z : Disks) → MayLeave c y → MayPut cell k y.disks z → Mounts a y.disks z
-  put_mounts y z left put = ⊎_elim inl (λ puts. inr (⊎_elim
+  put_mounts : (y : Contents) (z : Disks) → MayLeave c y → MayPut cell h k y.disks z → Mounts a y.disks z
+  put_mounts y z left put = ⊎_elim inl (λ putting. let puts = putting.1 in inr (⊎_elim
       (λ same. inl (record {
         cell = cell;
         place = log.head.place;
@@ -181,15 +277,64 @@ module _ (g : Geometry) (h k : Head) (cell : Slots) (stage : Stage) (a b c : Vie
             };
           })
 
+  -- the head that is put, whatever the disks hold
+  puts_head : (w : View) → ((e : ℕ) → c.faults e ≤ w.faults e) → (y : Contents) (z : Disks) → MayLeave c y → k ≢ h → PutsIn cell (head_value k) y.disks z → PutsHead a w k y.disks z
+  puts_head w later y z left other puts =
+      let told = told_before a c reads left.told in
+      record {
+        g = g;
+        found = h;
+        passed = all_passed told;
+        head = members.head;
+        lost = found_until w later told;
+        changed = other;
+        synced = log_left y left;
+        slot = record {
+          cell = cell;
+          place = log.head.place;
+          current = subst (λ (p : Place). current_slot p y.disks ≡ Some cell.second) log.head.place (stands_still y left).current;
+          differs = puts.differs;
+        };
+        value = ⊎_elim
+            (λ same. inl (subst (λ (p : Place). cell_value p z ≡ cell_value p y.disks) log.head.place same ∙ value_still y left))
+            (λ fresh. inr (subst (λ (p : Place). cell_value p z ≡ Some (head_value k)) log.head.place fresh))
+            puts.either;
+      }
+    where
+      value_still : (y : Contents) → MayLeave c y → cell_value head_place y.disks ≡ Some (head_value h)
+      value_still y left = value_of_disk a.now.disks y.disks (log_left y left) ∙ log.head.value (told_before a c reads left.told)
+
+  -- at any moment
+  put_head : (w : View) → ((e : ℕ) → c.faults e ≤ w.faults e) → (y : Contents) (z : Disks) → MayLeave c y → MayPut cell h k y.disks z → MayPutHead a w y.disks z
+  put_head w later y z left put = ⊎_elim inl (λ puts. inr (k, puts_head w later y z left puts.0 puts.1)) put
+
   module _ (d : View) where
+    pub writes_head : Moves c d (MayPut cell h k) (MayPut cell h k) → (IsTrue c.tells → Quiet (MayPut cell h k) c.now d.now) → WritesHead a d
+    writes_head put now = head_writes a d moves contents
+      where
+        moves : Moves a d (MayPutHead a d) (MayPutHead a d)
+        moves = moves_then a c d Same Same (MayPut cell h k) (MayPut cell h k) (MayPutHead a d) (MayPutHead a d) reads.moves put
+            (λ x y was same. inl same)
+            (λ x y z was same mid step. subst (λ (q : Disks). MayPutHead a d q z.disks) same (put_head d put.faults y z.disks mid step))
+            (λ x y z was same mid step. subst (λ (q : Disks). MayPutHead a d q z.disks) same (put_head d put.faults y z.disks mid step))
+
+        contents : IsTrue a.tells → Quiet (MayPutHead a d) a.now d.now
+        contents told =
+            let later = told_after a c reads told in
+            let step = now later in
+            record {
+              disks = subst (λ (q : Disks). MayPutHead a d q d.now.disks) (disks_same a c reads told) (put_head d put.faults c.now d.now.disks (read_is_left c later) step.disks);
+              said = step.said ∙ ap (λ (n : Contents). n.said) (reads.same told);
+            }
+
     -- with the put
-    pub mounts_put : Moves c d (MayPut cell k) (MayPut cell k) → Moves a d (Mounts a) (Mounts a)
-    mounts_put put = moves_then a c d Same Same (MayPut cell k) (MayPut cell k) (Mounts a) (Mounts a) reads.moves put
+    pub mounts_put : Moves c d (MayPut cell h k) (MayPut cell h k) → Moves a d (Mounts a) (Mounts a)
+    mounts_put put = moves_then a c d Same Same (MayPut cell h k) (MayPut cell h k) (Mounts a) (Mounts a) reads.moves put
         (λ x y was same. inl same)
         (λ x y z was same mid step. subst (λ (q : Disks). Mounts a q z.disks) same (put_mounts y z.disks mid step))
         (λ x y z was same mid step. subst (λ (q : Disks). Mounts a q z.disks) same (put_mounts y z.disks mid step))
 
-    pub mounts_contents : (IsTrue c.tells → Quiet (MayPut cell k) c.now d.now) → IsTrue a.tells → Quiet (Mounts a) a.now d.now
+    pub mounts_contents : (IsTrue c.tells → Quiet (MayPut cell h k) c.now d.now) → IsTrue a.tells → Quiet (Mounts a) a.now d.now
     mounts_contents put told =
         let later = told_after a c reads told in
         let step = put later in
@@ -199,18 +344,18 @@ module _ (g : Geometry) (h k : Head) (cell : Slots) (stage : Stage) (a b c : Vie
         }
 
     -- no disk but the log changes
-    pub put_others : (IsTrue c.tells → Quiet (MayPut cell k) c.now d.now) → IsTrue a.tells → (e : ℕ) → e ≢ 0 → d.now.disks e ≡ a.now.disks e
+    pub put_others : (IsTrue c.tells → Quiet (MayPut cell h k) c.now d.now) → IsTrue a.tells → (e : ℕ) → e ≢ 0 → d.now.disks e ≡ a.now.disks e
     put_others put told e other = ⊎_elim (λ same. ap (λ (x : Disks). x e) same)
-        (λ puts. disk_apart (other_slot cell) c.now.disks d.now.disks e puts.differs (λ i within. other (within.disk ∙ ap (λ (p : Place). p.disk) log.head.place)))
+        (λ puts. disk_apart (other_slot cell) c.now.disks d.now.disks e puts.1.differs (λ i within. other (within.disk ∙ ap (λ (p : Place). p.disk) log.head.place)))
         (put (told_after a c reads told)).disks
         ∙ ap (λ (x : Disks). x e) (disks_same a c reads told)
 
     -- and the lost member is the one that was found, or the one before
-    pub put_lost : ((e : ℕ) → c.faults e ≤ d.faults e) → (IsTrue c.tells → Quiet (MayPut cell k) c.now d.now) → (n : Geometry) (l t : Head) (s u : State) → IsTrue a.tells
+    pub put_lost : ((e : ℕ) → c.faults e ≤ d.faults e) → (IsTrue c.tells → Quiet (MayPut cell h k) c.now d.now) → (n : Geometry) (l t : Head) (s u : State) → IsTrue a.tells
         → HoldsBy n l s a.now.disks → HoldsBy n t u d.now.disks → FoundLost n l t a d
     put_lost later put n l t s u told by also = ⊎_elim
         (λ same. same_lost n l t a d (one_head n l t s u a.now.disks d.now.disks by also (ap (cell_value head_place) (same ∙ disks_same a c reads told))))
-        (λ puts. ⊎_elim
+        (λ putting. let puts = putting.1 in ⊎_elim
         (λ same. same_lost n l t a d (one_head n l t s u a.now.disks d.now.disks by also
         (subst (λ (p : Place). cell_value p d.now.disks ≡ cell_value p c.now.disks) log.head.place same ∙ ap (cell_value head_place) (disks_same a c reads told))))
         (λ fresh. put_it (subst (λ (p : Place). cell_value p d.now.disks ≡ Some (head_value k)) log.head.place fresh))
@@ -223,25 +368,20 @@ module _ (g : Geometry) (h k : Head) (cell : Slots) (stage : Stage) (a b c : Vie
         put_it : cell_value head_place d.now.disks ≡ Some (head_value k) → FoundLost n l t a d
         put_it value =
             let one : n ≡ g = header_entry told n s (record { head = l; by = by }) in
-            let found = found_entry told in
+            let found = found_until d later told in
             let before : h ≡ l = heads_same g h l (head_value h) (record { head = log.head.head; spelled = refl })
             (record { head = subst (λ (q : Geometry). IsHead q l) one by.fits.head.head; spelled = some_same (head_value h) (head_value l) (sym (log.head.value told) ∙ by.value) }) in
             let now : k ≡ t = heads_same g k t (head_value k) (record { head = members.head; spelled = refl })
             (record { head = subst (λ (q : Geometry). IsHead q t) one also.fits.head.head; spelled = some_same (head_value k) (head_value t) (sym value ∙ also.value) }) in
             subst (λ (q : Geometry). FoundLost q l t a d) (sym one)
-            (subst (λ (q : Head). FoundLost g q t a d) before (subst (λ (q : Head). FoundLost g h q a d) now (record {
-              same = found.same;
-              lost = found.lost;
-              still = found.still;
-              mark = ⊎_elim inl (λ rest. inr (rest.0, λ m is. ⊎_elim (λ rose. inl (rose_before _ _ _ (later (m + 1)) rose)) inr (rest.1 m is))) found.mark;
-            })))
+            (subst (λ (q : Head). FoundLost g q t a d) before (subst (λ (q : Head). FoundLost g h q a d) now found))
 
-    module _ (after : Slots) (index : Indexed) (known : ReadsIndex g h index a) (put : Moves c d (MayPut cell k) (HasPut d cell after h k)) (sizes : (e : ℕ) → d.sizes e ≡ c.sizes e) where
+    module _ (after : Slots) (index : Indexed) (known : ReadsIndex g h index a) (put : Moves c d (MayPut cell h k) (HasPut d cell after h k)) (sizes : (e : ℕ) → d.sizes e ≡ c.sizes e) where
       cell_after : Always d (Stands after)
       cell_after w left =
           let from = put.now w left in
           ⊎_elim (λ none. subst (λ (q : Disks). Stands after q) (sym none.0) (subst (λ (t : Slots). Stands t from.origin.disks) (sym none.2) (stands_still from.origin from.was)))
-          (λ done. done.stands) from.by.disks
+          (λ done. done.1.stands) from.by.disks
 
       pub mount_ready : IsReady (mounted_by g k after stage index) d
       mount_ready = record {
@@ -284,8 +424,8 @@ module _ (g : Geometry) (h k : Head) (cell : Slots) (stage : Stage) (a b c : Vie
                         fits = subst (λ (q : Disks). Fits g k s q) (sym none.0) fits;
                       })
                       (λ done. record {
-                        value = subst (λ (p : Place). cell_value p w.disks ≡ Some (head_value k)) log.head.place done.value;
-                        fits = fits_put g k s from.origin.disks w.disks (put_in_cell cell from.origin.disks w.disks log.head.place done.differs) fits;
+                        value = subst (λ (p : Place). cell_value p w.disks ≡ Some (head_value k)) log.head.place done.1.value;
+                        fits = fits_put g k s from.origin.disks w.disks (put_in_cell cell from.origin.disks w.disks log.head.place done.1.differs) fits;
                       })
                       from.by.disks;
                   cell = cell_after w left;
@@ -294,20 +434,47 @@ module _ (g : Geometry) (h k : Head) (cell : Slots) (stage : Stage) (a b c : Vie
                 },
           )
 
+      -- the cell's value is the array's head
+      done_head : (y : Contents) (z : Disks) → MayLeave c y → HasPut d cell after h k y.disks z → HasPutHead a d k y.disks z
+      done_head y z left done = ⊎_elim
+          (λ none. (
+            inl none.0,
+            subst (λ (q : Disks). cell_value head_place q ≡ Some (head_value k)) (sym none.0)
+                (value_of_disk a.now.disks y.disks (log_left y left) ∙ log.head.value (told_before a c reads left.told) ∙ ap (λ (t : Head). Some (head_value t)) (sym none.1)),
+          ))
+          (λ was. (
+            inr (puts_head d put.faults y z left was.0 (record { differs = was.1.differs; either = inr was.1.value })),
+            subst (λ (p : Place). cell_value p z ≡ Some (head_value k)) log.head.place was.1.value,
+          ))
+          done
+
+      pub mount_head : Moves a d (MayPutHead a d) (HasPutHead a d k)
+      mount_head = moves_then a c d Same Same (MayPut cell h k) (HasPut d cell after h k) (MayPutHead a d) (HasPutHead a d k) reads.moves put
+          (λ x y was same. inl same)
+          (λ x y z was same mid step. subst (λ (q : Disks). MayPutHead a d q z.disks) same (put_head d put.faults y z.disks mid step))
+          (λ x y z was same mid step. subst (λ (q : Disks). HasPutHead a d k q z.disks) same (done_head y z.disks mid step))
+
+      -- what the array knows is what was read
+      pub mount_knows : KnowsDisks (mounted_by g k after stage index) a
+      mount_knows =
+          let slots = stage_put in
+          record {
+            count = ap (λ (n : ℕ). n + length stage.pending) (sym slots.drained) ∙ slots.last;
+            slots = λ told. subst (λ (n : ℕ). SlotsAre g n stage.pending a.now.disks) (sym members_drained) ((log.slots.slots told).slots);
+            index = index_put index known;
+          }
+        where
+          members_drained : k.drained ≡ h.drained
+          members_drained = ap (λ (t : Head). t.drained) members.same
+
       pub mount_found : HasFound (mounted_by g k after stage index) a d
       mount_found = record {
         passed = λ told.
             let later = told_after a b to_b told in
-            let same = disks_same a b to_b told in
-            let found = found_entry told in (
+            let same = disks_same a b to_b told in (
               h,
-              subst (λ (x : Disks). HasMembers g h x) same (finds_one g h k.lost b lawful later members.lost (subst (λ (x : Disks). HasRecords g h x) (sym same) (log.records told))),
-              record {
-                same = found.same;
-                lost = found.lost;
-                still = found.still;
-                mark = ⊎_elim inl (λ rest. inr (rest.0, λ m is. ⊎_elim (λ rose. inl (rose_before _ _ _ (put.faults (m + 1)) rose)) inr (rest.1 m is))) found.mark;
-              },
+              all_passed told,
+              found_until d put.faults told,
               λ m inside counts. subst (λ (x : Disks). IsMember g x m) same ((members.others m inside (λ is. counts (subst (λ (x : Disks). IsOut h.lost x m) same ((finds_only g h k.lost b lawful later members.lost).out m is)))).own later),
               λ m is more. subst (λ (x : Disks). IsMember g x m) same ((members.own m is more).own later),
             );

@@ -1,13 +1,14 @@
 -- Runs of calls that only read, and disks of which a crash leaves what a read gives.
-use Rattle.std.proofs.Common.{◌≡◌, ℕ, ◌+◌, ◌≤◌, IsTrue, Ok, refl, sym, ap, subst, ◌∙◌, arith}
+use Rattle.std.proofs.Common.{◌≡◌, ℕ, ◌+◌, ◌≤◌, Bool, true, false, IsTrue, Ok, refl, sym, ap, subst, ◌∙◌, arith}
 use Rattle.trap_bank.specs.Disks.{Contents, View, Disks}
 use Rattle.trap_bank.specs.Calls.{Syncs}
 use Rattle.trap_bank.specs.Faults.{Rose}
 use Rattle.trap_bank.specs.Steps.{Moves, Same}
 use Rattle.trap_bank.proofs.Moves.{synced_steps, same_then, no_moves}
+use Rattle.trap_model.specs.declared.numbers.Geometry.{Geometry}
 use Rattle.trap_raid.specs.Reads.{OnlyReads}
 use Rattle.trap_mount.specs.MountSteps.{IsStable}
-use Rattle.trap_mount.specs.Mounting.{Refuses, RefusesAs, MountFails}
+use Rattle.trap_mount.specs.Mounting.{Refuses, RefusesAs, MountFails, SizesShow}
 use Rattle.trap_mount.specs.declared.fault.MountFault.{MountFault}
 use Rattle.trap_mount.specs.declared.fault.MountFault.TheVariants.{NotAnArray, BadVersion, WrongMember, TooManyLost, Damaged, LogFault, MemberFault, OutOfMemory}
 
@@ -80,3 +81,24 @@ cause_after a b c (Damaged offset) reads fails = tt
 cause_after a b c LogFault reads fails = rose_before _ _ _ (reads.moves.faults 0) fails
 cause_after a b c (MemberFault first second) reads fails = (fails.0, fails.1, rose_before _ _ _ (reads.moves.faults (second + 1)) fails.2)
 cause_after a b c OutOfMemory reads fails = tt
+
+-- what the sizes show later they showed before
+pub sizes_before : (g : Geometry) (a b : View) (why : MountFault) → ((e : ℕ) → b.sizes e ≡ a.sizes e) → SizesShow g why b → SizesShow g why a
+sizes_before g a b NotAnArray same shown = tt
+sizes_before g a b (BadVersion version) same shown = tt
+sizes_before g a b (WrongMember member) same shown = shown
+sizes_before g a b (TooManyLost first second) same shown = record {
+  first_inside = shown.first_inside;
+  inside = shown.inside;
+  apart = shown.apart;
+  absent = sym (same (second + 1)) ∙ shown.absent;
+  lowest = λ m below other none. shown.lowest m below other (same (m + 1) ∙ none);
+}
+sizes_before g a b (Damaged offset) same shown = tt
+sizes_before g a b LogFault same shown = tt
+sizes_before g a b (MemberFault first second) same shown = (shown.0, sym (same (second + 1)) ∙ shown.1)
+sizes_before g a b OutOfMemory same shown = tt
+
+-- a truth value is one
+pub one_bit : (b : Bool) → b ≡ false → b ≡ true → ⊥
+one_bit b first second = cc

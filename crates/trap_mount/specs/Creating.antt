@@ -2,15 +2,15 @@
 use Rattle.std.specs.Prelude.{◌≡◌, ◌≢◌, ◌⊎◌, ℕ, ◌+◌, ◌*◌, ◌<◌, ◌≤◌, List, ◌++◌, replicate, take, drop, Some, None, IsTrue}
 use Rattle.trap_bank.specs.Disks.{Disks, View, byte, region, size_of}
 use Rattle.trap_bank.specs.Faults.{Rose}
-use Rattle.trap_bank.specs.Steps.{Moves, Same}
+use Rattle.trap_bank.specs.Steps.{Moves, Same, Always}
 use Rattle.trap_cell.specs.Slots.{cell_value}
 use Rattle.trap_format.specs.LogDisk.{log_start, log_size, log_header}
-use Rattle.trap_format.specs.MemberDisk.{member_header}
+use Rattle.trap_format.specs.MemberDisk.{member_size, member_header}
 use Rattle.trap_format.specs.HeadValue.{head_value}
 use Rattle.trap_format.specs.declared.head.Head.{Head}
 use Rattle.trap_model.specs.State.{fresh}
 use Rattle.trap_model.specs.declared.numbers.Geometry.{Geometry}
-use Rattle.trap_mount.specs.Holding.{head_place, HasLog, Holds}
+use Rattle.trap_mount.specs.Holding.{head_place, HasLog, Holds, HoldsBy}
 use Rattle.trap_mount.specs.declared.fault.CreateFault.{CreateFault}
 use Rattle.trap_mount.specs.declared.fault.CreateFault.TheVariants.{Exists, LogFault, MemberFault}
 
@@ -128,3 +128,14 @@ pub record MakesLog (g : Geometry) (old new : Disks) : Type 0 where
 pub record HasNewLog (g : Geometry) (old new : Disks) : Type 0 where
   pub others : OnlyDisk 0 old new
   pub log : IsNewLog g new
+
+-- the disks of the first members have their exact size
+abbrev pub AreSized : Geometry → ℕ → View → Type 0
+AreSized g count v = (m : ℕ) → m < count → v.sizes (m + 1) ≡ Some (member_size g)
+
+-- The array was made: its log and each of its members has its exact size, and every crash leaves disks that hold the
+-- fresh array by the head before the first write, which calls no member lost.
+pub record IsMade (g : Geometry) (v : View) : Type 0 where
+  pub log : v.sizes 0 ≡ Some (log_size g)
+  pub members : AreSized g g.members v
+  pub holds : Always v (HoldsBy g fresh_head (fresh g))

@@ -77,6 +77,12 @@ pub record ReadsMember (g : Geometry) (m : ℕ) (old new : View) : Type 0 where
 abbrev pub ReadsMembers : Geometry → Option ℕ → ℕ → View → View → Type 0
 ReadsMembers g lost n old new = (m : ℕ) → m < n → lost ≢ Some m → ReadsMember g m old new
 
+-- the member that is looked at: it isn't out, and each lower one that isn't out has its own disk
+pub record IsNext (g : Geometry) (h : Head) (disks : Disks) (member : ℕ) : Type 0 where
+  pub inside : member < g.members
+  pub counts : IsOut h.lost disks member → ⊥
+  pub lowest : (m : ℕ) → m < member → (IsOut h.lost disks m → ⊥) → IsMember g disks m
+
 -- The rows of the recorded lost member that count still are those that did, or none. If some do, the disk is the
 -- member's own; if none does any longer, its count of faults rose, or it is absent or not the member's own.
 pub record KeepsRows (g : Geometry) (m before now : ℕ) (old new : View) : Type 0 where
@@ -93,11 +99,11 @@ pub record FindsMembers (g : Geometry) (h k : Head) (old new : View) : Type 0 wh
   pub own : (m : ℕ) → k.lost ≡ Some m → 0 < k.rebuilt → ReadsMember g m old new
   pub found : IsTrue old.tells → FoundLost g h k old new
 
--- the head is put, or nothing is done
-abbrev pub MayPut : Slots → Head → Disks → Disks → Type 0
-MayPut cell k old new = (new ≡ old) ⊎ PutsIn cell (head_value k) old new
+-- the head is put where it isn't the one that was found, or nothing is done
+abbrev pub MayPut : Slots → Head → Head → Disks → Disks → Type 0
+MayPut cell h k old new = (new ≡ old) ⊎ ((k ≢ h) × PutsIn cell (head_value k) old new)
 
 -- the head was put, or it was there already and nothing was done
 abbrev pub HasPut : View → Slots → Slots → Head → Head → Disks → Disks → Type 0
 HasPut v cell after h k old new =
-    ((new ≡ old) × (k ≡ h) × (after ≡ cell)) ⊎ IsPut v cell after (head_value k) old new
+    ((new ≡ old) × (k ≡ h) × (after ≡ cell)) ⊎ ((k ≢ h) × IsPut v cell after (head_value k) old new)

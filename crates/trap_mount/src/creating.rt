@@ -1,11 +1,12 @@
 //! Making an array: the members first, the log last, its gate last of all.
 
-ghost use Rattle.std.specs.Prelude.{◌≡◌, ◌≢◌, ◌↔◌, ◌≤◌, ◌<◌, ◌^◌, ℕ, ◌+◌, OnOk, OnErr, IsTrue, IsErrOf, IfErr, IfSome, IfNone, None, Some};
+ghost use Rattle.std.specs.Prelude.{◌≡◌, ◌≢◌, ◌↔◌, ◌≤◌, ◌<◌, ◌^◌, ℕ, ◌+◌, OnOk, OnErr, IsTrue, ◌⊎◌, IsErrOf, IsOk, IfErr, IfSome, IfNone, None, Some};
 ghost use Rattle.trap_bank.specs.Disks.{Quiet};
 ghost use Rattle.trap_bank.specs.Faults.{Rose};
 ghost use Rattle.trap_bank.specs.Steps.{Moves};
 ghost use Rattle.trap_format.specs.LogDisk.{log_size};
-ghost use Rattle.trap_mount.specs.Creating.{CreateFails, Creates, HasCreated, IsLowest, NoneIsThere, IsUntouched, OnlyDisk, OnlyMembers, HasMember, HasMembers, ShutsLog, HasShutLog, MakesLog, HasNewLog};
+ghost use Rattle.trap_format.specs.MemberDisk.{member_size};
+ghost use Rattle.trap_mount.specs.Creating.{CreateFails, Creates, HasCreated, IsLowest, NoneIsThere, IsUntouched, AreSized, IsMade, OnlyDisk, OnlyMembers, HasMember, HasMembers, ShutsLog, HasShutLog, MakesLog, HasNewLog};
 ghost use Rattle.trap_mount.specs.declared.fault.CreateFault.TheVariants as fault;
 
 use crate::CreateFault;
@@ -72,6 +73,7 @@ fn create_member<B: Bank>(bank: &mut B, g: &Geometry, member: u8) -> Result<(), 
     requires { member < g.now.members }
     ensures ok { OnOk result (Moves (B.view bank.old) (B.view bank.new)
         (OnlyDisk (member + 1)) (HasMember g.now member)) }
+    ensures size { OnOk result ((B.view bank.new).sizes (member + 1) ≡ Some (member_size g.now)) }
     ensures sizes { (e : ℕ) → e ≢ member + 1 → (B.view bank.new).sizes e ≡ (B.view bank.old).sizes e }
     ensures touches { IsTrue (B.view bank.old).tells
         → OnlyDisk (member + 1) (B.view bank.old).now.disks (B.view bank.new).now.disks }
@@ -92,7 +94,9 @@ fn create_member<B: Bank>(bank: &mut B, g: &Geometry, member: u8) -> Result<(), 
 fn create_members<B: Bank>(bank: &mut B, g: &Geometry) -> Result<(), MemberFailed>
     ensures ok { OnOk result (Moves (B.view bank.old) (B.view bank.new)
         (OnlyMembers g.now) (HasMembers g.now g.now.members)) }
-    ensures sizes { (e : ℕ) → g.now.members < e → (B.view bank.new).sizes e ≡ (B.view bank.old).sizes e }
+    ensures made { OnOk result (AreSized g.now g.now.members (B.view bank.new)) }
+    ensures sizes { (e : ℕ) → (e ≡ 0) ⊎ (g.now.members < e)
+        → (B.view bank.new).sizes e ≡ (B.view bank.old).sizes e }
     ensures touches { IsTrue (B.view bank.old).tells
         → OnlyMembers g.now (B.view bank.old).now.disks (B.view bank.new).now.disks }
     ensures inside { IfErr result (λ failed. failed.member < g.now.members) }
@@ -133,6 +137,7 @@ fn shut_log<B: Bank>(bank: &mut B, g: &Geometry) -> Result<(), DiskFault>
 fn create_log<B: Bank>(bank: &mut B, g: &Geometry) -> Result<(), DiskFault>
     requires one_slot { g.now.slots ≡ 1 }
     ensures ok { OnOk result (Moves (B.view bank.old) (B.view bank.new) (MakesLog g.now) (HasNewLog g.now)) }
+    ensures size { OnOk result ((B.view bank.new).sizes 0 ≡ Some (log_size g.now)) }
     ensures sizes { (e : ℕ) → e ≢ 0 → (B.view bank.new).sizes e ≡ (B.view bank.old).sizes e }
     ensures touches { IsTrue (B.view bank.old).tells
         → OnlyDisk 0 (B.view bank.old).now.disks (B.view bank.new).now.disks }
@@ -152,6 +157,12 @@ fn create_log<B: Bank>(bank: &mut B, g: &Geometry) -> Result<(), DiskFault>
 pub fn create<B: Bank>(bank: &mut B, g: &Geometry) -> Result<(), CreateFault>
     requires one_slot { g.now.slots ≡ 1 }
     ensures ok { OnOk result (Moves (B.view bank.old) (B.view bank.new) (Creates g.now) (HasCreated g.now)) }
+    ensures made { OnOk result (IsMade g.now (B.view bank.new)) }
+
+    // It succeeds where no disk of the array is there, and none of them fails.
+    ensures complete { NoneIsThere g.now (B.view bank.old)
+        → ((d : ℕ) → d ≤ g.now.members → Rose ((B.view bank.old).faults d) ((B.view bank.new).faults d) → ⊥)
+        → IsOk result }
 
     // It is refused exactly where a disk of the array has a size, with the lowest of them; nothing is done then.
     ensures exists { (d : ℕ) → IsErrOf result (fault.Exists d) ↔ IsLowest g.now (B.view bank.old) d }

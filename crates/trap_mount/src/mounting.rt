@@ -12,7 +12,7 @@ ghost use Rattle.trap_model.specs.declared.numbers.Geometry.{Geometry};
 ghost use Rattle.trap_model.specs.declared.history.State.{State};
 ghost use Rattle.trap_mount.specs.Found.{array_of, IsFoundOn};
 ghost use Rattle.trap_mount.specs.Holding.{HoldsBy, head_place};
-ghost use Rattle.trap_mount.specs.Mounting.{IsNoLog, Mounts, FoundLost};
+ghost use Rattle.trap_mount.specs.Mounting.{IsNoLog, Mounts, FoundLost, WritesHead};
 ghost use Rattle.trap_mount.specs.MountEnds.{MountsFor, MountEnds};
 ghost use Rattle.trap_mount.specs.MountSteps.{MayPut, HasPut};
 ghost use Rattle.trap_mount.specs.declared.fault.MountFault.{MountFault};
@@ -43,15 +43,15 @@ fn put_changed<B: Bank>(
     requires stands { Always (B.view bank.old) (Stands cell.old) }
     requires room { Fits (B.view bank.old) 0 192 }
     requires lost { ForSome head.now.lost (λ member. member < 16) }
-    ensures ok { OnOk result (Moves (B.view bank.old) (B.view bank.new) (MayPut cell.old head.now)
+    ensures ok { OnOk result (Moves (B.view bank.old) (B.view bank.new) (MayPut cell.old found.now head.now)
         (HasPut (B.view bank.new) cell.old cell.new found.now head.now)) }
     ensures contents { IsTrue (B.view bank.old).tells
-        → Quiet (MayPut cell.old head.now) (B.view bank.old).now (B.view bank.new).now }
+        → Quiet (MayPut cell.old found.now head.now) (B.view bank.old).now (B.view bank.new).now }
     ensures place { cell.new.place ≡ head_place }
     ensures sizes { (e : ℕ) → (B.view bank.new).sizes e ≡ (B.view bank.old).sizes e }
     ensures cause { OnErr result (Rose ((B.view bank.old).faults 0) ((B.view bank.new).faults 0)) }
     ensures any_moment { Moves (B.view bank.old) (B.view bank.new)
-        (MayPut cell.old head.now) (MayPut cell.old head.now) }
+        (MayPut cell.old found.now head.now) (MayPut cell.old found.now head.now) }
 {
     if *head == *found {
         return Ok(());
@@ -84,6 +84,9 @@ pub fn mount<B: Bank>(alloc: Global, bank: &mut B) -> Result<Found, MountFault>
     // current; or they hold what they held.
     ensures any_moment { Moves (B.view bank.old) (B.view bank.new)
         (Mounts (B.view bank.old)) (Mounts (B.view bank.old)) }
+
+    // Nothing is written but the head, over whatever disks.
+    ensures writes { WritesHead (B.view bank.old) (B.view bank.new) }
 {
     let mut found = find_log(alloc, bank)?;
     let head = find_members(bank, &found.g, &found.head)?;

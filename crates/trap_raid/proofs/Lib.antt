@@ -5,5 +5,7 @@ pub mod CostLemmas
 pub mod FitLemmas
 pub mod DrainLemmas
 pub mod DrainSteps
+pub mod DrainCosts
+pub mod Covering
 pub mod MemberLemmas
 pub mod ZeroLemmas

@@ -26,8 +26,9 @@ RowFits g v row member = Fits v (member + 1) (row_at g row + g.block)
 abbrev pub BareFits : Geometry → List Staged → View → ℕ → ℕ → Type 0
 BareFits g writes v row member = newest_at g writes row member ≡ None → RowFits g v row member
 
--- so do the disks that stand for a place, unless bytes are pending for it: its member's own, or where that one is lost,
--- those of all others, each unless bytes are pending for its own place of the row
+-- so do the disks that stand for a place, unless bytes are pending for it: its member's own, or
+-- where that one is lost, those of all others, each unless bytes are pending for its own place of
+-- the row
 pub record PlaceFits (g : Geometry) (lost : Option ℕ) (writes : List Staged) (v : View) (row member : ℕ) : Type 0 where
   pub own : lost ≢ Some member → BareFits g writes v row member
   pub others : lost ≡ Some member → newest_at g writes row member ≡ None
@@ -48,7 +49,8 @@ abbrev pub MembersFit : Geometry → Option ℕ → ℕ → View → Type 0
 MembersFit g lost rebuilt v =
     (member : ℕ) → member < g.members → Counts lost rebuilt 0 member → Fits v (member + 1) (row_at g g.rows)
 
--- places that are the table's, pending bytes laid over them, but perhaps for those of the lost member
+-- places that are the table's, pending bytes laid over them, but perhaps for those of the lost
+-- member
 abbrev pub StandFor : Geometry → Option ℕ → List Staged → (ℕ → ℕ → List ℕ) → List (List ℕ) → Type 0
 StandFor g lost writes place image = StandWhere g (λ row member. lost ≢ Some member) writes place image
 
@@ -66,8 +68,8 @@ pub record IsTrusted (g : Geometry) (lost : Option ℕ) (rebuilt : ℕ) (disks :
   pub made : IsMember g disks member
   pub counts : Counts lost rebuilt row member
 
--- At most one member is out. The disk of each other one has its exact length and header, and each trusted place reads
--- as the image's table, the newest pending bytes laid over it.
+-- At most one member is out. The disk of each other one has its exact length and header, and each
+-- trusted place reads as the image's table, the newest pending bytes laid over it.
 pub record MembersHold (g : Geometry) (lost : Option ℕ) (rebuilt : ℕ) (writes : List Staged)
     (image : List (List ℕ)) (disks : Disks) : Type 0 where
   pub one_out : (m k : ℕ) → m < g.members → k < g.members → IsOut lost disks m → IsOut lost disks k → m ≡ k

@@ -8,6 +8,7 @@ ghost use Rattle.trap_raid.specs.Reads.{OnlyReads, HasFailed, Costs, CostsAtMost
 
 use trap_bank::{Bank, Failed};
 use trap_block::xor_into;
+use trap_format::layout::MEMBER_HEADER_BYTES;
 use trap_map::Place;
 use trap_model::Geometry;
 use trap_stage::Stage;
@@ -36,7 +37,7 @@ pub(crate) fn read_member<B: Bank>(
     ensures cost { Costs 1 (B.view bank.old) (B.view bank.new) }
     ensures any_moment { OnlyReads (B.view bank.old) (B.view bank.new) }
 {
-    let at = 16 + u64::from(place.row) * u64::from(g.block);
+    let at = MEMBER_HEADER_BYTES + u64::from(place.row) * u64::from(g.block);
     match bank.read(place.member + 1, at, into) {
         Ok(()) => Ok(()),
         Err(Failed) => Err(MemberFailed {
@@ -63,6 +64,8 @@ pub(crate) fn read_standing<B: Bank>(
         place.row place.member) }
     ensures cause { IfErr result (λ failed. (failed.member ≡ place.member)
         × HasFailed g.now None (B.view bank.old) (B.view bank.new) failed.member) }
+    ensures bare { IfErr result (λ failed.
+        newest_at g.now stage.now.pending place.row place.member ≡ None) }
     ensures cost { Costs (calls_for (newest_at g.now stage.now.pending place.row place.member))
         (B.view bank.old) (B.view bank.new) }
     ensures any_moment { OnlyReads (B.view bank.old) (B.view bank.new) }
@@ -97,6 +100,8 @@ pub(crate) fn read_others<B: Bank>(
         place.row) g.now.members) }
     ensures cause { IfErr result (λ failed.
         HasFailed g.now (Some place.member) (B.view bank.old) (B.view bank.new) failed.member) }
+    ensures bare { IfErr result (λ failed.
+        newest_at g.now stage.now.pending place.row failed.member ≡ None) }
     ensures cost { NonePending g.now stage.now.pending place.row
         → OnOk result (Costs (g.now.members - 1) (B.view bank.old) (B.view bank.new)) }
     ensures cost_at_most { CostsAtMost (g.now.members - 1) (B.view bank.old) (B.view bank.new) }

@@ -51,7 +51,7 @@ pub record KeepsWindow (r : RingPlace) (from to : ℕ) (old new : Disks) : Type 
   pub outside : Differs (whole_ring r) old new
   pub window : SameWindow r from to old new
 
--- the window is as it was, and behind it stand these bytes
+-- the window is as it was, and these bytes follow it
 pub record Appends (r : RingPlace) (from to : ℕ) (bytes : List ℕ) (old new : Disks) : Type 0 where
   pub window : SameWindow r from to old new
   pub there : RingHas r to bytes new

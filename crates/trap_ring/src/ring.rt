@@ -1,4 +1,4 @@
-//! The ring: append behind a kept window, and read.
+//! The ring: append after a kept window, and read.
 
 ghost use Rattle.std.specs.Prelude.{◌≡◌, ℕ, ◌+◌, ◌-◌, ◌<◌, ◌≤◌, ◌^◌, length, OnErr, OnOk, IsTrue};
 ghost use Rattle.trap_bank.specs.Faults.{Rose};
@@ -42,7 +42,7 @@ impl Ring {
         Ring { disk, at, len }
     }
 
-    /// Writes the bytes at the absolute offset `to`, behind the window from `from` to `to`, in at
+    /// Writes the bytes at the absolute offset `to`, after the window from `from` to `to`, in at
     /// most two writes. It doesn't sync. After a fault any bytes may stand in the new ones' places.
     pub fn append<B: Bank>(
         &self,

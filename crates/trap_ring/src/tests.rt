@@ -7,7 +7,7 @@ const BYTES: [u8; 16] = [
     0xe0, 0xe1, 0xe2, 0xe3, 0xe4, 0xe5, 0xe6, 0xe7, 0xe8, 0xe9, 0xea, 0xeb, 0xec, 0xed, 0xee, 0xef,
 ];
 
-// Bytes that go round the ring's end, behind a window that leaves no more room.
+// Bytes that go round the ring's end, after a window that leaves no more room.
 const FRESH: [u8; 4] = [0xa0, 0xa1, 0xa2, 0xa3];
 
 // A bank whose disk 0 holds the bytes, synced.
@@ -17,7 +17,7 @@ fn prepared<B: Bank>(bank: &mut B) -> Result<(), Failed> {
     Ok(())
 }
 
-// Appends four bytes at 14 behind a window from 10 on.
+// Appends four bytes at 14 after a window from 10 on.
 fn append<B: Bank>(bank: &mut B) -> bool {
     let ring = Ring::new(0, 4, 8);
     match bank.size(0) {

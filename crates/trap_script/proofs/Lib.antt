@@ -5,3 +5,4 @@ pub mod InputLemmas
 pub mod GivenLemmas
 pub mod Answering
 pub mod Passing
+pub mod DigitLemmas

@@ -2,6 +2,7 @@
 #![tactic(auto)]
 
 mod answers;
+mod digits;
 pub mod laws;
 mod lines;
 mod numbers;

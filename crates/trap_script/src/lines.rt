@@ -5,8 +5,8 @@ ghost use Rattle.std.specs.List.{slice_split};
 ghost use Rattle.std.specs.Option.{option_copied};
 ghost use Rattle.trap_script.specs.Lines.{is_space, is_letter, fields_after, read_form, write_form, quit_form, two_numbers, at_form, by_form, info_form, request_of, request_with, LeavesBuffer};
 
+use crate::digits::decode_to_slice;
 use crate::read_number;
-use hex;
 
 /// A line of a session. Numbers are as the line has them, in range or not.
 #[derive(Debug, Clone, Copy, PartialEq, Eq)]
@@ -102,7 +102,7 @@ fn write_form(rest: Option<&[u8]>, fresh: &mut [u8]) -> Line
     let Some(block) = read_number(block) else {
         return Line::Bad;
     };
-    match hex::decode_to_slice(digits, fresh) {
+    match decode_to_slice(digits, fresh) {
         Ok(()) => Line::Write { time, block },
         Err(_) => Line::Bad,
     }

@@ -17,8 +17,8 @@ staged_numbered stage q = get_or stage.pending (last_of stage - q) no_write
 abbrev pub IsSlot : Geometry → ℕ → Disks → Type 0
 IsSlot g q disks = (staged : Staged) × IsStaged g staged × SlotHas g q staged disks
 
--- the slot of a number above the drained ones is the first that doesn't hold a write of the array with its number, and
--- it begins at this offset of disk 0
+-- the slot of a number above the drained ones is the first that doesn't hold a write of the array
+-- with its number, and it begins at this offset of disk 0
 pub record IsDamaged (g : Geometry) (drained last : ℕ) (disks : Disks) (offset : ℕ) : Type 0 where
   pub number : ℕ
   pub low : drained < number

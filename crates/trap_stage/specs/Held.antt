@@ -1,4 +1,4 @@
--- The slots in memory: one behind the other, as they stand on disk 0.
+-- The slots in memory: one after the other, as on disk 0.
 use Rattle.std.specs.Prelude.{◌≡◌, ℕ, zero, suc, ◌+◌, ◌*◌, ◌%◌, ◌^◌, ◌<◌, ◌≤◌, List, [], ◌∷◌, length, take, drop}
 use Rattle.std.specs.Int.{w32, from_be_bytes}
 use Rattle.trap_format.specs.LogDisk.{slot_len}

@@ -29,7 +29,8 @@ SlotHas g q staged disks = region disks 0 (slot_start g q) (slot_len g) ≡ slot
 abbrev pub SlotsHold : Geometry → State → ℕ → Disks → Type 0
 SlotsHold g s drained disks = (q : ℕ) → drained < q → q ≤ last s → SlotHas g q (staged_of g s q) disks
 
--- the slots hold these writes, the newest first, of which the oldest has the number behind `drained`
+-- the slots hold these writes, the newest first, of which the oldest has the number behind
+-- `drained`
 abbrev pub SlotsAre : Geometry → ℕ → List Staged → Disks → Type 0
 SlotsAre g drained [] disks = Unit {0}
 SlotsAre g drained (staged ∷ older) disks =

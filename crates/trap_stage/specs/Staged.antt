@@ -6,7 +6,8 @@ use Rattle.trap_model.specs.declared.numbers.Geometry.{Geometry}
 use Rattle.trap_map.specs.Layout.{parity_member, block_place}
 use Rattle.trap_map.specs.Table.{row_parity, table}
 
--- what a staging slot holds of a write: its block, the block's new bytes, and the parity of its row after it
+-- what a staging slot holds of a write: its block, the block's new bytes, and the parity of its row
+-- after it
 pub record Staged : Type 0 where
   pub block : ℕ
   pub bytes : List ℕ
@@ -18,7 +19,8 @@ pub record IsStaged (g : Geometry) (staged : Staged) : Type 0 where
   pub bytes : length staged.bytes ≡ g.block
   pub parity : length staged.parity ≡ g.block
 
--- what it holds for a place: the bytes at its block's, the parity at that of its row's parity, nothing elsewhere
+-- what it holds for a place: the bytes at its block's, the parity at that of its row's parity,
+-- nothing elsewhere
 abbrev pub staged_at : Geometry → Staged → ℕ → ℕ → Option (List ℕ)
 staged_at g staged row member =
     let place = block_place g staged.block in
@@ -49,8 +51,8 @@ AreWrites g before (staged ∷ older) =
     × (staged.parity ≡ row_parity g (image_after_writes before (staged ∷ older)) (block_place g staged.block).row)
     × AreWrites g before older
 
--- The places stand for the table of an image: pending bytes are the table's, and where none are pending, so are the
--- bytes of each trusted place.
+-- The places stand for the table of an image: pending bytes are the table's, and where none are
+-- pending, so are the bytes of each trusted place.
 abbrev pub StandWhere : Geometry → (ℕ → ℕ → Type 0) → List Staged → (ℕ → ℕ → List ℕ) → List (List ℕ) → Type 0
 StandWhere g IsTrusted writes place image =
     (row member : ℕ) → row < g.rows → member < g.members

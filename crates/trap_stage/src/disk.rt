@@ -16,10 +16,8 @@ ghost use Rattle.trap_stage.specs.Found.{IsSlot, IsDamaged};
 use crate::StageFault;
 use crate::slots::{held, is_spelled, slot_len, slot_offset, spell};
 use trap_bank::{Bank, DiskFault};
+use trap_format::layout::SLOTS_AT;
 use trap_model::Geometry;
-
-/// Where the slots stand on disk 0.
-const SLOTS_AT: u64 = 192;
 
 /// Reads the slot of one number.
 fn read_slot<B: Bank>(
@@ -119,7 +117,7 @@ pub(crate) fn fill_slot<B: Bank>(
     let at = slot_offset(g, seq);
     let slot = &mut slots[at..at + slot_len(g)];
     spell(seq, block, fresh, parity, slot);
-    // No head names the write yet: that one is put behind the caller's sync.
+    // No head names the write yet: it is put after the caller's sync.
     bank.write(0, SLOTS_AT + at as u64, slot)?;
     Ok(())
 }

@@ -13,8 +13,8 @@ pub enum StageFault {
     /// Disk 0 failed: its count of faults rose in the call.
     #[error("the disk failed")]
     DiskFault,
-    /// The slot at this byte offset of disk 0 has another number than its own, or a block that isn't
-    /// the array's.
+    /// The slot at this byte offset of disk 0 has another number than its own, or a block that
+    /// isn't the array's.
     #[error("a staging slot is damaged")]
     Damaged { offset: u64 },
     /// There was no memory for the pending writes.

@@ -1,4 +1,4 @@
-//! The slots in memory, one behind the other as on disk 0: where each begins, and what it holds.
+//! The slots in memory, one after the other as on disk 0: where each begins, and what it holds.
 
 ghost use Rattle.std.specs.Prelude.{◌≡◌, ◌↔◌, ◌+◌, ◌*◌, ◌^◌, ◌<◌, ◌≤◌, length, Some, None};
 ghost use Rattle.std.specs.Prelude.{IsTrue, IfSome, IfNone};
@@ -10,14 +10,15 @@ ghost use Rattle.trap_stage.specs.Slots.{slot_bytes};
 ghost use Rattle.trap_stage.specs.Held.{slot_offset, slot_held, staged_from, SpellsNumber};
 
 use trap_block::{get_u32, get_u64, put_u32, put_u64};
+use trap_format::layout::SLOT_NUMBERS_BYTES;
 use trap_map::{Place, parity_of, place_of};
 use trap_model::Geometry;
 
-/// Where a slot's block number stands, behind the write's number.
+/// Where a slot's block number is, after the write's number.
 const BLOCK_AT: usize = 8;
 
-/// Where a slot's contents stand: the block's bytes, and the parity of its row behind them.
-const CONTENTS_AT: usize = 12;
+/// Where a slot's contents are: the block's bytes, and then the parity of its row.
+const CONTENTS_AT: usize = SLOT_NUMBERS_BYTES as usize;
 
 /// The bytes of a slot.
 pub(crate) fn slot_len(g: &Geometry) -> usize
@@ -80,14 +81,7 @@ pub(crate) fn is_spelled(g: &Geometry, seq: u64, slot: &[u8]) -> bool
     ensures spelled { IsTrue result ↔ SpellsNumber g.now seq slot.now }
     ensures block { IsTrue result → (staged_from g.now slot.now).block < volume g.now }
 {
-    get_u64(slot, 0) == seq && u64::from(get_u32(slot, BLOCK_AT)) < volume(g)
-}
-
-/// How many blocks the array has.
-fn volume(g: &Geometry) -> u64
-    ensures { result ≡ volume g.now }
-{
-    g.rows as u64 * (g.members as u64 - 1)
+    get_u64(slot, 0) == seq && get_u32(slot, BLOCK_AT) < g.volume()
 }
 
 /// The block of the write in a slot, the block's bytes, and the parity of its row.

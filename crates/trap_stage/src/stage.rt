@@ -28,7 +28,7 @@ pub struct Stage {
     g: Geometry,
     drained: u64,
     last: u64,
-    /// All slots, one behind the other as on disk 0.
+    /// All slots, one after the other as on disk 0.
     slots: Vec<u8>,
 }
 
@@ -88,8 +88,8 @@ impl Stage {
         })
     }
 
-    /// Writes a further pending write to its slot. It doesn't sync. After a fault any bytes may stand
-    /// in the slot, and the write isn't pending.
+    /// Writes a further pending write to its slot. It doesn't sync. After a fault any bytes may
+    /// stand in the slot, and the write isn't pending.
     pub fn fill<B: Bank>(
         &mut self,
         bank: &mut B,

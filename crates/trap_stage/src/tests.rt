@@ -43,7 +43,7 @@ fn is_long<B: Bank>(bank: &B) -> bool
     }
 }
 
-// Mounts the writes above a number, and up to one not more than two behind it.
+// Mounts the writes above a number, and up to one at most two above it.
 fn mount<B: Bank>(
     rt: &impl Abort,
     alloc: Global,
@@ -161,7 +161,7 @@ fn the_first_damaged_slot_is_named(rt: HostRuntime) -> Result<(), Fail> {
     bank.make(0, LOG_BYTES)?;
     let mut stage = mount(&rt, rt.alloc(), &mut bank, 0, 0)?;
     fill_two(&rt, &mut bank, &mut stage)?;
-    // Block 8 is none of the array's.
+    // Block 8 isn't one of the array's.
     assert!(rt; is_long(&bank));
     bank.write(0, 203, &[8])?;
     let answer = mount(&rt, rt.alloc(), &mut bank, 0, 2);

@@ -2,7 +2,7 @@
 use Rattle.std.proofs.Common.{◌≡◌, ℕ, ◌+◌, ◌-◌, ◌<◌, ◌≤◌, List, [], ◌∷◌, ◌++◌, length, flat_map, refl, sym, ◌∙◌, ap, subst, arith, append-nil}
 use Rattle.std.proofs.lemmas.List.Concat.{flat_map-append}
 use Rattle.trap_model.specs.ZeroRun.{Segment, spelling, contents, size_of, Follows, Walks, ZeroRun, least_behind, NoneFollows, IsRefused}
-use Rattle.trap_model.proofs.ZeroRuns.{least_behind_four, walk-size, walk-room, length-spelling}
+use Rattle.trap_model.proofs.ZeroRuns.{least_behind_four, walk-size, walk-room}
 
 -- segments that spell the front of a block of that size
 pub record Begun (size least : ℕ) (front bytes : List ℕ) : Type 0 where

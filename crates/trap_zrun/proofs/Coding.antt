@@ -1,9 +1,9 @@
 -- What the writer's loop keeps.
-use Rattle.std.proofs.Common.{◌≡◌, ◌⊎◌, ℕ, ◌+◌, ◌-◌, ◌<◌, ◌≤◌, List, [], ◌++◌, length, take, drop, get_or, replicate, slice_range, refl, sym, ◌∙◌, ap, subst, inl, inr, ⊎_elim, arith, append_assoc, length-append, length-take, length-take-le, take-add, take_all}
+use Rattle.std.proofs.Common.{◌≡◌, ℕ, ◌+◌, ◌-◌, ◌<◌, ◌≤◌, List, [], ◌++◌, length, take, get_or, replicate, slice_range, refl, sym, ◌∙◌, ap, subst, inl, inr, ⊎_elim, arith, append_assoc, length-append, length-take-le, take-add, take_all}
 use Rattle.std.proofs.lemmas.Bool.{cases_lt}
-use Rattle.std.proofs.lemmas.List.{length-replicate, get_or-replicate, ext_get_or, nil_from_length, drop-drop}
+use Rattle.std.proofs.lemmas.List.{length-replicate, get_or-replicate, ext_get_or, nil_from_length}
 use Rattle.std.proofs.lemmas.List.Edits.{length-between, get_or-between}
-use Rattle.trap_model.specs.ZeroRun.{Segment, spelling, contents, size_of, AreZeros, IsLiteral, Follows, ZeroRun}
+use Rattle.trap_model.specs.ZeroRun.{spelling, contents, AreZeros, IsLiteral, Follows, ZeroRun}
 use Rattle.trap_model.proofs.ZeroRuns.{segment, length-spelling}
 use Rattle.trap_zrun.specs.Scans.{ZerosFollow}
 use Rattle.trap_zrun.proofs.Begun.{Begun, begun_nothing, begun-more, begun_all, begun-room}

@@ -1,9 +1,10 @@
 -- What the scans for zero bytes keep and find.
-use Rattle.std.proofs.Common.{◌≡◌, ◌⊎◌, ℕ, ◌+◌, ◌-◌, ◌<◌, ◌≤◌, List, length, get_or, slice_range, refl, sym, ◌∙◌, ap, subst, ⊎_elim, arith}
+use Rattle.std.proofs.Common.{◌≡◌, ℕ, ◌+◌, ◌-◌, ◌<◌, ◌≤◌, List, length, get_or, take, slice_range, sym, ◌∙◌, ap, subst, ⊎_elim, arith, length-take-le}
 use Rattle.std.proofs.lemmas.Bool.{cases_lt}
-use Rattle.std.proofs.lemmas.List.{get_or_past}
+use Rattle.std.proofs.lemmas.List.{get_or_past, get_or-take}
 use Rattle.std.proofs.lemmas.List.Edits.{length-between, get_or-between}
 use Rattle.trap_model.specs.ZeroRun.{AreZeros, IsLiteral}
+use Rattle.trap_block.specs.Zeros as Found
 use Rattle.trap_zrun.specs.Scans.{ZerosFollow}
 
 -- zero bytes stand from one place to another
@@ -18,26 +19,14 @@ zeros_between bytes at end run = record {
   zeros = λ k below. run.zeros (at + k) (omega arith) (omega arith);
 }
 
--- no four zero bytes begin at a place from one on and below another
-pub record IsApart (bytes : List ℕ) (at end : ℕ) : Type 0 where
-  pub from : at ≤ end
-  pub none : (place : ℕ) → at ≤ place → place < end → ¬ AreZeros bytes place 4
+-- what a search says in the words of `trap_block` is what a code says
+pub found_zeros : (bytes : List ℕ) (at count : ℕ) → Found.AreZeros bytes at count → AreZeros bytes at count
+found_zeros bytes at count run = record { inside = run.inside; zeros = run.zeros }
 
--- behind fewer than four zero bytes stands one that isn't zero, so four begin nowhere up to it
-pub apart-more : (bytes : List ℕ) (at end zeros : ℕ) → IsApart bytes at end → AreZeros bytes end zeros → zeros < 4
-    → (end + zeros < length bytes → 0 < get_or bytes (end + zeros) 0) → IsApart bytes at (end + (zeros + 1))
-apart-more bytes at end gap apart run few stop = record {
-  from = (let from = apart.from in omega arith);
-  none = λ place from below four. ⊎_elim
-      (λ (before : place < end). apart.none place from before four)
-      (λ (behind : end ≤ place).
-      let inside = four.inside in
-      let nonzero = stop (omega arith) in
-      let at : place + (end + gap - place) ≡ end + gap = omega arith in
-      let here : get_or bytes (end + gap) 0 ≡ 0 = subst (λ (i : ℕ). get_or bytes i 0 ≡ 0) at (four.zeros (end + gap - place) (omega arith)) in
-      absurd (omega arith))
-      (cases_lt place end);
-}
+-- where a search found no four zero bytes there are none
+pub none_found : (bytes : List ℕ) (at stop : ℕ) → ((place : ℕ) → at ≤ place → place < stop → ¬ Found.AreZeros bytes place 4)
+    → (place : ℕ) → at ≤ place → place < stop → ¬ AreZeros bytes place 4
+none_found bytes at stop none place from below four = none place from below (record { inside = four.inside; zeros = four.zeros })
 
 -- from a nonzero byte to another one, where no four zero bytes stand, is a literal
 pub literal-found : (block : List ℕ) (at stop end : ℕ) → at < end → end ≤ stop → stop ≤ length block → 0 < get_or block at 0 → 0 < get_or block (end - 1) 0
@@ -72,17 +61,43 @@ zeros-behind block stop end order run found within k below = ⊎_elim
     (cases_lt stop (length block)))
     (cases_lt (end + k) stop)
 
--- where four zero bytes stand nowhere, nonzero ends make a literal, and a literal has them nowhere
-pub literal_by : (bytes : List ℕ) (stop : ℕ) → 0 < get_or bytes 0 0 → 0 < get_or bytes (length bytes - 1) 0 → ((place : ℕ) → 0 ≤ place → place < stop → ¬ AreZeros bytes place 4)
-    → stop ≡ length bytes → IsLiteral bytes
-literal_by bytes stop first last apart whole = record {
-  begins = first;
-  ends = last;
-  apart = λ place four. let inside = four.inside in apart place (omega arith) (omega arith) four;
-}
+-- where four zero bytes begin nowhere before its end, nonzero ends make a literal
+pub literal_by : (bytes : List ℕ) (len stop : ℕ) → 1 ≤ len → len ≤ length bytes → 0 < get_or bytes 0 0 → 0 < get_or bytes (len - 1) 0
+    → ((place : ℕ) → 0 ≤ place → place < stop → ¬ AreZeros bytes place 4) → stop ≡ len → IsLiteral (take len bytes)
+literal_by bytes len stop some inside first last apart whole =
+    let size = length-take-le len bytes inside in
+    record {
+      begins = subst (λ (b : ℕ). 0 < b) (sym (get_or-take len bytes 0 0 (omega arith))) first;
+      ends =
+          (let same : length (take len bytes) - 1 ≡ len - 1 = omega arith in
+          subst (λ (i : ℕ). 0 < get_or (take len bytes) i 0) (sym same) (subst (λ (b : ℕ). 0 < b) (sym (get_or-take len bytes (len - 1) 0 (omega arith))) last));
+      apart = λ place four.
+          let within = four.inside in
+          apart place (omega arith) (omega arith) (record {
+            inside = omega arith;
+            zeros = λ k below. sym (get_or-take len bytes (place + k) 0 (omega arith)) ∙ four.zeros k below;
+          });
+    }
 
-pub literal_whole : (bytes : List ℕ) (stop : ℕ) → stop ≤ length bytes → (stop < length bytes → AreZeros bytes stop 4) → IsLiteral bytes → stop ≡ length bytes
-literal_whole bytes stop within found is = ⊎_elim
-    (λ (before : stop < length bytes). absurd (is.apart stop (found before)))
-    (λ (whole : length bytes ≤ stop). let same : stop ≡ length bytes = omega arith in same)
-    (cases_lt stop (length bytes))
+-- in a literal four zero bytes begin nowhere, and none that begin in it reach past its end
+pub literal_whole : (bytes : List ℕ) (len stop : ℕ) → len ≤ length bytes → stop ≤ len → (stop < len → AreZeros bytes stop 4) → IsLiteral (take len bytes) → stop ≡ len
+literal_whole bytes len stop inside within found is =
+    let size = length-take-le len bytes inside in
+    ⊎_elim
+    (λ (before : stop < len).
+    let four = found before in
+    ⊎_elim
+    (λ (past : len < stop + 4).
+    let same : stop + (len - 1 - stop) ≡ length (take len bytes) - 1 = omega arith in
+    let here : get_or (take len bytes) (length (take len bytes) - 1) 0 ≡ 0 =
+    get_or-take len bytes (length (take len bytes) - 1) 0 (omega arith) ∙ subst (λ (i : ℕ). get_or bytes i 0 ≡ 0) same (four.zeros (len - 1 - stop) (omega arith)) in
+    let ends = is.ends in
+    absurd (omega arith))
+    (λ (fits : stop + 4 ≤ len).
+    absurd (is.apart stop (record {
+      inside = omega arith;
+      zeros = λ k below. get_or-take len bytes (stop + k) 0 (omega arith) ∙ four.zeros k below;
+    })))
+    (cases_lt len (stop + 4)))
+    (λ (whole : len ≤ stop). let same : stop ≡ len = omega arith in same)
+    (cases_lt stop len)

@@ -1,40 +1,48 @@
 //! Reads the code of a block.
 
-ghost use Rattle.std.specs.Prelude.{◌≡◌, ℕ, ◌+◌, ◌^◌, ◌<◌, ◌≤◌, ◌↔◌, List, length, drop, IsTrue, IsOk, IfOk, IfErr, OnOk, IfSome, IfNone};
+ghost use Rattle.std.specs.Prelude.{◌≡◌, ℕ, ◌+◌, ◌^◌, ◌<◌, ◌≤◌, ◌↔◌, List, length, take, drop, IsTrue, IsOk, IfOk, IfErr, OnOk, IfSome, IfNone};
 ghost use Rattle.trap_model.specs.ZeroRun.{ZeroRun, IsCode, IsRefused, IsLiteral, Follows, NoneFollows};
 ghost use Rattle.trap_zrun.specs.Scans.{IsNext};
 
 use crate::pieces::put_contents;
-use crate::scans::four_zeros;
-use trap_block::get_u16;
+use trap_block::{four_zeros_before, get_u16};
 
-// Whether the bytes are a literal.
-fn is_literal(bytes: &[u8]) -> bool
-    requires { 1 ≤ length bytes.now }
-    ensures { IsTrue result ↔ IsLiteral bytes.now }
+// Whether so many of the bytes are a literal.
+#[inline]
+fn is_literal(bytes: &[u8], len: usize) -> bool
+    requires some { 1 ≤ len }
+    requires inside { len ≤ length bytes.now }
+    ensures { IsTrue result ↔ IsLiteral (take len bytes.now) }
 {
     if bytes[0] == 0 {
         return false;
     }
-    if bytes[bytes.len() - 1] == 0 {
+    if bytes[len - 1] == 0 {
         return false;
     }
-    four_zeros(bytes, 0) == bytes.len()
+
+    // The last byte isn't zero, so no four zero bytes reach past it.
+    four_zeros_before(bytes, 0, len) == len
 }
 
-// Whether a segment of that many zero bytes and this literal keeps the rules.
-fn follows(least: usize, owed: usize, zeros: usize, literal: &[u8]) -> bool
-    requires { 1 ≤ owed }
-    ensures { IsTrue result ↔ Follows least owed (record { zeros = zeros; literal = literal.now }) }
+// Whether a segment of that many zero bytes, and of so many of these bytes as its literal, keeps
+// the rules.
+#[inline]
+fn follows(least: usize, owed: usize, zeros: usize, bytes: &[u8], len: usize) -> bool
+    requires some { 1 ≤ owed }
+    requires inside { len ≤ length bytes.now }
+    ensures { IsTrue result
+        ↔ Follows least owed (record { zeros = zeros; literal = take len bytes.now }) }
 {
-    if literal.is_empty() {
+    if len == 0 {
         zeros == owed
     } else {
-        zeros >= least && zeros <= owed && literal.len() <= owed - zeros && is_literal(literal)
+        zeros >= least && zeros <= owed && len <= owed - zeros && is_literal(bytes, len)
     }
 }
 
 // The segment at the front of the bytes: its zero bytes and its literal.
+#[inline]
 fn next_segment(bytes: &[u8], least: usize, owed: usize) -> Option<(usize, &[u8])>
     requires some { 1 ≤ owed }
     requires small { owed < 2 ^ 16 }
@@ -47,14 +55,14 @@ fn next_segment(bytes: &[u8], least: usize, owed: usize) -> Option<(usize, &[u8]
     }
     let zeros = usize::from(get_u16(bytes, 0));
     let len = usize::from(get_u16(bytes, 2));
-    if bytes.len() - 4 < len {
+    let behind = &bytes[4..];
+    if behind.len() < len {
         return None;
     }
-    let literal = &bytes[4..4 + len];
-    if !follows(least, owed, zeros, literal) {
+    if !follows(least, owed, zeros, behind, len) {
         return None;
     }
-    Some((zeros, literal))
+    Some((zeros, &behind[..len]))
 }
 
 /// Bytes that spell no block of the size asked. `at` is the offset of the first byte of the first

@@ -1,40 +1,10 @@
-//! Scans for zero bytes. Their contracts fix what they answer and say nothing of the way.
+//! Where a literal ends.
 
 ghost use Rattle.std.specs.Prelude.{ℕ, ◌+◌, ◌-◌, ◌<◌, ◌≤◌, length, slice_index, slice_range};
 ghost use Rattle.trap_model.specs.ZeroRun.{AreZeros, IsLiteral};
 ghost use Rattle.trap_zrun.specs.Scans.{ZerosFollow};
 
-/// How many zero bytes stand from a place on.
-pub fn zeros_from(bytes: &[u8], at: usize) -> usize
-    requires { at ≤ length bytes.now }
-    ensures zeros { AreZeros bytes.now at result }
-    ensures end { at + result < length bytes.now → 0 < slice_index bytes.now (at + result) }
-{
-    let mut end = at;
-    while end < bytes.len() && bytes[end] == 0 {
-        end += 1;
-    }
-    end - at
-}
-
-/// The first place from `at` on at which four zero bytes stand, or the length where there is none.
-pub fn four_zeros(bytes: &[u8], at: usize) -> usize
-    requires { at ≤ length bytes.now }
-    ensures from { at ≤ result }
-    ensures within { result ≤ length bytes.now }
-    ensures found { result < length bytes.now → AreZeros bytes.now result 4 }
-    ensures first { (place : ℕ) → at ≤ place → place < result → ¬ AreZeros bytes.now place 4 }
-{
-    let mut place = at;
-    while place < bytes.len() {
-        let zeros = zeros_from(bytes, place);
-        if zeros >= 4 {
-            return place;
-        }
-        place += zeros + 1;
-    }
-    bytes.len()
-}
+use trap_block::four_zeros;
 
 // The place behind the last nonzero byte before `stop`.
 fn without_zeros(bytes: &[u8], at: usize, stop: usize) -> usize

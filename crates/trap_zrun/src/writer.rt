@@ -4,7 +4,8 @@ ghost use Rattle.std.specs.Prelude.{◌+◌, ◌^◌, ◌<◌, ◌≤◌, length
 ghost use Rattle.trap_model.specs.ZeroRun.{ZeroRun};
 
 use crate::pieces::put_segment;
-use crate::scans::{literal_end, zeros_from};
+use crate::scans::literal_end;
+use trap_block::zeros_from;
 
 /// Writes the one spelling of the block at the front of `out`, which has room for seven bytes more
 /// than the block, and answers the spelling's length. It goes over the block once, and copies each

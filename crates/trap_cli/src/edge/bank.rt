@@ -4,12 +4,13 @@ ghost use Rattle.std.specs.Prelude.{◌≡◌, ◌<◌, IfOk, OnOk, OnErr, lengt
 ghost use Rattle.trap_cli.specs.Counts.{Blames};
 ghost use Rattle.trap_cli.specs.Files.{untold_view, untold_lawful};
 
+use super::fault::BankFault;
 use super::files::{make_zero, open_there, print_whole, read_whole, write_whole};
-use std::alloc::{AllocError as OutOfMemory, Global};
-use std::fs::OpenFile;
+use super::folder::Folder;
+use std::alloc::Global;
+use std::fs::File;
 use std::io;
 use std::io::ErrorKind;
-use std::os::unix::fs::FileExt;
 use std::rt::Files;
 use trap_bank::{Bank, Failed};
 
@@ -45,40 +46,47 @@ pub struct OpenDisk<F> {
     size: u64,
 }
 
-/// Disks as files of the current folder, and standard output as the port. A file that is absent or
-/// can't be opened has no size. Each file is opened once.
+/// Disks as files of the current folder, and standard output as the port. A file that is absent, or
+/// whose device fails, has no size. Each file is opened once, while the folder is locked.
 #[derive(Drop)]
-pub struct FileBank<R: Files + Print> {
+pub struct FileBank<R: Files<File = File> + Print> {
     rt: R,
-    disks: Vec<Option<OpenDisk<R::File>>>,
+    disks: Vec<Option<OpenDisk<File>>>,
     faults: [u64; 21],
     port_faults: u64,
+    folder: Folder,
     ghost disk_count: { vec_len disks ≡ 21 },
 }
 
-impl<R: Files + Print + Drop> FileBank<R> {
-    /// Opens the files that are there.
-    pub fn new(rt: R, alloc: Global) -> Result<FileBank<R>, OutOfMemory>
+impl<R: Files<File = File> + Print + Drop> FileBank<R> {
+    /// Locks the folder and opens the files that are there. No standard stream ever becomes a disk.
+    pub fn new(rt: R, alloc: Global) -> Result<FileBank<R>, BankFault>
         ensures counts { IfOk result (λ bank. bank.faults ≡ replicate 21 0) }
         ensures port_count { IfOk result (λ bank. bank.port_faults ≡ 0) }
     {
+        let folder = Folder::take(&rt)?;
         let mut disks = Vec::with_capacity(alloc, NAMES.len())?;
         'names: for name in &NAMES {
-            disks.push(open_disk(&rt, name))?;
+            if disks.push(open_disk(&rt, name)?).is_err() {
+                return Err(BankFault::OutOfMemory);
+            }
         }
         Ok(FileBank {
             rt,
             disks,
             faults: [0; 21],
             port_faults: 0,
+            folder,
         })
+    }
+
+    /// Why the folder isn't locked, where its file system can't.
+    pub fn unlocked(&self) -> Option<&io::Error> {
+        self.folder.unlocked()
     }
 }
 
-impl<R: Files + Print> Bank for FileBank<R>
-where
-    R::File: FileExt,
-{
+impl<R: Files<File = File> + Print> Bank for FileBank<R> {
     ghost view = { λ b. untold_view b.disks.items b.faults b.port_faults };
 
     ghost lawful = { λ b. untold_lawful b.disks.items b.faults b.port_faults };
@@ -92,7 +100,7 @@ where
 
     fn make(&mut self, d: u8, len: u64) -> Result<(), Failed> {
         let is_new = self.disks[d as usize].is_none();
-        match make_zero(&self.rt, NAMES[d as usize], len, is_new) {
+        match make_zero(&self.rt, &self.folder, NAMES[d as usize], len, is_new) {
             Ok(file) => {
                 self.disks[d as usize] = Some(OpenDisk { file, size: len });
                 Ok(())
@@ -141,11 +149,15 @@ where
     }
 }
 
-// The disk of that name, if its file can be opened.
-fn open_disk<R: Files>(rt: &R, name: &str) -> Option<OpenDisk<R::File>> {
+// The disk of that name, where it is there.
+fn open_disk<R: Files<File = File>>(
+    rt: &R,
+    name: &'static str,
+) -> Result<Option<OpenDisk<File>>, BankFault> {
     match open_there(rt, name) {
-        Ok((file, size)) => Some(OpenDisk { file, size }),
-        Err(_) => None,
+        Ok(Some((file, size))) => Ok(Some(OpenDisk { file, size })),
+        Ok(None) => Ok(None),
+        Err(why) => Err(BankFault::File { name, why }),
     }
 }
 

@@ -1,7 +1,9 @@
 //! Trusted edge: the system's calls on files, again and again until the whole piece is done.
 
-use std::fs::{File, OpenFile, OpenOptions};
+use super::folder::Folder;
+use std::fs::{File, OpenOptions};
 use std::io::ErrorKind;
+use std::os::fd::AsRawFd;
 use std::os::unix::fs::FileExt;
 use std::rt::Files;
 use std::{fs, io};
@@ -9,46 +11,94 @@ use std::{fs, io};
 // How many zero bytes are written at a time.
 const ZEROS_BYTES: usize = 65_536;
 
-// Opens a file that is there, to read and to write, and tells its length in bytes.
-pub fn open_there<R: Files>(rt: &R, name: &str) -> io::Result<(R::File, u64)> {
+// Linux's numbers for the errors of a device that fails.
+const DEVICE_FAILS: [i32; 3] = [
+    5, // EIO
+    6, // ENXIO
+    19, // ENODEV
+];
+
+// Opens the file to read and to write, and tells its length in bytes. There is none where no file
+// has the name, or its device fails. Any other error doesn't say that the file is lost.
+pub fn open_there<R: Files<File = File>>(rt: &R, name: &str) -> io::Result<Option<(File, u64)>> {
+    match open_measured(rt, name) {
+        Ok(opened) => Ok(Some(opened)),
+        Err(why) if is_gone(&why) => Ok(None),
+        Err(why) => Err(why),
+    }
+}
+
+fn open_measured<R: Files<File = File>>(rt: &R, name: &str) -> io::Result<(File, u64)> {
     let file = OpenOptions::new().read(true).write(true).open(rt, name)?;
     let len = file.metadata()?.len();
+    // After a sync that failed the kernel may keep bytes that the disk doesn't have. It is asked to
+    // drop them, and to read from the disk. This is advice, so its answer decides nothing.
+    let _ = libc::posix_fadvise(file.as_raw_fd(), 0, 0, libc::POSIX_FADV_DONTNEED);
     Ok((file, len))
+}
+
+fn is_gone(why: &io::Error) -> bool {
+    match why.raw_os_error() {
+        Some(code) => why.kind() == ErrorKind::NotFound || DEVICE_FAILS.contains(&code),
+        None => false,
+    }
 }
 
 // The name of a file while it is made.
 const UNFINISHED: &str = "new.trap";
 
-// Makes a file of that many zero bytes, and makes it and its name stable. It gets its name when it is whole, so that a
-// program that is stopped leaves no part of it there. Where the file is to be new, one that is there is an error: it
-// could not be opened, and isn't lost for that.
-pub fn make_zero<R: Files>(rt: &R, name: &str, len: u64, is_new: bool) -> io::Result<R::File>
-where
-    R::File: FileExt,
-{
+// Makes a file of that many zero bytes, and makes it and its name stable. It gets its name when it
+// is whole, so that a program that is stopped leaves no part of it there. Where the file is to be
+// new, a name that is there is an error: its device fails or its link leads nowhere, and it stays.
+pub fn make_zero<R: Files<File = File>>(
+    rt: &R,
+    folder: &Folder,
+    name: &str,
+    len: u64,
+    is_new: bool,
+) -> io::Result<File> {
     if is_new && !is_absent(rt, name) {
         return Err(io::Error::from(ErrorKind::AlreadyExists));
     }
-    let file = OpenOptions::new()
-        .read(true)
-        .write(true)
-        .create(true)
-        .truncate(true)
-        .open(rt, UNFINISHED)?;
+    let done = make_named(rt, folder, name, len);
+    if done.is_err() {
+        // An unfinished file gives its space back.
+        let _ = fs::remove_file(rt, UNFINISHED);
+    }
+    done
+}
+
+fn make_named<R: Files<File = File>>(
+    rt: &R,
+    folder: &Folder,
+    name: &str,
+    len: u64,
+) -> io::Result<File> {
+    remove_unfinished(rt)?;
+    // Whatever took the name meanwhile, a link too, isn't followed.
+    let file = File::create_new(rt, UNFINISHED)?;
     fill_zero(&file, len)?;
     // The zeros and the length are stable before the file has its name.
     file.sync_all()?;
     fs::rename(rt, UNFINISHED, name)?;
     // The folder's entry is stable when the disk is there.
-    File::open(rt, ".")?.sync_all()?;
+    folder.sync()?;
     Ok(file)
 }
 
-// Whether there is no file of that name, to be opened or not.
+// Removes what a stopped run had not finished.
+fn remove_unfinished<R: Files>(rt: &R) -> io::Result<()> {
+    match fs::remove_file(rt, UNFINISHED) {
+        Err(why) if why.kind() != ErrorKind::NotFound => Err(why),
+        _ => Ok(()),
+    }
+}
+
+// Whether nothing has that name. A link is there wherever it leads.
 fn is_absent<R: Files>(rt: &R, name: &str) -> bool {
-    match File::open(rt, name) {
+    match fs::symlink_metadata(rt, name) {
         Ok(_) => false,
-        Err(e) => e.kind() == ErrorKind::NotFound,
+        Err(why) => why.kind() == ErrorKind::NotFound,
     }
 }
 

@@ -1,11 +1,11 @@
 //! The log's header, read at mounting.
 
-ghost use Rattle.std.specs.Prelude.{◌≡◌, ◌≤◌, ◌+◌, length, IsTrue, OnOk, OnErr, IfOk, IfErr, IsErrOf};
+ghost use Rattle.std.specs.Prelude.{◌≡◌, ◌≤◌, ◌+◌, length, IsTrue, OnOk, OnErr, IfOk, IfErr, IsErrOf, false};
 ghost use Rattle.trap_bank.specs.Disks.{region};
 ghost use Rattle.trap_bank.specs.Faults.{Rose};
 ghost use Rattle.trap_bank.specs.Calls.{Fits};
 ghost use Rattle.trap_raid.specs.Reads.{OnlyReads};
-ghost use Rattle.trap_mount.specs.Mounting.{IsNoLog, Refuses, MountFails};
+ghost use Rattle.trap_mount.specs.Mounting.{IsNoLog, Refuses, MountFails, names_member};
 ghost use Rattle.trap_mount.specs.MountSteps.{IsStable, ReadsHeader};
 
 use crate::MountFault;
@@ -39,6 +39,7 @@ pub(super) fn read_header<B: Bank>(bank: &mut B) -> Result<Geometry, MountFault>
     ensures no_log { IsNoLog ((B.view bank.old).sizes 0) → IsErrOf result MountFault.NotAnArray }
     ensures refused { IfErr result (λ why. IsTrue (B.view bank.old).tells → Refuses (B.view bank.old) why) }
     ensures cause { IfErr result (λ why. MountFails why (B.view bank.old) (B.view bank.new)) }
+    ensures log { IfErr result (λ why. names_member why ≡ false) }
 {
     let Some(size) = bank.size(0) else {
         return Err(MountFault::NotAnArray);

@@ -1,6 +1,6 @@
 //! The head, the pending writes and the records, read at mounting.
 
-ghost use Rattle.std.specs.Prelude.{◌≡◌, ◌≤◌, ◌+◌, ◌-◌, length, Some, IsTrue, OnOk, OnErr, IfOk, IfErr, IsErrOf};
+ghost use Rattle.std.specs.Prelude.{◌≡◌, ◌≤◌, ◌+◌, ◌-◌, length, Some, IsTrue, OnOk, OnErr, IfOk, IfErr, IsErrOf, false};
 ghost use Rattle.trap_bank.specs.Calls.{Fits};
 ghost use Rattle.trap_cell.specs.Steps.{IsMounted};
 ghost use Rattle.trap_format.specs.LogDisk.{log_size};
@@ -10,7 +10,7 @@ ghost use Rattle.trap_model.specs.declared.numbers.Geometry.{Geometry};
 ghost use Rattle.trap_raid.specs.Reads.{OnlyReads};
 ghost use Rattle.trap_mount.specs.Holding.{head_place};
 ghost use Rattle.trap_mount.specs.Memory.{AreFor};
-ghost use Rattle.trap_mount.specs.Mounting.{IsNoLog, Refuses, MountFails, HasHeader, HasHead, HasSlots, HasRecords};
+ghost use Rattle.trap_mount.specs.Mounting.{IsNoLog, Refuses, MountFails, HasHeader, HasHead, HasSlots, HasRecords, names_member};
 ghost use Rattle.trap_mount.specs.MountSteps.{IsStable, ReadsHead, ReadsStage, ReadsLog};
 ghost use Rattle.trap_mount.specs.Reading.{ReadsIndex};
 
@@ -42,6 +42,7 @@ fn mount_cell<B: Bank>(bank: &mut B, value: &mut [u8; 62]) -> Result<Cell, Mount
     ensures refused { IfErr result (λ why. (g : Geometry) → IsTrue (B.view bank.old).tells
         → HasHeader g (B.view bank.old).now.disks → Refuses (B.view bank.old) why) }
     ensures cause { IfErr result (λ why. MountFails why (B.view bank.old) (B.view bank.new)) }
+    ensures log { IfErr result (λ why. names_member why ≡ false) }
 {
     match Cell::mount(bank, 0, CELL_AT, value) {
         Ok(cell) => Ok(cell),
@@ -59,6 +60,7 @@ fn find_head<B: Bank>(bank: &mut B, g: &Geometry) -> Result<(Head, Cell), MountF
     ensures refused { IfErr result (λ why. IsTrue (B.view bank.old).tells
         → HasHeader g.now (B.view bank.old).now.disks → Refuses (B.view bank.old) why) }
     ensures cause { IfErr result (λ why. MountFails why (B.view bank.old) (B.view bank.new)) }
+    ensures log { IfErr result (λ why. names_member why ≡ false) }
 {
     let mut value = [0; 62];
     let cell = mount_cell(bank, &mut value)?;
@@ -86,6 +88,7 @@ fn find_stage<B: Bank>(
     ensures refused { IfErr result (λ why. IsTrue (B.view bank.old).tells
         → HasHead g.now head.now (B.view bank.old).now.disks → Refuses (B.view bank.old) why) }
     ensures cause { IfErr result (λ why. MountFails why (B.view bank.old) (B.view bank.new)) }
+    ensures log { IfErr result (λ why. names_member why ≡ false) }
 {
     match Stage::mount(alloc, bank, g, head.drained, head.last) {
         Ok(stage) => Ok(stage),
@@ -113,6 +116,7 @@ fn take_history<B: Bank>(
     ensures refused { IfErr result (λ why. IsTrue (B.view bank.old).tells
         → HasSlots g.now head.now (B.view bank.old).now.disks → Refuses (B.view bank.old) why) }
     ensures cause { IfErr result (λ why. MountFails why (B.view bank.old) (B.view bank.new)) }
+    ensures log { IfErr result (λ why. names_member why ≡ false) }
 {
     let ring_start = log_len(g) - g.ring;
     let ring = Ring::new(0, ring_start, g.ring);
@@ -152,6 +156,7 @@ fn read_history<B: Bank>(
     ensures refused { IfErr result (λ why. IsTrue (B.view bank.old).tells
         → HasSlots g.now head.now (B.view bank.old).now.disks → Refuses (B.view bank.old) why) }
     ensures cause { IfErr result (λ why. MountFails why (B.view bank.old) (B.view bank.new)) }
+    ensures log { IfErr result (λ why. names_member why ≡ false) }
 {
     let Ok(mut index) = Index::new(alloc, g, head.first, head.base_time, head.first_off) else {
         return Err(MountFault::OutOfMemory);
@@ -170,6 +175,7 @@ pub(super) fn find_log<B: Bank>(alloc: Global, bank: &mut B) -> Result<Found, Mo
     ensures no_log { IsNoLog ((B.view bank.old).sizes 0) → IsErrOf result MountFault.NotAnArray }
     ensures refused { IfErr result (λ why. IsTrue (B.view bank.old).tells → Refuses (B.view bank.old) why) }
     ensures cause { IfErr result (λ why. MountFails why (B.view bank.old) (B.view bank.new)) }
+    ensures log { IfErr result (λ why. names_member why ≡ false) }
 {
     let g = read_header(bank)?;
     let (head, cell) = find_head(bank, &g)?;

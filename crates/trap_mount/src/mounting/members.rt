@@ -8,8 +8,8 @@ ghost use Rattle.trap_format.specs.HeadValue.{IsHead};
 ghost use Rattle.trap_format.specs.declared.head.Head.{Head};
 ghost use Rattle.trap_raid.specs.Members.{IsMember};
 ghost use Rattle.trap_raid.specs.Reads.{OnlyReads};
-ghost use Rattle.trap_mount.specs.Mounting.{Refuses, MountFails, HasRecords, HasMembers, IsWrong};
-ghost use Rattle.trap_mount.specs.MountSteps.{IsStable, IsOnlyOut, IsFirstOut, FindsLost, ReadsMember, ReadsMembers, KeepsRows, FindsMembers};
+ghost use Rattle.trap_mount.specs.Mounting.{Refuses, MountFails, SizesShow, HasRecords, HasMembers};
+ghost use Rattle.trap_mount.specs.MountSteps.{IsStable, IsOnlyOut, IsFirstOut, FindsLost, ReadsMember, ReadsMembers, IsNext, KeepsRows, FindsMembers};
 
 use crate::MountFault;
 use crate::mounting::header::settle;
@@ -50,6 +50,7 @@ fn find_lost<B: Bank>(bank: &B, g: &Geometry, head: &Head) -> Result<Option<u8>,
     ensures refused { IfErr result (λ why. IsTrue (B.view bank.now).tells
         → HasRecords g.now head.now (B.view bank.now).now.disks → Refuses (B.view bank.now) why) }
     ensures cause { IfErr result (λ why. MountFails why (B.view bank.now) (B.view bank.now)) }
+    ensures shown { IfErr result (λ why. SizesShow g.now why (B.view bank.now)) }
 {
     let out = first_out(bank, g, head);
     let Some(first) = out else {
@@ -89,13 +90,14 @@ fn has_header<B: Bank>(bank: &mut B, g: &Geometry, member: u8) -> Result<bool, F
 
 /// Checks that the disk of a member is its own.
 fn check_member<B: Bank>(bank: &mut B, g: &Geometry, member: u8) -> Result<(), MountFault>
-    requires member { member < 16 }
+    requires member { member < g.now.members }
     ensures ok { OnOk result (ReadsMember g.now member (B.view bank.old) (B.view bank.new)) }
     ensures reads { OnlyReads (B.view bank.old) (B.view bank.new) }
     ensures wrong { IfErr result (λ why. IsTrue (B.view bank.old).tells → (h : Head)
-        → ((IsMember g.now (B.view bank.old).now.disks member → ⊥) → IsWrong g.now h (B.view bank.old).now.disks member)
+        → IsNext g.now h (B.view bank.old).now.disks member
         → HasMembers g.now h (B.view bank.old).now.disks → Refuses (B.view bank.old) why) }
     ensures cause { IfErr result (λ why. MountFails why (B.view bank.old) (B.view bank.new)) }
+    ensures shown { IfErr result (λ why. SizesShow g.now why (B.view bank.old)) }
 {
     if bank.size(member + 1) != Some(member_len(g)) {
         return Err(MountFault::WrongMember { member });
@@ -118,6 +120,7 @@ fn check_members<B: Bank>(bank: &mut B, g: &Geometry, lost: Option<u8>) -> Resul
         → IsOnlyOut g.now h.lost lost (B.view bank.old).now.disks
         → HasMembers g.now h (B.view bank.old).now.disks → Refuses (B.view bank.old) why) }
     ensures cause { IfErr result (λ why. MountFails why (B.view bank.old) (B.view bank.new)) }
+    ensures shown { IfErr result (λ why. SizesShow g.now why (B.view bank.old)) }
 {
     for member in 0..g.members {
         if lost != Some(member) {
@@ -168,6 +171,7 @@ pub(super) fn find_members<B: Bank>(
     ensures refused { IfErr result (λ why. IsTrue (B.view bank.old).tells
         → HasRecords g.now head.now (B.view bank.old).now.disks → Refuses (B.view bank.old) why) }
     ensures cause { IfErr result (λ why. MountFails why (B.view bank.old) (B.view bank.new)) }
+    ensures shown { IfErr result (λ why. SizesShow g.now why (B.view bank.old)) }
 {
     let lost = find_lost(bank, g, head)?;
     check_members(bank, g, lost)?;

@@ -1,6 +1,7 @@
-use Rattle.std.proofs.Common.{length, ap, sym, ◌∙◌, subst}
+use Rattle.std.proofs.Common.{length, ap, sym, arith, rules, ◌∙◌, subst}
 use Rattle.trap_bank.specs.Disks.{Contents, Differs}
 use Rattle.trap_bank.proofs.Moves.{write_steps, sync_steps, synced_steps, moves_then}
+use Rattle.trap_bank.proofs.Called.{called_once, called_then, called_at_most, took_calls}
 use Rattle.trap_bank.proofs.Regions.{region_of_disk}
 use Rattle.trap_bank.proofs.through.write_through.Goals as goal
 
@@ -28,3 +29,15 @@ returns-clause-ok g c =
       };
       read = at_rest.read;
     })
+
+pub returns-in_err-write-clause-calls : goal.returns-in_err-write-clause-calls
+returns-in_err-write-clause-calls g c = record { ok = search rules; most = called_at_most 1 2 _ _ (omega arith) (called_once _ _ _ c.write.ensures.call.goes) }
+
+pub returns-in_err-sync-clause-calls : goal.returns-in_err-sync-clause-calls
+returns-in_err-sync-clause-calls g c = record {
+  ok = search rules;
+  most = called_at_most 2 2 _ _ (omega arith) (called_then 1 1 _ _ _ (called_once _ _ _ c.write.ensures.call.goes) (called_once _ _ _ c.sync.ensures.call.goes));
+}
+
+pub returns-clause-calls : goal.returns-clause-calls
+returns-clause-calls g c = took_calls _ 2 _ _ (called_then 1 1 _ _ _ (called_once _ _ _ c.write.ensures.call.goes) (called_once _ _ _ c.sync.ensures.call.goes))

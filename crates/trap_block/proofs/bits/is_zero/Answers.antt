@@ -1,12 +1,9 @@
-use Rattle.std.proofs.Common.{◌≡◌, length, rules, arith}
-use Rattle.trap_block.proofs.ZeroLemmas.{zero_more, zero_all}
+use Rattle.std.proofs.Common.{length, eqb-true, eq-eqb}
+use Rattle.trap_block.proofs.ZeroLemmas.{zero_all, zero_whole}
 use Rattle.trap_block.proofs.bits.is_zero.Goals as goal
 
-pub loop-byte-preserved : goal.loop-byte-preserved
-loop-byte-preserved c = zero_more c.args.bytes.now c.loop-byte.bits c.loop-byte.byte-index c.loop-byte.invariant
-
 pub returns : goal.returns
-returns c =
-    let whole : c.loop-byte.byte-index ≡ length c.args.bytes.now = omega arith in
-    let found = zero_all c.args.bytes.now c.loop-byte.bits c.loop-byte.byte-index whole c.loop-byte.invariant in
-    search (rules, found)
+returns c = (
+  λ whole. zero_all c.args.bytes.now c.zeros_from.result (eqb-true c.zeros_from.result (length c.args.bytes.now) whole) c.zeros_from.ensures.zeros,
+  λ is. eq-eqb c.zeros_from.result (length c.args.bytes.now) (zero_whole c.args.bytes.now c.zeros_from.result is c.zeros_from.ensures.zeros c.zeros_from.ensures.end),
+)

@@ -1,4 +1,5 @@
-use Rattle.trap_mount.proofs.FreshArray.{create_members_part, create_log_part, create_done, create_contents}
+use Rattle.std.proofs.Common.{◌+◌, ◌∙◌, arith}
+use Rattle.trap_mount.proofs.FreshArray.{create_members_part, create_log_part, create_done, create_holds, create_contents}
 use Rattle.trap_mount.proofs.creating.create.Goals as goal
 
 pub returns-in_err-create_members-clause-contents : goal.returns-in_err-create_members-clause-contents
@@ -21,3 +22,10 @@ returns-clause-contents g c = λ none. create_contents c.args.g.now (g.B.Bank.vi
 
 pub returns-clause-any_moment : goal.returns-clause-any_moment
 returns-clause-any_moment g c = λ none. create_log_part c.args.g.now (g.B.Bank.view c.args.bank.now) (g.met.B.Bank.lawful c.args.bank.now) none (g.B.Bank.view c.create_members.new.bank) (g.B.Bank.view c.create_log.new.bank) c.in_ok-create_members.ensures.ok c.create_log.ensures.any_moment
+
+pub returns-clause-made : goal.returns-clause-made
+returns-clause-made g c = record {
+  log = c.in_ok-create_log.ensures.size;
+  members = λ m inside. c.create_log.ensures.sizes (m + 1) (λ is. omega (arith, is)) ∙ c.in_ok-create_members.ensures.made m inside;
+  holds = create_holds c.args.g.now (g.B.Bank.view c.args.bank.now) (g.B.Bank.view c.create_members.new.bank) (g.B.Bank.view c.create_log.new.bank) c.in_ok-create_members.ensures.ok c.in_ok-create_log.ensures.ok;
+}

@@ -2,10 +2,10 @@ use Rattle.std.proofs.Common.{IsTrue, refl, ◌∙◌}
 use Rattle.trap_mount.specs.Mounting.{Refuses}
 use Rattle.trap_mount.specs.MountEnds.{MountsFor, MountEnds}
 use Rattle.trap_mount.specs.declared.fault.MountFault.TheVariants.{LogFault}
-use Rattle.trap_mount.proofs.MountReads.{reads_then, cause_before}
+use Rattle.trap_mount.proofs.MountReads.{reads_then, cause_before, rose_later, sizes_before, one_bit}
 use Rattle.trap_mount.proofs.MountHistory.{exit}
 use Rattle.trap_mount.proofs.MountRefusals.{never_refused}
-use Rattle.trap_mount.proofs.MountPuts.{mounts_read, members_refused, put_failed, put_room, stage_put, index_put, stands_still, mounts_put, mounts_contents, mount_ready, mount_stands, mount_found, read_lost, read_others, put_lost, put_others}
+use Rattle.trap_mount.proofs.MountPuts.{complete, mounts_read, members_refused, put_failed, put_room, stage_put, index_put, stands_still, mounts_put, mounts_contents, mount_ready, mount_stands, mount_found, mount_knows, mount_head, head_read, writes_head, read_lost, read_others, put_lost, put_others}
 use Rattle.trap_mount.proofs.mounting.mount.Goals as goal
 
 -- ---- the log was refused
@@ -20,6 +20,8 @@ returns-in_err-found-clause-ended g c =
       held = λ numbers s told holds. never_refused numbers s old.now.disks holds c.in_err-found.field-0.0 (refused told);
       nothing_written = λ is told. c.find_log.ensures.reads.same told;
       cause = c.in_err-found.ensures.cause;
+      shown = λ is. absurd (one_bit _ c.in_err-found.ensures.log is);
+      complete = λ numbers h s told by log members. complete old new numbers h s told by log members c.in_err-found.field-0.0 refused c.in_err-found.ensures.cause;
     })
 
 pub returns-in_err-found-clause-any_moment : goal.returns-in_err-found-clause-any_moment
@@ -40,6 +42,9 @@ returns-in_err-head-clause-ended g c =
       held = λ numbers s told holds. never_refused numbers s old.now.disks holds c.in_err-head.field-0.0 (refused told);
       nothing_written = λ is told. reads.same told;
       cause = cause_before old mid new _ c.find_log.ensures.reads c.in_err-head.ensures.cause;
+      shown = λ is. (c.in_ok-found.found.g, c.in_ok-found.ensures.ok.header.size, sizes_before c.in_ok-found.found.g old mid _ c.find_log.ensures.reads.sizes c.in_err-head.ensures.shown);
+      complete = λ numbers h s told by log members. complete old new numbers h s told by log members c.in_err-head.field-0.0 refused
+          (cause_before old mid new _ c.find_log.ensures.reads c.in_err-head.ensures.cause);
     })
 
 pub returns-in_err-head-clause-any_moment : goal.returns-in_err-head-clause-any_moment
@@ -77,6 +82,8 @@ returns-in_default-clause-ended g c =
       held = λ numbers s told holds. refl;
       nothing_written = λ is. absurd (cc is);
       cause = put_failed old mid new LogFault reads c.in_default.ensures.cause refl;
+      shown = λ is. absurd (cc is);
+      complete = λ numbers h s told by log members. absurd (log (rose_later _ _ _ (reads.moves.faults 0) c.in_default.ensures.cause));
     }
 
 pub returns-in_default-clause-any_moment : goal.returns-in_default-clause-any_moment
@@ -111,6 +118,12 @@ returns-clause-mounted g c =
           (g.met.B.Bank.lawful c.find_log.new.bank) c.in_ok-found.ensures.ok c.in_ok-head.ensures.ok (g.B.Bank.view c.put_changed.new.bank) c.put_changed.new.cell c.in_ok-found.found.index c.in_ok-found.ensures.index c.in-Ok.ensures.ok c.put_changed.ensures.sizes;
       going = refl;
       found = mount_found c.in_ok-found.found.g c.in_ok-found.found.head c.in_ok-head.head c.in_ok-found.found.cell c.in_ok-found.found.stage
+          (g.B.Bank.view c.args.bank.now) (g.B.Bank.view c.find_log.new.bank) (g.B.Bank.view c.find_members.new.bank) c.find_log.ensures.reads c.find_members.ensures.reads
+          (g.met.B.Bank.lawful c.find_log.new.bank) c.in_ok-found.ensures.ok c.in_ok-head.ensures.ok (g.B.Bank.view c.put_changed.new.bank) c.put_changed.new.cell c.in_ok-found.found.index c.in_ok-found.ensures.index c.in-Ok.ensures.ok c.put_changed.ensures.sizes;
+      knows = mount_knows c.in_ok-found.found.g c.in_ok-found.found.head c.in_ok-head.head c.in_ok-found.found.cell c.in_ok-found.found.stage
+          (g.B.Bank.view c.args.bank.now) (g.B.Bank.view c.find_log.new.bank) (g.B.Bank.view c.find_members.new.bank) c.find_log.ensures.reads c.find_members.ensures.reads
+          (g.met.B.Bank.lawful c.find_log.new.bank) c.in_ok-found.ensures.ok c.in_ok-head.ensures.ok (g.B.Bank.view c.put_changed.new.bank) c.put_changed.new.cell c.in_ok-found.found.index c.in_ok-found.ensures.index c.in-Ok.ensures.ok c.put_changed.ensures.sizes;
+      head = mount_head c.in_ok-found.found.g c.in_ok-found.found.head c.in_ok-head.head c.in_ok-found.found.cell c.in_ok-found.found.stage
           (g.B.Bank.view c.args.bank.now) (g.B.Bank.view c.find_log.new.bank) (g.B.Bank.view c.find_members.new.bank) c.find_log.ensures.reads c.find_members.ensures.reads
           (g.met.B.Bank.lawful c.find_log.new.bank) c.in_ok-found.ensures.ok c.in_ok-head.ensures.ok (g.B.Bank.view c.put_changed.new.bank) c.put_changed.new.cell c.in_ok-found.found.index c.in_ok-found.ensures.index c.in-Ok.ensures.ok c.put_changed.ensures.sizes;
     }
@@ -163,3 +176,22 @@ pub returns-clause-lost : goal.returns-clause-lost
 returns-clause-lost g c = put_lost c.in_ok-found.found.g c.in_ok-found.found.head c.in_ok-head.head c.in_ok-found.found.cell c.in_ok-found.found.stage
     (g.B.Bank.view c.args.bank.now) (g.B.Bank.view c.find_log.new.bank) (g.B.Bank.view c.find_members.new.bank) c.find_log.ensures.reads c.find_members.ensures.reads
     (g.met.B.Bank.lawful c.find_log.new.bank) c.in_ok-found.ensures.ok c.in_ok-head.ensures.ok (g.B.Bank.view c.put_changed.new.bank) c.put_changed.ensures.any_moment.faults c.put_changed.ensures.contents
+
+-- ---- nothing is written but the head
+
+pub returns-in_err-found-clause-writes : goal.returns-in_err-found-clause-writes
+returns-in_err-found-clause-writes g c = head_read (g.B.Bank.view c.args.bank.now) (g.B.Bank.view c.find_log.new.bank) c.find_log.ensures.reads
+
+pub returns-in_err-head-clause-writes : goal.returns-in_err-head-clause-writes
+returns-in_err-head-clause-writes g c = head_read (g.B.Bank.view c.args.bank.now) (g.B.Bank.view c.find_members.new.bank)
+    (reads_then (g.B.Bank.view c.args.bank.now) (g.B.Bank.view c.find_log.new.bank) (g.B.Bank.view c.find_members.new.bank) c.find_log.ensures.reads c.find_members.ensures.reads)
+
+pub returns-in_default-clause-writes : goal.returns-in_default-clause-writes
+returns-in_default-clause-writes g c = writes_head c.in_ok-found.found.g c.in_ok-found.found.head c.in_ok-head.head c.in_ok-found.found.cell c.in_ok-found.found.stage
+    (g.B.Bank.view c.args.bank.now) (g.B.Bank.view c.find_log.new.bank) (g.B.Bank.view c.find_members.new.bank) c.find_log.ensures.reads c.find_members.ensures.reads
+    (g.met.B.Bank.lawful c.find_log.new.bank) c.in_ok-found.ensures.ok c.in_ok-head.ensures.ok (g.B.Bank.view c.put_changed.new.bank) c.put_changed.ensures.any_moment c.put_changed.ensures.contents
+
+pub returns-clause-writes : goal.returns-clause-writes
+returns-clause-writes g c = writes_head c.in_ok-found.found.g c.in_ok-found.found.head c.in_ok-head.head c.in_ok-found.found.cell c.in_ok-found.found.stage
+    (g.B.Bank.view c.args.bank.now) (g.B.Bank.view c.find_log.new.bank) (g.B.Bank.view c.find_members.new.bank) c.find_log.ensures.reads c.find_members.ensures.reads
+    (g.met.B.Bank.lawful c.find_log.new.bank) c.in_ok-found.ensures.ok c.in_ok-head.ensures.ok (g.B.Bank.view c.put_changed.new.bank) c.put_changed.ensures.any_moment c.put_changed.ensures.contents

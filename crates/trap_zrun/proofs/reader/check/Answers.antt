@@ -1,4 +1,4 @@
-use Rattle.std.proofs.Common.{refl, arith, rules}
+use Rattle.std.proofs.Common.{refl, rules}
 use Rattle.trap_model.specs.ZeroRun.{IsRefused}
 use Rattle.trap_model.proofs.ZeroRuns.{segment}
 use Rattle.trap_zrun.proofs.Decoding.{checked-more, checked_stops, checked_long, checked_done, refused_there, no-code}

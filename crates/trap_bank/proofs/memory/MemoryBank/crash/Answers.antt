@@ -21,6 +21,7 @@ returns c =
       starved = b.starved;
       chosen = b.chosen.numbers;
       fuse = b.fuse;
+      spared = b.spared;
     } in
     let disks : List (Option Kept) = c.crash_all.new.disks in
     let all : AllCrashed c.args.seed m.disks disks = subst (λ (old : List (Option Kept)). AllCrashed c.args.seed old disks) c.as_mut_slice.ensures.value c.crash_all.ensures in

@@ -3,29 +3,30 @@ use Rattle.trap_bank.specs.declared.disks.Failed.{Failed}
 use Rattle.trap_bank.specs.Calls.{Syncs}
 use Rattle.trap_bank.specs.Counts.{one_more}
 use Rattle.trap_bank.specs.Memory.{Memory, view_of}
-use Rattle.trap_bank.specs.MemorySteps.{passed, found_no_memory, blamed}
-use Rattle.trap_bank.proofs.MemoryCalls.{fails_syncing, has_a_number}
+use Rattle.trap_bank.specs.MemorySteps.{counted_on, passed, found_no_memory, blamed, synced}
+use Rattle.trap_bank.proofs.MemoryCalls.{fails_syncing, has_one_on}
 use Rattle.trap_bank.proofs.MemorySyncs.{syncs}
 use Rattle.trap_bank.proofs.memory_calls.MemoryBankBank.sync.Goals as goal
 
-pub returns-then-is_struck-clause-call : goal.returns-then-is_struck-clause-call
-returns-then-is_struck-clause-call c =
+pub returns-then-struck-clause-call : goal.returns-then-struck-clause-call
+returns-then-struck-clause-call c =
     let m : Memory = c.args.self.now in
-    let new : c.blame-failed.new.self ≡ blamed (passed m) c.args.d = c.blame-failed.ensures ∙ ap (λ (n : Memory). blamed n c.args.d) c.pass.ensures in
+    let new : c.blame-failed.new.self ≡ blamed (passed (counted_on m c.args.d)) c.args.d =
+    c.blame-failed.ensures ∙ ap (λ (n : Memory). blamed n c.args.d) (c.pass.ensures ∙ ap passed c.count_on.ensures) in
     subst (λ (n : Memory). Syncs {T = Unit {0}} {E = Failed} c.args.d (Err c.blame-failed.result) (view_of m) (view_of n)) (sym new)
-    (fails_syncing c.blame-failed.result m c.args.d (one_more m.moment) m.starved c.is_struck.ensures.sound c.requires.disk refl)
+    (fails_syncing c.blame-failed.result m c.args.d (one_more m.moment) m.starved c.is_struck_on-struck.ensures.sound c.requires.disk refl)
 
 pub returns-in-Ok-clause-call : goal.returns-in-Ok-clause-call
 returns-in-Ok-clause-call c =
     let m : Memory = c.args.self.now in
-    subst (λ (n : Memory). Syncs {T = Unit {0}} {E = Failed} c.args.d (Ok tt) (view_of m) (view_of n)) (sym c.in-Ok.ensures.ok)
-    (syncs tt m c.args.d c.is_struck.ensures.sound
-    (has_a_number m c.is_struck.result c.if-is_struck.false c.is_struck.ensures.struck.1) c.requires.disk)
+    subst (λ (n : Memory). Syncs {T = Unit {0}} {E = Failed} c.args.d (Ok tt) (view_of m) (view_of n)) (sym (c.in-Ok.ensures.ok ∙ ap (λ (n : Memory). synced n c.args.d) c.count_on.ensures))
+    (syncs tt m c.args.d c.is_struck_on-struck.ensures.sound
+    (has_one_on m c.args.d c.is_struck_on-struck.result c.if-struck.false c.is_struck_on-struck.ensures.struck.1) c.requires.disk)
 
 pub returns-in-Err-clause-call : goal.returns-in-Err-clause-call
 returns-in-Err-clause-call c =
     let m : Memory = c.args.self.now in
-    let new : c.blame.new.self ≡ blamed (found_no_memory m) c.args.d =
-    c.blame.ensures ∙ ap (λ (n : Memory). blamed n c.args.d) (c.starve.ensures ∙ ap found_no_memory c.in-Err.ensures.err) in
+    let new : c.blame.new.self ≡ blamed (found_no_memory (counted_on m c.args.d)) c.args.d =
+    c.blame.ensures ∙ ap (λ (n : Memory). blamed n c.args.d) (c.starve.ensures ∙ ap found_no_memory (c.in-Err.ensures.err ∙ c.count_on.ensures)) in
     subst (λ (n : Memory). Syncs {T = Unit {0}} {E = Failed} c.args.d (Err c.blame.result) (view_of m) (view_of n)) (sym new)
-    (fails_syncing c.blame.result m c.args.d (one_more m.moment) (m.starved + 1) c.is_struck.ensures.sound c.requires.disk refl)
+    (fails_syncing c.blame.result m c.args.d (one_more m.moment) (m.starved + 1) c.is_struck_on-struck.ensures.sound c.requires.disk refl)

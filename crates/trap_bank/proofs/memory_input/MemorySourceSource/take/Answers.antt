@@ -14,5 +14,6 @@ returns-clause-taken c =
       left = given_of_left s.bytes.items c.give-len.new.buf s.given n front;
       given = refl;
       ended = refl;
+      untold = λ none. cc;
       at_end = λ none. none_left s.bytes.items s.given s.piece (length c.args.buf.now) n len c.requires.room none;
     }

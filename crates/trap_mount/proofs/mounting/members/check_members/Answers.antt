@@ -1,7 +1,7 @@
 use Rattle.std.proofs.Common.{◌+◌, sym, subst, ◌∙◌, arith}
 use Rattle.trap_raid.specs.Reads.{OnlyReads}
 use Rattle.trap_mount.specs.MountSteps.{ReadsMembers}
-use Rattle.trap_mount.proofs.MountReads.{reads_then, reads_none}
+use Rattle.trap_mount.proofs.MountReads.{reads_then, reads_none, sizes_before}
 use Rattle.trap_mount.proofs.MountHistory.{exit}
 use Rattle.trap_mount.proofs.MountMembers.{members_more, check_refused, option_differs, option_same}
 use Rattle.trap_mount.proofs.mounting.members.check_members.Goals as goal
@@ -12,6 +12,11 @@ returns-in_err-check_member-clause-refused g c =
     exit _ c.from_residual.result c.in_err-check_member.field-0.0 c.from_residual.ensures.1
     (check_refused c.args.g.now c.args.lost c.loop-member.member (g.B.Bank.view c.args.bank.now) (g.B.Bank.view c.loop-member.bank) _ c.loop-member.invariant.reads c.loop-member-test.true
     (option_differs c.args.lost c.loop-member.member (sym c.ne.ensures ∙ c.if-ne.true)) c.loop-member.invariant.members c.in_err-check_member.ensures.wrong)
+
+pub returns-in_err-check_member-clause-shown : goal.returns-in_err-check_member-clause-shown
+returns-in_err-check_member-clause-shown g c =
+    exit _ c.from_residual.result c.in_err-check_member.field-0.0 c.from_residual.ensures.1
+    (sizes_before c.args.g.now (g.B.Bank.view c.args.bank.now) (g.B.Bank.view c.loop-member.bank) _ c.loop-member.invariant.reads.sizes c.in_err-check_member.ensures.shown)
 
 pub loop-member-preserved : goal.loop-member-preserved
 loop-member-preserved g c =

@@ -1,0 +1,22 @@
+//! Where things stand on an array's disks: byte offsets, and lengths in bytes.
+
+/// The first byte of what is whole: a header, or a slot of a cell.
+pub const OPEN_GATE: u8 = 0xa5;
+
+/// The log's header, at the front of its disk.
+pub const LOG_HEADER_BYTES: u64 = 64;
+
+/// Where the head's cell begins on the log's disk, after the header.
+pub const CELL_AT: u64 = 64;
+
+/// Where the staging slots begin on the log's disk, after the head's cell.
+pub const SLOTS_AT: u64 = 192;
+
+/// The numbers at the front of a staging slot: the entry's, and its block's.
+pub const SLOT_NUMBERS_BYTES: u64 = 12;
+
+/// A log record's header.
+pub const RECORD_HEADER_BYTES: u64 = 26;
+
+/// A member's header, at the front of its disk. The place of row 0 follows it.
+pub const MEMBER_HEADER_BYTES: u64 = 16;
