@@ -7,6 +7,10 @@ use Rattle.trap_bank.specs.Stream.{Stream}
 use Rattle.trap_model.specs.declared.numbers.Geometry.{Geometry}
 use Rattle.trap_model.specs.declared.history.State.{State}
 use Rattle.trap_format.specs.declared.head.Head.{Head}
+use Rattle.trap_format.specs.Checked.{first_broken, HasNumbers}
+use Rattle.trap_model.specs.declared.asked.Asked.{Asked}
+use Rattle.trap_array.specs.Creating.{NoneIsThere}
+use Rattle.trap_mount.specs.declared.fault.CreateFault.TheVariants as creating
 use Rattle.trap_array.specs.Holding.{Holds, HoldsBy}
 use Rattle.trap_mount.specs.declared.fault.MountFault.{MountFault}
 use Rattle.trap_array.specs.declared.fault.Denied.TheVariants as denied
@@ -17,8 +21,8 @@ use Rattle.trap_cli.specs.declared.command.Command.{Command}
 use Rattle.trap_cli.specs.declared.command.Command.TheVariants.{Create, Session, History}
 use Rattle.trap_cli.specs.declared.outcome.Ended.{Ended}
 use Rattle.trap_cli.specs.declared.outcome.Ended.TheVariants.{Done, Usage, BadGeometry, NotCreated, NotMounted, Stopped, Port, Memory}
-use Rattle.trap_cli.specs.Ended.{mount_status, status_of, last_line}
-use Rattle.trap_cli.specs.Cause.{StoppedBy, MemberFaults, WantsMemory, SessionCause, HistoryCause}
+use Rattle.trap_cli.specs.Ended.{mount_status, status_of, created_line}
+use Rattle.trap_cli.specs.Cause.{StoppedBy, MemberFaults, WantsMemory, SessionCause, HistoryCause, CreateCause}
 use Rattle.trap_cli.specs.Stops.{BeginsTold}
 use Rattle.trap_cli.specs.Run.{SaysLast, Ends, Runs}
 use Rattle.trap_cli.specs.Completes.{output, NothingFails, IsUnused, IsDone, Completes}
@@ -96,6 +100,25 @@ module _ (old new : View) (from to : Stream) (lawful : IsLawful old) (g : Geomet
   history_done status input holds Port number cause ends = absurd (fails.port cause.1)
   history_done status input holds Memory number cause ends = absurd cause
 
+create_done : (status : ℕ) (asked : Asked) (g : Geometry) (old new : View) (from to : Stream) → IsTrue old.tells → HasNumbers g asked → first_broken asked ≡ None
+    → NoneIsThere g old → NothingFails g (λ m. ⊥) old new from to
+    → (ended : Ended) → status ≡ status_of ended → CreateCause asked ended old new → Ends (Some (Create asked)) ended old new from to
+    → (status ≡ 0) × (new.now.said ≡ old.now.said ++ created_line asked.id)
+create_done status asked g old new from to told numbers kept none fails Done number cause ends =
+    (number, nothing_more ends.before old new ends.last ∙ (ends.stops told).said)
+create_done status asked g old new from to told numbers kept none fails Usage number cause ends = absurd cause
+create_done status asked g old new from to told numbers kept none fails (BadGeometry field) number cause ends =
+    let both : None ≡ Some field = sym kept ∙ cause in absurd (cc both)
+create_done status asked g old new from to told numbers kept none fails (NotCreated (creating.Exists d)) number cause ends =
+    absurd (cause.2.there (none d (omega (arith, cause.2.inside, cause.1.members, numbers.members))))
+create_done status asked g old new from to told numbers kept none fails (NotCreated creating.LogFault) number cause ends = absurd (fails.log cause.2)
+create_done status asked g old new from to told numbers kept none fails (NotCreated (creating.MemberFault first second)) number cause ends =
+    absurd (fails.members second (omega (arith, cause.2.0, cause.1.members, numbers.members)) cause.2.1.1)
+create_done status asked g old new from to told numbers kept none fails (NotMounted why) number cause ends = absurd cause
+create_done status asked g old new from to told numbers kept none fails (Stopped why) number cause ends = absurd cause
+create_done status asked g old new from to told numbers kept none fails Port number cause ends = absurd (fails.port cause)
+create_done status asked g old new from to told numbers kept none fails Memory number cause ends = absurd cause
+
 pub run_completes : (status : ℕ) (command : Option Command) (old new : View) (from to : Stream) → IsLawful old → Runs status command old new from to
     → Completes status command old new from to
 run_completes status None old new from to lawful runs = tt
@@ -105,4 +128,5 @@ run_completes status (Some Session) old new from to lawful runs = λ g s input b
 run_completes status (Some History) old new from to lawful runs = λ g s input told holds fails.
     history_done old new from to lawful g holds.head s told holds.by fails
     status input holds runs.ended runs.number runs.cause (runs.told told)
-run_completes status (Some (Create asked)) old new from to lawful runs = tt
+run_completes status (Some (Create asked)) old new from to lawful runs = λ g told numbers kept none fails.
+    create_done status asked g old new from to told numbers kept none fails runs.ended runs.number runs.cause (runs.told told)

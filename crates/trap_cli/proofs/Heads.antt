@@ -1,5 +1,5 @@
 -- The heads by which disks hold states.
-use Rattle.std.proofs.Common.{◌≡◌, inl, inr, ⊎_elim, ℕ, ◌+◌, ◌≤◌, Some, None, IsTrue, refl, sym, ap, subst, ◌∙◌, arith}
+use Rattle.std.proofs.Common.{◌≡◌, ◌⊎◌, inl, inr, ⊎_elim, ℕ, ◌+◌, ◌≤◌, Some, None, IsTrue, refl, sym, ap, subst, ◌∙◌, arith}
 use Rattle.trap_bank.specs.Disks.{Contents, Disks, View, Quiet, size_of}
 use Rattle.trap_bank.specs.Calls.{MayLeave}
 use Rattle.trap_bank.specs.Steps.{Moves, From, Always}

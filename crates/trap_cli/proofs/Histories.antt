@@ -20,7 +20,7 @@ use Rattle.trap_cli.specs.Command.{command_history}
 use Rattle.trap_cli.specs.Ended.{last_line}
 use Rattle.trap_cli.specs.History.{history_text}
 use Rattle.trap_cli.specs.Listing.{KeepsDisks, Lists, HasListed}
-use Rattle.trap_cli.specs.Cause.{IsMountable, WantsMemory}
+use Rattle.trap_cli.specs.Cause.{IsMountable, WantsMemory, ShowsSizes}
 use Rattle.trap_cli.specs.Crash.{IsFaultFront, HoldsSince, HistoryLeaves, LeftSaid, Leaves, LeavesBefore}
 use Rattle.trap_array.specs.Beside.{StaysFrom}
 use Rattle.trap_cli.specs.Run.{Works, TouchesBelow, LeavesOthers, MembersStay}
@@ -129,12 +129,12 @@ module _ (a b : View) (from : Stream) (mounted : Moves a b (Mounts a) (Mounts a)
     (writes : WritesHead a b)
     (lost : (g : Geometry) (h k : Head) (s t : State) → IsTrue a.tells → HoldsBy g h s a.now.disks → HoldsBy g k t b.now.disks → FoundLost g h k a b) where
   -- The array could not be mounted.
-  pub unlisted_works : (why : MountFault) → (IsNoLog (a.sizes 0) → why ≡ NotAnArray) → (IsTrue a.tells → Refuses a why) → MountFails why a b → WantsMemory why a b
+  pub unlisted_works : (why : MountFault) → (IsNoLog (a.sizes 0) → why ≡ NotAnArray) → (IsTrue a.tells → Refuses a why) → MountFails why a b → WantsMemory why a b → ShowsSizes why a
       → (is_refusal why ≡ true → IsTrue a.tells → b.now ≡ a.now)
       → ((g : Geometry) (s : State) → IsTrue a.tells → Holds g s a.now.disks → is_refusal why ≡ false)
       → Works command_history (NotMounted why) a b from from
-  unlisted_works why no_log refuses fails wants unwritten held = record {
-    cause = (refuses, fails, wants);
+  unlisted_works why no_log refuses fails wants shows unwritten held = record {
+    cause = (refuses, fails, wants, shows);
     first = λ none. ap NotMounted (no_log none);
     refused = λ is. record { sizes = sizes; disks = λ told. ap (λ (c : Contents). c.disks) (unwritten is told) };
     stops = λ g s told holds. (

@@ -23,7 +23,7 @@ use Rattle.trap_cli.specs.declared.outcome.Ended.{Ended}
 use Rattle.trap_cli.specs.declared.outcome.Ended.TheVariants.{Done, Usage, BadGeometry, NotCreated, NotMounted, Stopped, Port, Memory}
 use Rattle.trap_cli.specs.Command.{command_session}
 use Rattle.trap_cli.specs.Ended.{is_refused}
-use Rattle.trap_cli.specs.Cause.{SessionCause, Passes, MemberFaults, NamesRecord, WantsMemory}
+use Rattle.trap_cli.specs.Cause.{SessionCause, Passes, MemberFaults, NamesRecord, WantsMemory, ShowsSizes}
 use Rattle.trap_cli.specs.Stops.{held_store, BeginsTold, SessionStops, HasEnded, EndsBy, NamesEnd}
 use Rattle.trap_cli.specs.Run.{Works, reads_input, ends_silent, MembersStay}
 use Rattle.trap_cli.proofs.Saying.{rose_since}
@@ -139,12 +139,12 @@ module _ (a b : View) (from : Stream) (mounted : Moves a b (Mounts a) (Mounts a)
     (lost : (g : Geometry) (h k : Head) (s t : State) → IsTrue a.tells → HoldsBy g h s a.now.disks → HoldsBy g k t b.now.disks → FoundLost g h k a b)
     (others : IsTrue a.tells → (e : ℕ) → e ≢ 0 → b.now.disks e ≡ a.now.disks e) where
   -- The array could not be mounted.
-  pub unmounted_works : (why : MountFault) → (IsNoLog (a.sizes 0) → why ≡ NotAnArray) → (IsTrue a.tells → Refuses a why) → MountFails why a b → WantsMemory why a b
+  pub unmounted_works : (why : MountFault) → (IsNoLog (a.sizes 0) → why ≡ NotAnArray) → (IsTrue a.tells → Refuses a why) → MountFails why a b → WantsMemory why a b → ShowsSizes why a
       → (is_refusal why ≡ true → IsTrue a.tells → b.now ≡ a.now)
       → ((g : Geometry) (s : State) → IsTrue a.tells → Holds g s a.now.disks → is_refusal why ≡ false)
       → Works command_session (NotMounted why) a b from from
-  unmounted_works why no_log refuses fails wants unwritten held = record {
-    cause = (refuses, fails, wants);
+  unmounted_works why no_log refuses fails wants shows unwritten held = record {
+    cause = (refuses, fails, wants, shows);
     first = λ none. ap NotMounted (no_log none);
     refused = λ is. record { sizes = sizes; disks = λ told. ap (λ (c : Contents). c.disks) (unwritten is told) };
     stops = λ g s input begins. (

@@ -5,6 +5,7 @@ use Rattle.trap_bank.specs.Disks.{Disks, View}
 use Rattle.trap_bank.specs.Stream.{Stream}
 use Rattle.trap_model.specs.declared.asked.Asked.{Asked}
 use Rattle.trap_model.specs.declared.numbers.Geometry.{Geometry}
+use Rattle.trap_format.specs.LogDisk.{log_size}
 use Rattle.trap_format.specs.Checked.{first_broken, HasNumbers}
 use Rattle.trap_format.specs.declared.head.Head.{Head}
 use Rattle.trap_model.specs.declared.history.State.{State}
@@ -12,7 +13,7 @@ use Rattle.trap_index.specs.Indexed.{Indexed}
 use Rattle.trap_raid.specs.Members.{IsMember, IsOut, Counts}
 use Rattle.trap_array.specs.Holding.{Holds, HoldsBy}
 use Rattle.trap_array.specs.Creating.{IsLowest}
-use Rattle.trap_array.specs.Mounting.{HasHeader, HasMembers, Refuses, MountFails}
+use Rattle.trap_array.specs.Mounting.{HasHeader, HasMembers, Refuses, MountFails, SizesShow, names_member}
 use Rattle.trap_array.specs.Instants.{HasBadRecord}
 use Rattle.trap_mount.specs.declared.fault.CreateFault.{CreateFault}
 use Rattle.trap_mount.specs.declared.fault.CreateFault.TheVariants as creating
@@ -93,9 +94,14 @@ WantsMemory why old new = (g : Geometry) (h : Head) (s : State) → IsTrue old.t
     → ((m : ℕ) → m < g.members → Rose (old.faults (m + 1)) (new.faults (m + 1)) → IsOut h.lost old.now.disks m)
     → why ≡ OutOfMemory
 
+-- whatever the bank tells: the members that the answer names are those of an array whose log has disk 0's size
+abbrev pub ShowsSizes : MountFault → View → Type 0
+ShowsSizes why old = names_member why ≡ true → (g : Geometry) × (old.sizes 0 ≡ Some (log_size g)) × SizesShow g why old
+
 -- why an array could not be mounted: its refusals say what stands on the disks
 abbrev pub UnmountedBy : MountFault → View → View → Type 0
-UnmountedBy why old new = (IsTrue old.tells → Refuses old why) × MountFails why old new × WantsMemory why old new
+UnmountedBy why old new =
+    (IsTrue old.tells → Refuses old why) × MountFails why old new × WantsMemory why old new × ShowsSizes why old
 
 -- Why `session` ends so. What is said of the disks holds where the bank tells.
 abbrev pub SessionCause : Ended → View → View → Stream → Stream → Type 0

@@ -9,6 +9,8 @@ use Rattle.trap_model.specs.declared.history.State.{State}
 use Rattle.trap_format.specs.declared.head.Head.{Head}
 use Rattle.trap_script.specs.Lines.{lines}
 use Rattle.trap_script.specs.Walk.{all_texts}
+use Rattle.trap_format.specs.Checked.{first_broken, HasNumbers}
+use Rattle.trap_array.specs.Creating.{NoneIsThere}
 use Rattle.trap_array.specs.Holding.{Holds}
 use Rattle.trap_cli.specs.Ended.{created_line}
 use Rattle.trap_cli.specs.History.{history_text}
@@ -38,7 +40,8 @@ abbrev pub IsDone : ℕ → List ℕ → View → View → Type 0
 IsDone status text old new = ((status ≡ 0) × (new.now.said ≡ old.now.said ++ text)) ⊎ (status ≡ 10)
 
 -- Over disks that hold a state, the command is done where nothing fails but a member that isn't used, whichever member is
--- out. A session's input has fewer than 2^40 bytes.
+-- out. A session's input has fewer than 2^40 bytes. An array is made where its numbers are within their limits, none of its
+-- disks is there, and nothing fails.
 abbrev pub Completes : ℕ → Option Command → View → View → Stream → Stream → Type 0
 Completes status None old new from to = Unit {0}
 Completes status (Some Session) old new from to = (g : Geometry) (s : State) (input : List ℕ) (begins : BeginsTold g s input old from)
@@ -47,4 +50,6 @@ Completes status (Some Session) old new from to = (g : Geometry) (s : State) (in
 Completes status (Some History) old new from to = (g : Geometry) (s : State) (input : List ℕ) → IsTrue old.tells
     → (holds : Holds g s old.now.disks) → NothingFails g (IsUnused holds.head old.now.disks) old new from to
     → IsDone status (output g s History input) old new
-Completes status (Some (Create asked)) old new from to = Unit {0}
+Completes status (Some (Create asked)) old new from to = (g : Geometry) → IsTrue old.tells → HasNumbers g asked → first_broken asked ≡ None
+    → NoneIsThere g old → NothingFails g (λ m. ⊥) old new from to
+    → (status ≡ 0) × (new.now.said ≡ old.now.said ++ created_line asked.id)

@@ -142,11 +142,5 @@ EndsBy a Memory old new from to = Unit {0}
 
 -- the record that a mounted session found damaged, by what the array knows at its end
 abbrev pub NamesEnd : Mounted → Ended → View → Type 0
-NamesEnd a Done new = Unit {0}
-NamesEnd a Usage new = Unit {0}
-NamesEnd a (BadGeometry field) new = Unit {0}
-NamesEnd a (NotCreated why) new = Unit {0}
-NamesEnd a (NotMounted why) new = Unit {0}
 NamesEnd a (Stopped why) new = (b : Mounted) × (b.g ≡ a.g) × NamesBad b why new
-NamesEnd a Port new = Unit {0}
-NamesEnd a Memory new = Unit {0}
+NamesEnd a ended new = Unit {0}

@@ -19,7 +19,8 @@ use Rattle.trap_array.specs.Calls.{Mounted, StandsFor, IsReady, GoesOn}
 use Rattle.trap_array.specs.declared.fault.Denied.TheVariants.{Refused, LogFault, MemberFault, Damaged, Stopped}
 use Rattle.trap_session.specs.Store.{array_store, Answering, Served, StandsForNone, HasRisen}
 use Rattle.trap_session.specs.Answers.{Answers, HasAnswered, StandsOn, is_stopping, UnlessFailed, AnswersLine}
-use Rattle.trap_session.specs.Serving.{Serves, HasStopped, StopsAs, StopsBy, StopsAtPort, HoldsStill, Took, StandsAfter, HasServed}
+use Rattle.trap_session.specs.Serving.{Serves, HasStopped, StopsAs, StopsBy, StopsAtPort, HoldsStill, Took}
+use Rattle.trap_session.specs.Leaving.{StandsAfter, HasServed}
 use Rattle.trap_session.specs.declared.outcome.Next.{Next}
 use Rattle.trap_session.specs.declared.outcome.Next.TheVariants.{More, Quit}
 use Rattle.trap_session.specs.declared.outcome.Ended.{Ended}

@@ -8,12 +8,10 @@ use Rattle.trap_model.specs.declared.request.Request.{Request}
 use Rattle.trap_script.specs.Lines.{lines, lines_of, line_feeds, request_of, goes_on, HasNoFeed}
 use Rattle.trap_script.specs.Walk.{state_after, first_texts, Answered, AnsweredAll, AnsweredPart}
 use Rattle.trap_bank.specs.Steps.{Always}
-use Rattle.trap_model.specs.ArrayStep.{step}
 use Rattle.trap_model.specs.declared.history.State.{State}
-use Rattle.trap_array.specs.Calls.{Mounted, IsReady, GoesOn, StandsFor, HoldsLike}
+use Rattle.trap_array.specs.Calls.{Mounted, StandsFor, HoldsLike}
 use Rattle.trap_array.specs.declared.fault.Denied.TheVariants.{Stopped}
 use Rattle.trap_session.specs.Store.{Store, array_store, ComesWith, HasRisen}
-use Rattle.trap_session.specs.Answers.{is_stopping, UnlessFailed}
 use Rattle.trap_session.specs.declared.outcome.Next.{Next}
 use Rattle.trap_session.specs.declared.outcome.Next.TheVariants.{More, Quit}
 use Rattle.trap_session.specs.declared.outcome.Ended.{Ended}
@@ -137,20 +135,3 @@ HasStopped a v result from to old new = (s : State) → Always v (StandsFor a s)
 -- that names the same lost member.
 abbrev pub HoldsStill : Mounted → View → View → Type 0
 HoldsStill a old new = IsTrue old.tells → (s : State) → Always old (StandsFor a s) → (t : State) × HoldsLike a.g a.head t new.now.disks
-
--- the array stands for the state after the first lines of the input, where that is known
-pub record StandsAfter (a b : Mounted) (s : State) (new : View) (from : Stream) : Type 0 where
-  pub state : State
-  pub stands : Always new (StandsFor b state)
-  pub after : (input : List ℕ) → from.left ≡ Some input
-      → (j : ℕ) × (j ≤ length (lines a.g.block input)) × (state ≡ state_after (step a.g) s (lines a.g.block input) j)
-
--- What a session leaves of its array and its source. The array goes on with the same numbers and lost member, and is
--- ready, or stopped where a disk failed. Unless one did, it stands for a state where it stood for one on entry.
-pub record HasServed (a b : Mounted) (result : Result Ended SessionFault) (old new : View) (from to : Stream) : Type 0 where
-  pub goes_on : GoesOn a b
-  pub stopped : b.is_stopped ≡ is_stopping result
-  pub ready : IsReady b new
-  pub stands : UnlessFailed result (IsTrue old.tells → (s : State) → Always old (StandsFor a s) → StandsAfter a b s new from)
-  pub took : Took from to
-  pub all : result ≡ Ok ended.Input → IsAtEnd to.left

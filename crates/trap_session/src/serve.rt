@@ -6,7 +6,8 @@ ghost use Rattle.trap_lines.specs.Reader.{pending, taken, room};
 ghost use Rattle.trap_array.specs.Beside.{StaysFrom};
 ghost use Rattle.trap_array.specs.Calls.{IsReady};
 ghost use Rattle.trap_session.specs.Store.{NamesBad};
-ghost use Rattle.trap_session.specs.Serving.{Serves, HasStopped, StopsBy, HadNoQuit, HoldsStill, HasServed, ended_by};
+ghost use Rattle.trap_session.specs.Leaving.{HasServed};
+ghost use Rattle.trap_session.specs.Serving.{Serves, HasStopped, StopsBy, HadNoQuit, HoldsStill, ended_by};
 
 use crate::buffers::Buffers;
 use crate::{Ended, Next, SessionFault};

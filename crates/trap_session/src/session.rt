@@ -7,7 +7,8 @@ ghost use Rattle.trap_array.specs.Beside.{StaysFrom};
 ghost use Rattle.trap_array.specs.Calls.{IsReady};
 ghost use Rattle.trap_session.specs.Answers.{AnswersLine};
 ghost use Rattle.trap_session.specs.Store.{NamesBad};
-ghost use Rattle.trap_session.specs.Serving.{Serves, HasStopped, StopsBy, HadNoQuit, HoldsStill, HasServed};
+ghost use Rattle.trap_session.specs.Leaving.{HasServed};
+ghost use Rattle.trap_session.specs.Serving.{Serves, HasStopped, StopsBy, HadNoQuit, HoldsStill};
 
 use crate::buffers::Buffers;
 use crate::serve::serve;

@@ -31,6 +31,7 @@ returns g c = record {
       c.in-Err.ensures.ended.refused
       c.in-Err.ensures.ended.cause
       c.in-Err.ensures.ended.complete
+      c.in-Err.ensures.ended.shown
       c.in-Err.ensures.ended.nothing_written
       c.in-Err.ensures.ended.held;
 }

@@ -12,8 +12,8 @@ returns-in_default-clause-held g c = memory_held c.args.array (g.B.Bank.view c.a
 pub returns-in_default-clause-took : goal.returns-in_default-clause-took
 returns-in_default-clause-took g c = took_none (g.S.Source.stream c.args.source.now)
 
-pub returns-in-Err-clause-bad : goal.returns-in-Err-clause-bad
-returns-in-Err-clause-bad g c = (c.serve.new.array, c.in-Err.ensures.leaves.goes_on.g, c.in-Err.ensures.bad)
+pub returns-clause-bad : goal.returns-clause-bad
+returns-clause-bad g c = (c.serve.new.array, c.in-Err.ensures.leaves.goes_on.g, c.in-Err.ensures.bad)
 
 pub returns-in_default-clause-idle : goal.returns-in_default-clause-idle
 returns-in_default-clause-idle g c is = (refl, refl)

@@ -14,7 +14,8 @@ use Rattle.trap_script.specs.Lines.{lines, request_of, goes_on}
 use Rattle.trap_array.proofs.Beside.{stays_none, both_stay}
 use Rattle.trap_session.specs.Store.{array_store, NamesBad}
 use Rattle.trap_session.specs.Answers.{is_stopping}
-use Rattle.trap_session.specs.Serving.{Serves, HasStopped, StopsBy, HasServed}
+use Rattle.trap_session.specs.Serving.{Serves, HasStopped, StopsBy}
+use Rattle.trap_session.specs.Leaving.{HasServed}
 use Rattle.trap_session.proofs.Arrays.{goes_nowhere, goes_then}
 use Rattle.trap_session.proofs.Walking.{next_line, next_last}
 use Rattle.trap_session.proofs.Stopping.{line_at, last_line, stops_reading, stops_end, consumed, one_more_line, took_some, took_quit, took_last_quit, none_left, ended_last}
