@@ -1,5 +1,5 @@
 -- What a crash leaves, less the disk of one member.
-use Rattle.std.proofs.Common.{◌≡◌, ◌⊎◌, inl, inr, ⊎_elim, ℕ, ◌+◌, ◌<◌, List, Option, Some, None, IsTrue, refl, sym, subst, ◌∙◌}
+use Rattle.std.proofs.Common.{◌≡◌, inl, inr, ⊎_elim, ℕ, ◌+◌, List, Option, Some, None, refl, sym, subst, ◌∙◌}
 use Rattle.trap_bank.specs.Disks.{Disks, View, size_of}
 use Rattle.trap_bank.specs.Calls.{IsLawful}
 use Rattle.trap_bank.specs.Steps.{Always}
@@ -9,12 +9,12 @@ use Rattle.trap_model.specs.declared.numbers.Geometry.{Geometry}
 use Rattle.trap_model.specs.declared.history.State.{State}
 use Rattle.trap_script.specs.Lines.{lines}
 use Rattle.trap_script.specs.Walk.{state_after}
-use Rattle.trap_array.specs.Gone.{HoldsBut, IsRemoved}
+use Rattle.trap_array.specs.Gone.{HoldsBut}
 use Rattle.trap_array.specs.Holding.{Holds, HoldsBy}
 use Rattle.trap_array.specs.Mounting.{SameHead}
 use Rattle.trap_array.proofs.Removed.{removed_holds}
 use Rattle.trap_cli.specs.Stops.{BeginsTold}
-use Rattle.trap_cli.specs.Crash.{HoldsSince, LeftBesideHead, SessionLeaves, IsGivenOrNext, OneGone, replies_given}
+use Rattle.trap_cli.specs.Crash.{HoldsSince, LeftBesideHead, SessionLeaves, IsGivenOrNext, OneGone}
 use Rattle.trap_cli.proofs.Crashing.{none_given}
 use Rattle.trap_cli.proofs.Heads.{same_head_by}
 

@@ -14,7 +14,7 @@ use Rattle.trap_array.specs.Holding.{Holds, HoldsBy}
 use Rattle.trap_array.specs.Mounting.{Mounts, SameHead, FoundLost, KeepsLost}
 use Rattle.trap_mount.proofs.Puts.{put_in_cell, fits_put}
 use Rattle.trap_array.specs.Calls.{Mounted, StandsFor}
-use Rattle.trap_cli.specs.Crash.{WasOut, HoldsSince}
+use Rattle.trap_cli.specs.Crash.{HoldsSince}
 use Rattle.trap_cli.proofs.Stopping.{LostOn}
 use Rattle.trap_cli.specs.Run.{KeepsMembers, MembersStay}
 use Rattle.trap_cli.proofs.Saying.{rose_later}

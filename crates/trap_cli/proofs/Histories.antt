@@ -1,5 +1,5 @@
 -- All but the last line of `history`.
-use Rattle.std.proofs.Common.{◌≡◌, ◌≢◌, inl, inr, ⊎_elim, ℕ, ◌≤◌, List, [], ◌∷◌, ◌++◌, Some, Result, Ok, Err, true, false, IsTrue, refl, sym, ap, subst, ◌∙◌, append-nil, arith}
+use Rattle.std.proofs.Common.{◌≡◌, ◌≢◌, inl, inr, ⊎_elim, ℕ, ◌≤◌, List, [], ◌∷◌, ◌++◌, Result, Ok, Err, true, false, IsTrue, refl, sym, ap, subst, ◌∙◌, append-nil, arith}
 use Rattle.trap_bank.specs.Disks.{Contents, Disks, View, Quiet}
 use Rattle.trap_bank.specs.Faults.{Rose}
 use Rattle.trap_bank.specs.Calls.{MayLeave}
@@ -21,7 +21,7 @@ use Rattle.trap_cli.specs.Ended.{last_line}
 use Rattle.trap_cli.specs.History.{history_text}
 use Rattle.trap_cli.specs.Listing.{KeepsDisks, Lists, HasListed}
 use Rattle.trap_cli.specs.Cause.{IsMountable, WantsMemory, ShowsSizes}
-use Rattle.trap_cli.specs.Crash.{IsFaultFront, HoldsSince, HistoryLeaves, LeftSaid, Leaves, LeavesBefore}
+use Rattle.trap_cli.specs.Crash.{IsFaultFront, HistoryLeaves, LeftSaid, Leaves, LeavesBefore}
 use Rattle.trap_array.specs.Beside.{StaysFrom}
 use Rattle.trap_cli.specs.Run.{Works, TouchesBelow, LeavesOthers, MembersStay}
 use Rattle.trap_cli.proofs.Saying.{took_none}

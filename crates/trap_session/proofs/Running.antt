@@ -141,8 +141,7 @@ module _ (a : Mounted) (v : View) (from : Stream) where
             after_next input within same next = ⊎_elim
                 (λ (more : goes_on (request_of a.g.block line) ≡ true).
                 let at = next more in
-                let below = below_end (lines a.g.block input) (line_feeds passed) (request_of a.g.block line) at.0 at.1 in
-                (
+                let below = below_end (lines a.g.block input) (line_feeds passed) (request_of a.g.block line) at.0 at.1 in (
                   line_feeds passed + 1,
                   omega (arith, below),
                   ap (λ (t : State). (step a.g).next t (request_of a.g.block line)) (sym same)

@@ -16,8 +16,7 @@ returns-clause-holds g c array s m input p from left gone begins always leaves o
 pub returns-clause-answers : goal.returns-clause-answers
 returns-clause-answers g c array s m input p from left gone begins always leaves one status more told same known short runs nothing =
     let next = g.B.Bank.view c.args._next.now in
-    let held = gone_holds array s m input p (g.B.Bank.view c.args._bank.now) from (g.met.B.Bank.lawful c.args._bank.now) begins always left gone one leaves in
-    (
+    let held = gone_holds array s m input p (g.B.Bank.view c.args._bank.now) from (g.met.B.Bank.lawful c.args._bank.now) begins always left gone one leaves in (
       held.0,
       held.1,
       run_completes status (Some Session) next (g.B.Bank.view c.args._after.now) (g.S.Source.stream c.args._input.now) (g.S.Source.stream c.args._rest.now)
