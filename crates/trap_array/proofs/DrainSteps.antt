@@ -9,7 +9,7 @@ use Rattle.trap_format.specs.HeadValue.{IsHead, head_value}
 use Rattle.trap_model.specs.State.{last}
 use Rattle.trap_model.specs.declared.history.State.{State}
 use Rattle.trap_raid.specs.Condition.{Condition}
-use Rattle.trap_raid.specs.Draining.{AreDrained, Drains, writes_to}
+use Rattle.trap_raid.specs.Draining.{AreDrained, Drains, InDrained, writes_to}
 use Rattle.trap_raid.specs.Members.{Covered}
 use Rattle.trap_stage.specs.Pending.{pending}
 use Rattle.trap_stage.specs.Slots.{Stage, last_of}
@@ -43,21 +43,21 @@ module _ (log : Log) (is_head : log.cell.place ≡ head_place) (numbers : IsHead
       covered_outside log.g log.head s (pending log.g s log.head.last) (drop (last s - log.head.last) (pending log.g s log.head.drained)) parts e i
       (subst (λ (writes : List Staged). Covered log.g writes e i) (older s x stands) covered)
 
-  still : (w : View) → Moves v w (Differs (Covered k.g (writes_to log.stage log.head.last))) (Differs (Covered k.g (writes_to log.stage log.head.last))) → Moves v w (StillIf here v Whatever) (StillIf here v Whatever)
+  still : (w : View) → Moves v w (Differs (InDrained k.g k.lost k.rebuilt (writes_to log.stage log.head.last))) (Differs (InDrained k.g k.lost k.rebuilt (writes_to log.stage log.head.last))) → Moves v w (StillIf here v Whatever) (StillIf here v Whatever)
   still w moves =
-      let P : Condition → Type 0 = λ (c : Condition). Moves v w (Differs (Covered c.g (writes_to log.stage log.head.last))) (Differs (Covered c.g (writes_to log.stage log.head.last))) in
-      still_beside here Whatever (Covered log.g (writes_to log.stage log.head.last)) v w is_head
-      (λ s x was stands none e i covered. beside s x.disks stands e i covered) (subst P is_raid moves)
+      let P : Condition → Type 0 = λ (c : Condition). Moves v w (Differs (InDrained c.g c.lost c.rebuilt (writes_to log.stage log.head.last))) (Differs (InDrained c.g c.lost c.rebuilt (writes_to log.stage log.head.last))) in
+      still_beside here Whatever (InDrained log.g log.head.lost log.head.rebuilt (writes_to log.stage log.head.last)) v w is_head
+      (λ s x was stands none e i drained. beside s x.disks stands e i drained.covered) (subst P is_raid moves)
 
-  module _ (v1 : View) (drain : Moves v v1 (Differs (Covered k.g (writes_to log.stage log.head.last))) (Differs (Covered k.g (writes_to log.stage log.head.last)))) where
+  module _ (v1 : View) (drain : Moves v v1 (Differs (InDrained k.g k.lost k.rebuilt (writes_to log.stage log.head.last))) (Differs (InDrained k.g k.lost k.rebuilt (writes_to log.stage log.head.last)))) where
     pub drain_any : Moves v v1 (MayTurn here v same) (MayTurn here v same)
     drain_any = asked_may here Whatever same v v1 (λ s told always. tt) (still_may here Whatever same v v1 (still v1 drain))
 
     pub cell_still : Always v (Stands log.cell) → Always v1 (Stands log.cell)
     cell_still stands =
-        stands_apart (Covered k.g (writes_to log.stage log.head.last)) log.cell v v1 is_head (λ e i inside covered. omega (arith, inside.disk, covered.within.disk)) drain stands
+        stands_apart (InDrained k.g k.lost k.rebuilt (writes_to log.stage log.head.last)) log.cell v v1 is_head (λ e i inside drained. omega (arith, inside.disk, drained.covered.within.disk)) drain stands
 
-    module _ (drained : Moves v v1 (Differs (Covered k.g (writes_to log.stage log.head.last))) (Drains k.g k.lost k.rebuilt (writes_to log.stage log.head.last))) where
+    module _ (drained : Moves v v1 (Differs (InDrained k.g k.lost k.rebuilt (writes_to log.stage log.head.last))) (Drains k.g k.lost k.rebuilt (writes_to log.stage log.head.last))) where
       fits_then : (s : State) (x : Contents) → MayLeave v1 x → StandsFor here s x.disks → Whatever s → Fits log.g (drained_to log.head log.head.last) s x.disks
       fits_then s x left stands none =
           let P : Condition → Type 0 = λ (c : Condition). AreDrained c.g c.lost c.rebuilt (writes_to log.stage log.head.last) x.disks in

@@ -11,6 +11,8 @@ pub mod CommitSteps
 pub mod DrainSteps
 pub mod Reading
 pub mod Spelled
+pub mod AreaSteps
+pub mod Denials
 pub mod TurnSteps
 pub mod KeepSteps
 pub mod WriteSteps

@@ -110,9 +110,9 @@ look_calls log n turns old new one few none looks =
     record { way = looks.way; moment = λ told by_one. (let calls = looks.calls told by_one in omega arith) }
 
 -- a record isn't damaged where the log stands for a state
-pub look_damaged : (log same : Log) (old new : View) (result : Result (Unit {0}) Denied) (offset : ℕ) → IfErr result (λ fault. (log ≡ same) × LooksInVain log old new fault) → IsErrOf result (Damaged offset) → IsTrue old.tells → (s : State) → StandsFor (going log) s old.now.disks → ⊥
-look_damaged log same old new result offset caused is told s stands =
-    (subst (λ (r : Result (Unit {0}) Denied). IfErr r (λ fault. (log ≡ same) × LooksInVain log old new fault)) is caused).1.damaged offset refl told s stands
+pub look_damaged : (log same : Log) (was now : CallCounts) (old new : View) (result : Result (Unit {0}) Denied) (offset : ℕ) → IfErr result (λ fault. (log ≡ same) × LooksInVain log was now old new fault) → IsErrOf result (Damaged offset) → IsTrue old.tells → (s : State) → StandsFor (going log) s old.now.disks → ⊥
+look_damaged log same was now old new result offset caused is told s stands =
+    (subst (λ (r : Result (Unit {0}) Denied). IfErr r (λ fault. (log ≡ same) × LooksInVain log was now old new fault)) is caused).1.damaged offset refl told s stands
 
 -- ---- there is one last number by a time
 none_later : (i : Indexed) (time p q : ℕ) → IsLastBy i time p → IsLastBy i time q → p < q → ⊥

@@ -34,11 +34,11 @@ use Rattle.trap_scan.proofs.Fronts.{ring_front, snapshot_most}
 use Rattle.trap_scan.proofs.Taking.{ring_behind}
 use Rattle.trap_array.specs.Calls.{Mounted, StandsFor, going}
 use Rattle.trap_array.specs.Holding.{log_ring}
-use Rattle.trap_array.specs.Instants.{HasEntry, HasBadRecord, DeniesInstant}
+use Rattle.trap_array.specs.Instants.{HasEntry, HasBadRecord, FailsRecord, FailsLooking, DeniesInstant}
 use Rattle.trap_array.specs.Log.{Log}
 use Rattle.trap_array.specs.Sources.{part_block}
 use Rattle.trap_array.specs.declared.fault.Denied.{Denied}
-use Rattle.trap_array.specs.declared.fault.Denied.TheVariants.{Damaged}
+use Rattle.trap_array.specs.declared.fault.Denied.TheVariants.{Refused, LogFault, MemberFault, Damaged, Stopped}
 
 module _ (g : Geometry) (i : Indexed) (s : State) (q : ℕ) (valid : IsValid g s) (describes : Describes i s) (low : i.first < q) (high : q ≤ last_seq i) (time : (item_at i q).time < 2 ^ 64) where
   entry : Entry
@@ -227,3 +227,14 @@ module _ (log : Log) (disks : Disks) (q : ℕ) (item : Item) (has : HasEntry log
 pub bad_by : {T : Type 0} (a : Mounted) (old new : View) (result : Result T Denied) (offset : ℕ) → IfErr result (DeniesInstant a old new) → IsErrOf result (Damaged offset)
     → IsTrue old.tells → HasBadRecord a.g a.index old.now.disks offset
 bad_by {T = T} a old new result offset cause is told = (subst (λ (r : Result T Denied). IfErr r (DeniesInstant a old new)) is cause) told
+
+-- a record that can't be read fails a look back, and no member did
+pub record_looks : (a : Mounted) (v w : View) (e : Denied) → FailsRecord a v w e → FailsLooking a v w e
+record_looks a v w (Refused why) fails = fails
+record_looks a v w LogFault fails = fails
+record_looks a v w (MemberFault first second) fails = absurd fails
+record_looks a v w (Damaged offset) fails = fails
+record_looks a v w Stopped fails = fails
+
+pub record_alone : (a : Mounted) (v w : View) (e : Denied) → FailsRecord a v w e → (first second : ℕ) → e ≡ MemberFault first second → ⊥
+record_alone a v w e fails first second is = subst (FailsRecord a v w) is fails

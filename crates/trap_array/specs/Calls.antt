@@ -127,10 +127,3 @@ AtReplies (Err LogFault) bytes reply = Unit {0}
 AtReplies (Err (MemberFault first second)) bytes reply = Unit {0}
 AtReplies (Err (Damaged offset)) bytes reply = Unit {0}
 AtReplies (Err Stopped) bytes reply = Unit {0}
-
--- What a write did: its answer is this reply to the state that the array stood for, and after it the array stands for the
--- next state. Stopped at any moment, the disks hold the one or the other.
-pub record TakesStep (a b : Mounted) (next : State → State) (replies : State → Reply) (result : Result ℕ Denied) (old new : View) : Type 0 where
-  pub reply : IsTrue old.tells → (s : State) → Always old (StandsFor a s) → WriteReplies result (replies s)
-  pub turned : IsTrue (is_done result) → Moves old new (MayTurn a old next) (HasTurned a b old next)
-  pub any_moment : Moves old new (MayTurn a old next) (MayTurn a old next)

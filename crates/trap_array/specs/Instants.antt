@@ -8,8 +8,9 @@ use Rattle.trap_model.specs.LogRecord.{LogRecord}
 use Rattle.trap_model.specs.declared.numbers.Geometry.{Geometry}
 use Rattle.trap_model.specs.declared.request.Refusal.{Refusal}
 use Rattle.trap_model.specs.declared.request.Refusal.TheVariants.{NoBlock, NotKept, Ahead}
+use Rattle.trap_raid.specs.Reads.{HasFailed}
 use Rattle.trap_ring.specs.Ring.{ring_pos, RingHas}
-use Rattle.trap_array.specs.Calls.{Mounted, HasSizes, MemberFails}
+use Rattle.trap_array.specs.Calls.{Mounted, HasSizes}
 use Rattle.trap_array.specs.Holding.{log_ring}
 use Rattle.trap_array.specs.Log.{Log, AreInStep}
 use Rattle.trap_array.specs.declared.fault.Denied.{Denied}
@@ -49,11 +50,24 @@ pub record HasBadRecord (g : Geometry) (i : Indexed) (disks : Disks) (offset : �
   pub none : (parity snapshot bytes : List ℕ) → LogRecord g.block (rec_of seq (item_at i seq)) parity snapshot bytes
       → RingHas (log_ring g) (item_at i seq).off bytes disks → ⊥
 
+-- the log's disk failed, and its count of faults rose, or a record isn't the one that was there
+abbrev pub FailsRecord : Mounted → View → View → Denied → Type 0
+FailsRecord a old new (Refused why) = ⊥
+FailsRecord a old new LogFault = Rose (old.faults 0) (new.faults 0)
+FailsRecord a old new (MemberFault first second) = ⊥
+FailsRecord a old new (Damaged offset) = IsTrue old.tells → HasBadRecord a.g a.index old.now.disks offset
+FailsRecord a old new Stopped = ⊥
+
+-- A member failed that isn't the lost one, and the count of its disk rose. Both numbers are its own.
+pub record FailsRead (a : Mounted) (first second : ℕ) (old new : View) : Type 0 where
+  pub same : first ≡ second
+  pub member : HasFailed a.g a.head.lost old new second
+
 -- A disk failed, and its count of faults rose, or a record isn't the one that was there.
 abbrev pub FailsLooking : Mounted → View → View → Denied → Type 0
 FailsLooking a old new (Refused why) = ⊥
 FailsLooking a old new LogFault = Rose (old.faults 0) (new.faults 0)
-FailsLooking a old new (MemberFault first second) = MemberFails a first second old new
+FailsLooking a old new (MemberFault first second) = FailsRead a first second old new
 FailsLooking a old new (Damaged offset) = IsTrue old.tells → HasBadRecord a.g a.index old.now.disks offset
 FailsLooking a old new Stopped = ⊥
 
@@ -61,6 +75,6 @@ FailsLooking a old new Stopped = ⊥
 abbrev pub DeniesInstant : Mounted → View → View → Denied → Type 0
 DeniesInstant a old new (Refused why) = why ≢ NoBlock
 DeniesInstant a old new LogFault = Rose (old.faults 0) (new.faults 0)
-DeniesInstant a old new (MemberFault first second) = MemberFails a first second old new
+DeniesInstant a old new (MemberFault first second) = FailsRead a first second old new
 DeniesInstant a old new (Damaged offset) = IsTrue old.tells → HasBadRecord a.g a.index old.now.disks offset
 DeniesInstant a old new Stopped = ⊥

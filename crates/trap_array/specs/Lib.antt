@@ -4,6 +4,11 @@ pub mod NextHead
 pub mod Beside
 pub mod Calls
 pub mod Causes
+pub mod Untouched
+pub mod Owed
+pub mod Growing
+pub mod Areas
+pub mod Taking
 pub mod Ready
 pub mod Turning
 pub mod Gone

@@ -16,6 +16,7 @@ looks_then log same x y z a b c is first then =
     let second = subst (λ (l : Log). LooksOn l y z b c) (sym is) then in
     record {
       reads = only_reads_then a b c first.reads second.reads;
+      presents = omega (arith, first.presents, second.presents);
       way = second.way ∙ first.way;
       calls = λ told one.
           let before = first.calls told one in
@@ -33,24 +34,28 @@ fails_within m a b c d before after (Refused why) fails = fails
 fails_within m a b c d before after LogFault fails = omega (arith, fails, before.moves.faults 0, after.moves.faults 0)
 fails_within m a b c d before after (MemberFault first second) fails = record {
   same = fails.same;
-  inside = fails.inside;
-  counts = fails.counts;
-  rose = omega (arith, fails.rose, before.moves.faults (second + 1), after.moves.faults (second + 1));
+  member = record {
+    inside = fails.member.inside;
+    apart = fails.member.apart;
+    rose = omega (arith, fails.member.rose, before.moves.faults (second + 1), after.moves.faults (second + 1));
+  };
 }
 fails_within m a b c d before after (Damaged offset) fails = λ told.
     subst (λ (x : Contents). HasBadRecord m.g m.index x.disks offset) (before.same told) (fails (still_tells a b before told))
 fails_within m a b c d before after Stopped fails = fails
 
-pub vain_since : (log same : Log) (x y : CallCounts) (a b c : View) (e : Denied) → log ≡ same → LooksOn log x y a b → LooksInVain same b c e → LooksInVain log a c e
-vain_since log same x y a b c e is looks then =
-    let vain = subst (λ (l : Log). LooksInVain l b c e) (sym is) then in
+pub vain_since : (log same : Log) (x y z : CallCounts) (a b c : View) (e : Denied) → log ≡ same → LooksOn log x y a b → LooksInVain same y z b c e → LooksInVain log x z a c e
+vain_since log same x y z a b c e is looks then =
+    let vain = subst (λ (l : Log). LooksInVain l y z b c e) (sym is) then in
     record {
       fails = fails_within (going log) a b c c looks.reads (only_reads_none c) e vain.fails;
+      asked = λ first second at. (let later = vain.asked first second at in omega (arith, later, looks.presents));
       damaged = λ offset at told s stands. vain.damaged offset at (still_tells a b looks.reads told) s (still_stands log a b s looks.reads told stands);
     }
 
-pub vain_still : (log same : Log) (x y : CallCounts) (a b c : View) (e : Denied) → log ≡ same → LooksInVain log a b e → LooksOn same x y b c → LooksInVain log a c e
-vain_still log same x y a b c e is vain looks = record {
+pub vain_still : (log same : Log) (x y z : CallCounts) (a b c : View) (e : Denied) → log ≡ same → LooksInVain log x y a b e → LooksOn same y z b c → LooksInVain log x z a c e
+vain_still log same x y z a b c e is vain looks = record {
   fails = fails_within (going log) a a b c (only_reads_none a) looks.reads e vain.fails;
+  asked = λ first second at. (let before = vain.asked first second at in omega (arith, before, looks.presents));
   damaged = vain.damaged;
 }

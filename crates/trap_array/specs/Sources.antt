@@ -18,7 +18,7 @@ use Rattle.trap_array.specs.Calls.{StandsFor, going}
 use Rattle.trap_array.specs.Instants.{FailsLooking}
 use Rattle.trap_array.specs.Log.{Log, AreInStep}
 use Rattle.trap_array.specs.declared.fault.Denied.{Denied}
-use Rattle.trap_array.specs.declared.fault.Denied.TheVariants.{Damaged}
+use Rattle.trap_array.specs.declared.fault.Denied.TheVariants.{MemberFault, Damaged}
 
 -- the block that this part of an entry's record stands for
 abbrev pub part_block : Part → State → ℕ → List ℕ
@@ -76,10 +76,13 @@ reads_back g lost i block q = present_reads g lost + 2 * (path_to i block q).tur
 -- between these counts of the source's calls nothing was done but reads, and no more than they take
 pub record LooksOn (log : Log) (was now : CallCounts) (old new : View) : Type 0 where
   pub reads : OnlyReads old new
+  pub presents : was.presents ≤ now.presents
   pub way : new.by_one ≡ old.by_one
   pub calls : IsTrue old.tells → IsTrue old.by_one → new.moment + reads_for log was ≤ old.moment + reads_for log now
 
--- why a call of the source failed; a record is damaged only where the log stands for no state
-pub record LooksInVain (log : Log) (old new : View) (fault : Denied) : Type 0 where
+-- Why a call of the source failed, between these counts of its calls. A member failed only where the present was asked for,
+-- and a record is damaged only where the log stands for no state.
+pub record LooksInVain (log : Log) (was now : CallCounts) (old new : View) (fault : Denied) : Type 0 where
   pub fails : FailsLooking (going log) old new fault
+  pub asked : (first second : ℕ) → fault ≡ MemberFault first second → was.presents < now.presents
   pub damaged : (offset : ℕ) → fault ≡ Damaged offset → IsTrue old.tells → (s : State) → StandsFor (going log) s old.now.disks → ⊥

@@ -1,11 +1,11 @@
 //! The commit of a write: its record, its slot, and then the head that names both.
 
-ghost use Rattle.std.specs.Prelude.{◌≡◌, ℕ, ◌+◌, length, OnOk, OnErr};
+ghost use Rattle.std.specs.Prelude.{◌≡◌, ℕ, ◌+◌, ◌∷◌, length, OnOk, OnErr};
 ghost use Rattle.trap_bank.specs.Faults.{Rose};
 ghost use Rattle.trap_bank.specs.Steps.{Moves, Always};
 ghost use Rattle.trap_cell.specs.Slots.{Stands};
 ghost use Rattle.trap_model.specs.ArrayStep.{added};
-ghost use Rattle.trap_array.specs.Beside.{StaysFrom};
+ghost use Rattle.trap_array.specs.Areas.{Touches, InCommit};
 ghost use Rattle.trap_array.specs.Calls.{GoesOn, MayTurn, HasTurned, going};
 ghost use Rattle.trap_array.specs.Log.{AreInStep};
 ghost use Rattle.trap_array.specs.NextHead.{committed, entry_for};
@@ -35,11 +35,14 @@ impl Log {
             (MayTurn (going self.old) (B.view bank.old) (λ s. added s (entry_for time block bytes.now)))
             (HasTurned (going self.old) (going self.new) (B.view bank.old) (λ s. added s (entry_for time block bytes.now)))) }
         ensures head { OnOk result (self.new.head ≡ committed self.old.head time (length spelled.now)) }
+        ensures head_stays { OnErr result (self.new.head ≡ self.old.head) }
+        ensures pending { OnOk result (self.new.stage.pending
+            ≡ (record { block = block; bytes = bytes.now; parity = parity.now }) ∷ self.old.stage.pending) }
         ensures in_step { OnOk result (AreInStep self.new.head self.new.stage self.new.index) }
         ensures stands { OnOk result (Always (B.view bank.new) (Stands self.new.cell)) }
         ensures goes_on { GoesOn (going self.old) (going self.new) }
         ensures sizes { (e : ℕ) → (B.view bank.new).sizes e ≡ (B.view bank.old).sizes e }
-        ensures others { StaysFrom (self.old.g.members + 1) (B.view bank.old) (B.view bank.new) }
+        ensures touches { Touches (InCommit (going self.old)) (B.view bank.old) (B.view bank.new) }
         ensures cause { OnErr result (Rose ((B.view bank.old).faults 0) ((B.view bank.new).faults 0)) }
 
         // Stopped at any moment, the disks hold the state without the entry or the one with it.

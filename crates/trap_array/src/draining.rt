@@ -1,9 +1,9 @@
 //! The drain: pending writes onto the members.
 
-ghost use Rattle.std.specs.Prelude.{◌≡◌, ℕ, ◌+◌, OnOk, IfErr};
+ghost use Rattle.std.specs.Prelude.{◌≡◌, ℕ, [], OnOk, OnErr, IfErr};
 ghost use Rattle.trap_bank.specs.Steps.{Moves, Always};
 ghost use Rattle.trap_cell.specs.Slots.{Stands};
-ghost use Rattle.trap_array.specs.Beside.{StaysFrom};
+ghost use Rattle.trap_array.specs.Areas.{Touches, InDrain};
 ghost use Rattle.trap_array.specs.Calls.{GoesOn, MayTurn, HasTurned, going};
 ghost use Rattle.trap_array.specs.Log.{AreInStep};
 ghost use Rattle.trap_array.specs.NextHead.{drained_to};
@@ -24,11 +24,13 @@ impl Log {
             (MayTurn (going self.old) (B.view bank.old) (λ s. s))
             (HasTurned (going self.old) (going self.new) (B.view bank.old) (λ s. s))) }
         ensures head { OnOk result (self.new.head ≡ drained_to self.old.head self.old.head.last) }
+        ensures head_stays { OnErr result (self.new.head ≡ self.old.head) }
+        ensures pending { OnOk result (self.new.stage.pending ≡ []) }
         ensures in_step { OnOk result (AreInStep self.new.head self.new.stage self.new.index) }
         ensures stands { OnOk result (Always (B.view bank.new) (Stands self.new.cell)) }
         ensures goes_on { GoesOn (going self.old) (going self.new) }
         ensures sizes { (e : ℕ) → (B.view bank.new).sizes e ≡ (B.view bank.old).sizes e }
-        ensures others { StaysFrom (self.old.g.members + 1) (B.view bank.old) (B.view bank.new) }
+        ensures touches { Touches (InDrain (going self.old)) (B.view bank.old) (B.view bank.new) }
         ensures cause { IfErr result (IsFaultOf (going self.old) (B.view bank.old) (B.view bank.new)) }
 
         // Stopped at any moment, the disks hold the same state.

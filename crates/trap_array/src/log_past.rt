@@ -40,7 +40,10 @@ impl<B: Bank> Present for LogPast<'_, '_, '_, B> {
         (B.view p.bank.now) (B.view q.bank.now)) };
 
     ghost causes = { λ p q fault. (p.log.now ≡ q.log.now)
-        × LooksInVain p.log.now (B.view p.bank.now) (B.view q.bank.now) fault };
+        × LooksInVain p.log.now
+        (record { presents = p.presents; parities = p.parities; snapshots = p.snapshots; faults = p.faults })
+        (record { presents = q.presents; parities = q.parities; snapshots = q.snapshots; faults = q.faults })
+        (B.view p.bank.now) (B.view q.bank.now) fault };
 
     fn present(&mut self, block: u32, into: &mut [u8], scratch: &mut [u8]) -> Result<(), Denied> {
         self.presents += 1;
@@ -55,9 +58,9 @@ impl<B: Bank> Present for LogPast<'_, '_, '_, B> {
 
     ghost goes_then = { λ a b c ab bc. (ab.0 ∙ bc.0, (ab.1.0 ∙ bc.1.0, looks_then _ _ _ _ _ _ _ _ ab.1.0 ab.1.1 bc.1.1)) };
 
-    ghost causes_since = { λ a b c fault ab bc. (ab.1.0 ∙ bc.0, vain_since _ _ _ _ _ _ _ fault ab.1.0 ab.1.1 bc.1) };
+    ghost causes_since = { λ a b c fault ab bc. (ab.1.0 ∙ bc.0, vain_since _ _ _ _ _ _ _ _ fault ab.1.0 ab.1.1 bc.1) };
 
-    ghost causes_still = { λ a b c fault ab bc. (ab.0 ∙ bc.1.0, vain_still _ _ _ _ _ _ _ fault ab.0 ab.1 bc.1.1) };
+    ghost causes_still = { λ a b c fault ab bc. (ab.0 ∙ bc.1.0, vain_still _ _ _ _ _ _ _ _ fault ab.0 ab.1 bc.1.1) };
 }
 
 impl<B: Bank> Parities for LogPast<'_, '_, '_, B> {

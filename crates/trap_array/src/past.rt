@@ -1,17 +1,18 @@
 //! Reads of earlier instants.
 
-ghost use Rattle.std.specs.Prelude.{◌≡◌, ◌≤◌, ◌<◌, ℕ, length, IsTrue, IsErrOf, IfErr, ◌||◌};
+ghost use Rattle.std.specs.Prelude.{◌≡◌, ◌↔◌, ◌≤◌, ◌<◌, ℕ, length, IsTrue, IsErrOf, IfErr, ◌||◌};
 ghost use Rattle.trap_bank.specs.Steps.{Always};
 ghost use Rattle.trap_model.specs.ArrayStep.{step};
 ghost use Rattle.trap_model.specs.Image.{volume};
 ghost use Rattle.trap_model.specs.State.{image_at, image_by};
 ghost use Rattle.trap_model.specs.declared.history.State.{State};
+ghost use Rattle.trap_model.specs.declared.request.Refusal.{Refusal};
 ghost use Rattle.trap_model.specs.declared.request.Request.TheVariants as request;
 ghost use Rattle.trap_index.specs.Describes.{Describes};
 ghost use Rattle.trap_index.specs.Indexed.{IsLastBy};
 ghost use Rattle.trap_raid.specs.Reads.{OnlyReads};
 ghost use Rattle.trap_array.specs.Calls.{IsReady, StandsFor, AtReplies, is_fault, going};
-ghost use Rattle.trap_array.specs.Causes.{DeniedBy};
+ghost use Rattle.trap_array.specs.Causes.{DeniedBy, of_number, of_time};
 ghost use Rattle.trap_array.specs.Instants.{CanLookBack, DeniesInstant, HasBadRecord, number_refused, time_refused};
 ghost use Rattle.trap_array.specs.Log.{AreFor};
 ghost use Rattle.trap_array.specs.Sources.{CallsAtMost, reads_back};
@@ -45,7 +46,7 @@ impl Array {
             (B.view bank.old) (B.view bank.new) }
         ensures ready { IsReady self.new (B.view bank.new) }
         ensures same { self.new ≡ record self.old { is_stopped = self.old.is_stopped || is_fault result } }
-        ensures causes { DeniedBy self.old block result (B.view bank.old) (B.view bank.new) }
+        ensures causes { DeniedBy self.old block (of_number self.old seq) result (B.view bank.old) (B.view bank.new) }
 
         // A record that is read again is damaged only where none with the header that the array knows stands there, so
         // never where the array stands for a state.
@@ -87,7 +88,7 @@ impl Array {
             (reads_back self.old.g self.old.head.lost self.old.index block seq) (B.view bank.old) (B.view bank.new) }
         ensures ready { IsReady self.new (B.view bank.new) }
         ensures same { self.new ≡ record self.old { is_stopped = self.old.is_stopped || is_fault result } }
-        ensures causes { DeniedBy self.old block result (B.view bank.old) (B.view bank.new) }
+        ensures causes { DeniedBy self.old block (of_time self.old time) result (B.view bank.old) (B.view bank.new) }
         ensures bad { (offset : ℕ) → IsErrOf result (Denied.Damaged offset) → IsTrue (B.view bank.old).tells
             → HasBadRecord self.old.g self.old.index (B.view bank.old).now.disks offset }
         ensures damaged { (offset : ℕ) → IsErrOf result (Denied.Damaged offset) → IsTrue (B.view bank.old).tells
@@ -129,6 +130,7 @@ impl Log {
             → (s : State) → StandsFor (going self.now) s (B.view bank.old).now.disks → ⊥ }
         ensures room { AreFor self.now.g.block room.new }
         ensures cause { IfErr result (DeniesInstant (going self.now) (B.view bank.old) (B.view bank.new)) }
+        ensures refused { (why : Refusal) → (result ≡ Err (Denied.Refused why)) ↔ (number_refused self.now.index seq ≡ Some why) }
         ensures calls { CallsAtMost (reads_back self.now.g self.now.head.lost self.now.index block seq)
             (B.view bank.old) (B.view bank.new) }
         ensures any_moment { OnlyReads (B.view bank.old) (B.view bank.new) }
@@ -165,6 +167,7 @@ impl Log {
             → (s : State) → StandsFor (going self.now) s (B.view bank.old).now.disks → ⊥ }
         ensures room { AreFor self.now.g.block room.new }
         ensures cause { IfErr result (DeniesInstant (going self.now) (B.view bank.old) (B.view bank.new)) }
+        ensures refused { (why : Refusal) → (result ≡ Err (Denied.Refused why)) ↔ (time_refused self.now.index time ≡ Some why) }
         ensures calls { (seq : ℕ) → IsLastBy self.now.index time seq → CallsAtMost
             (reads_back self.now.g self.now.head.lost self.now.index block seq) (B.view bank.old) (B.view bank.new) }
         ensures any_moment { OnlyReads (B.view bank.old) (B.view bank.new) }

@@ -9,7 +9,7 @@ ghost use Rattle.trap_model.specs.declared.request.Request.TheVariants as reques
 ghost use Rattle.trap_array.specs.Sources.{CallsAtMost, present_reads};
 ghost use Rattle.trap_raid.specs.Reads.{OnlyReads};
 ghost use Rattle.trap_array.specs.Calls.{IsReady, StandsFor, ReadReplies, is_fault};
-ghost use Rattle.trap_array.specs.Causes.{DeniedBy};
+ghost use Rattle.trap_array.specs.Causes.{DeniedBy, of_read};
 
 use crate::planning::volume_of;
 use crate::{Array, Denied};
@@ -29,7 +29,7 @@ impl Array {
         ensures calls { CallsAtMost (present_reads self.old.g self.old.head.lost) (B.view bank.old) (B.view bank.new) }
         ensures ready { IsReady self.new (B.view bank.new) }
         ensures same { self.new ≡ record self.old { is_stopped = self.old.is_stopped || is_fault result } }
-        ensures causes { DeniedBy self.old block result (B.view bank.old) (B.view bank.new) }
+        ensures causes { DeniedBy self.old block (of_read self.old) result (B.view bank.old) (B.view bank.new) }
         ensures damaged { (offset : ℕ) → IsErrOf result (Denied.Damaged offset) → ⊥ }
 
         // Stopped at any moment, the disks are as they were.

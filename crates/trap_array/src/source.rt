@@ -11,7 +11,7 @@ ghost use Rattle.trap_raid.specs.Reads.{OnlyReads};
 ghost use Rattle.trap_ring.specs.Ring.{ring_pos};
 ghost use Rattle.trap_array.specs.Calls.{StandsFor, going};
 ghost use Rattle.trap_array.specs.Holding.{log_ring};
-ghost use Rattle.trap_array.specs.Instants.{CanLookBack, HasEntry, HasInstant, FailsLooking};
+ghost use Rattle.trap_array.specs.Instants.{CanLookBack, HasEntry, HasInstant, FailsLooking, FailsRecord};
 ghost use Rattle.trap_array.specs.Sources.{CallsAtMost, part_block, reads_back};
 ghost use Rattle.trap_array.specs.declared.fault.Denied.TheVariants as Denied;
 ghost use Rattle.trap_record.specs.declared.parts.Part.TheVariants as Part;
@@ -98,7 +98,7 @@ impl Log {
             → OnOk result (into.new ≡ part_block part s seq) }
         ensures damaged { (offset : ℕ) → IsErrOf result (Denied.Damaged offset) → IsTrue (B.view bank.old).tells
             → (s : State) → StandsFor (going self.now) s (B.view bank.old).now.disks → ⊥ }
-        ensures cause { IfErr result (FailsLooking (going self.now) (B.view bank.old) (B.view bank.new)) }
+        ensures cause { IfErr result (FailsRecord (going self.now) (B.view bank.old) (B.view bank.new)) }
 
         // A record that goes round the ring's end takes two reads.
         ensures calls { CallsAtMost 2 (B.view bank.old) (B.view bank.new) }

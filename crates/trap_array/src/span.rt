@@ -28,7 +28,13 @@ pub struct Span {
 impl Array {
     /// The numbers and times of what is retained.
     pub fn span(&self) -> Span
-        ensures { (s : State) (disks : Disks) → StandsFor self.now s disks → (step self.now.g).reply s request.Info
+        ensures head { result ≡ record {
+          first = self.now.head.first;
+          last = self.now.head.last;
+          base_time = self.now.head.base_time;
+          last_time = self.now.head.last_time;
+        } }
+        ensures reply { (s : State) (disks : Disks) → StandsFor self.now s disks → (step self.now.g).reply s request.Info
             ≡ reply.Span result.first result.last result.base_time result.last_time }
     {
         let head = &self.log.head;

@@ -1,11 +1,10 @@
 //! A write of one block.
 
 ghost use Rattle.std.specs.Prelude.{◌≡◌, ℕ, ◌+◌, length, IsErrOf, ◌||◌};
-ghost use Rattle.trap_model.specs.ArrayStep.{step};
-ghost use Rattle.trap_model.specs.declared.request.Request.TheVariants as request;
 ghost use Rattle.trap_array.specs.Beside.{StaysFrom};
-ghost use Rattle.trap_array.specs.Calls.{IsReady, GoesOn, TakesStep, is_fault};
-ghost use Rattle.trap_array.specs.Causes.{DeniedBy};
+ghost use Rattle.trap_array.specs.Calls.{IsReady, GoesOn, is_fault};
+ghost use Rattle.trap_array.specs.Causes.{DeniedBy, of_write};
+ghost use Rattle.trap_array.specs.Taking.{TakesStep};
 
 use crate::planning::volume_of;
 use crate::{Array, Denied};
@@ -26,15 +25,13 @@ impl Array {
         requires ready { IsReady self.old (B.view bank.old) }
 
         // What was done is what the model's step does, and what is answered is its reply. Stopped at any moment, the disks
-        // hold the state before the write or the one after it.
-        ensures takes { TakesStep self.old self.new (λ s. (step self.old.g).next s (request.Write time block bytes.now))
-            (λ s. (step self.old.g).reply s (request.Write time block bytes.now))
-            result (B.view bank.old) (B.view bank.new) }
+        // hold the state before the write or the one after it. An answer says how many writes are pending after it.
+        ensures takes { TakesStep self.old self.new time block bytes.now result (B.view bank.old) (B.view bank.new) }
         ensures ready { IsReady self.new (B.view bank.new) }
         ensures goes_on { GoesOn self.old self.new }
         ensures sizes { (e : ℕ) → (B.view bank.new).sizes e ≡ (B.view bank.old).sizes e }
         ensures others { StaysFrom (self.old.g.members + 1) (B.view bank.old) (B.view bank.new) }
-        ensures causes { DeniedBy self.old block result (B.view bank.old) (B.view bank.new) }
+        ensures causes { DeniedBy self.old block (of_write self.old time) result (B.view bank.old) (B.view bank.new) }
         ensures damaged { (offset : ℕ) → IsErrOf result (Denied.Damaged offset) → ⊥ }
 
         // A fault stops the array.

@@ -1,10 +1,13 @@
-use Rattle.std.proofs.Common.{rules, ◌≡◌, false, sym, subst}
+use Rattle.std.proofs.Common.{rules, ◌≡◌, ◌<◌, Bool, false, refl, sym, subst}
 use Rattle.trap_bank.specs.Steps.{Always}
+use Rattle.trap_model.specs.Image.{volume}
 use Rattle.trap_bank.proofs.Moves.{read_is_left}
 use Rattle.trap_array.specs.Calls.{Mounted, StandsFor, IsReady, going}
-use Rattle.trap_array.specs.Instants.{HasBadRecord}
+use Rattle.trap_array.specs.Causes.{DeniedBy, of_time}
+use Rattle.trap_array.specs.Instants.{HasBadRecord, time_refused}
+use Rattle.trap_array.proofs.Denials.{denied_reading, time_not_full}
 use Rattle.trap_array.proofs.Sources.{bad_by}
-use Rattle.trap_array.proofs.WriteSteps.{as_going, ready_still}
+use Rattle.trap_array.proofs.WriteSteps.{mounted, as_going, ready_still}
 use Rattle.trap_array.proofs.array.Array.at_time.Goals as goal
 
 pub returns-clause-bad : goal.returns-clause-bad
@@ -26,3 +29,17 @@ returns-clause-ready g c =
     let going_ : c.self.inside.is_stopped ≡ false = search rules in
     let ready = subst (λ (m : Mounted). IsReady m old) (sym c.self.view_is) c.requires.ready in
     ready_still c.self.inside.log c.self.inside.is_stopped c.has_failed-self-inside.result old (g.B.Bank.view c.read_by-answer.new.bank) c.read_by-answer.ensures.any_moment going_ ready
+
+pub returns-clause-causes : goal.returns-clause-causes
+returns-clause-causes g c =
+    let old = g.B.Bank.view c.args.bank.now in
+    let new = g.B.Bank.view c.read_by-answer.new.bank in
+    let log = c.self.inside.log in
+    let result = c.read_by-answer.result in
+    let going_ : c.self.inside.is_stopped ≡ false = search rules in
+    let inside : c.args.block < volume log.g = search rules in
+    let P : Mounted → Type 0 = λ (m : Mounted). DeniedBy m c.args.block (of_time m c.args.time) result old new in
+    let S : Bool → Type 0 = λ (stopped : Bool). DeniedBy (mounted log stopped) c.args.block (of_time (mounted log stopped) c.args.time) result old new in
+    subst P c.self.view_is
+    (subst S (sym going_)
+    (denied_reading (going log) c.args.block (time_refused log.index c.args.time) result old new inside refl c.read_by-answer.ensures.cause c.read_by-answer.ensures.refused (time_not_full log.index c.args.time)))

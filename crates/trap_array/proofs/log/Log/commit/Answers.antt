@@ -3,12 +3,12 @@ use Rattle.trap_bank.specs.Steps.{Moves}
 use Rattle.trap_bank.proofs.Moves.{sync_steps}
 use Rattle.trap_model.specs.ArrayStep.{added}
 use Rattle.trap_model.specs.declared.history.Entry.{Entry}
-use Rattle.trap_array.specs.Beside.{StaysFrom}
+use Rattle.trap_array.specs.Areas.{Touches, InCommit}
 use Rattle.trap_array.specs.Calls.{MayTurn, HasTurned, going}
 use Rattle.trap_array.specs.Log.{Log}
 use Rattle.trap_array.specs.NextHead.{committed, entry_for}
 use Rattle.trap_array.specs.Ready.{CanCommit}
-use Rattle.trap_array.proofs.Beside.{append_stays, fill_stays, sync_stays, put_stays}
+use Rattle.trap_array.proofs.AreaSteps.{append_touches, fill_touches, sync_touches, commit_touches}
 use Rattle.trap_array.proofs.CommitSteps.{cell_room, append_any, fill_any, sync_any, cell_still, put_any, put_ok, settled_there}
 use Rattle.trap_array.proofs.IndexSteps.{next_in_step}
 use Rattle.trap_array.proofs.Sizes.{fits_still}
@@ -134,51 +134,56 @@ returns-clause-in_step g c =
     let can = subst (λ (l : Log). CanCommit l old entry c.args.parity.now c.args.spelled.now) (sym c.self.view_is) c.requires.can in
     next_in_step log.head entry (length c.args.spelled.now) log.stage c.fill.new.self _ log.index c.add.new.self can.in_step c.in_ok-fill.ensures.ok c.add.ensures
 
-pub returns-in_err-append-clause-others : goal.returns-in_err-append-clause-others
-returns-in_err-append-clause-others g c =
+pub returns-in_err-append-clause-touches : goal.returns-in_err-append-clause-touches
+returns-in_err-append-clause-touches g c =
     let old = g.B.Bank.view c.args.bank.now in
     let v1 = g.B.Bank.view c.append.new.bank in
     let log : Log = record { g = c.self.inside.g; head = c.self.inside.head; cell = c.self.inside.cell; stage = c.self.inside.stage; index = c.self.inside.index } in
-    subst (λ (l : Log). StaysFrom (l.g.members + 1) old v1) c.self.view_is
-    (append_stays log c.self.invariant.place c.ring_of-ring.result c.ring_of-ring.ensures old v1 _ _ c.append.ensures.contents)
+    let can = subst (λ (l : Log). CanCommit l old (entry_for c.args.time c.args.block c.args.bytes.now) c.args.parity.now c.args.spelled.now) (sym c.self.view_is) c.requires.can in
+    subst (λ (l : Log). Touches (InCommit (going l)) old v1) c.self.view_is
+    (append_touches log c.self.invariant.place c.self.invariant.same c.ring_of-ring.result c.ring_of-ring.ensures (length c.args.spelled.now) can.next.offsets.window old v1 c.append.ensures.contents c.append.ensures.any_moment)
 
-pub returns-in_err-fill-clause-others : goal.returns-in_err-fill-clause-others
-returns-in_err-fill-clause-others g c =
-    let old = g.B.Bank.view c.args.bank.now in
-    let v1 = g.B.Bank.view c.append.new.bank in
-    let v2 = g.B.Bank.view c.fill.new.bank in
-    let log : Log = record { g = c.self.inside.g; head = c.self.inside.head; cell = c.self.inside.cell; stage = c.self.inside.stage; index = c.self.inside.index } in
-    subst (λ (l : Log). StaysFrom (l.g.members + 1) old v2) c.self.view_is
-    (fill_stays log c.self.invariant.place c.ring_of-ring.result c.ring_of-ring.ensures old v1 _ _ c.append.ensures.contents v2 c.append.ensures.any_moment.tells c.self.inside.stage.g _ c.fill.ensures.contents)
-
-pub returns-in_err-sync-clause-others : goal.returns-in_err-sync-clause-others
-returns-in_err-sync-clause-others g c =
+pub returns-in_err-fill-clause-touches : goal.returns-in_err-fill-clause-touches
+returns-in_err-fill-clause-touches g c =
     let old = g.B.Bank.view c.args.bank.now in
     let v1 = g.B.Bank.view c.append.new.bank in
     let v2 = g.B.Bank.view c.fill.new.bank in
-    let v3 = g.B.Bank.view c.sync.new.self in
     let log : Log = record { g = c.self.inside.g; head = c.self.inside.head; cell = c.self.inside.cell; stage = c.self.inside.stage; index = c.self.inside.index } in
-    subst (λ (l : Log). StaysFrom (l.g.members + 1) old v3) c.self.view_is
-    (sync_stays log c.self.invariant.place c.ring_of-ring.result c.ring_of-ring.ensures old v1 _ _ c.append.ensures.contents v2 c.append.ensures.any_moment.tells c.self.inside.stage.g _ c.fill.ensures.contents v3 c.fill.ensures.any_moment.tells c.sync.ensures.call.same)
+    let can = subst (λ (l : Log). CanCommit l old (entry_for c.args.time c.args.block c.args.bytes.now) c.args.parity.now c.args.spelled.now) (sym c.self.view_is) c.requires.can in
+    subst (λ (l : Log). Touches (InCommit (going l)) old v2) c.self.view_is
+    (fill_touches log c.self.invariant.place c.self.invariant.same c.ring_of-ring.result c.ring_of-ring.ensures (length c.args.spelled.now) can.next.offsets.window old v1 c.append.ensures.contents c.append.ensures.any_moment v2 c.fill.ensures.contents c.fill.ensures.any_moment)
 
-pub returns-in_err-put-clause-others : goal.returns-in_err-put-clause-others
-returns-in_err-put-clause-others g c =
+pub returns-in_err-sync-clause-touches : goal.returns-in_err-sync-clause-touches
+returns-in_err-sync-clause-touches g c =
     let old = g.B.Bank.view c.args.bank.now in
     let v1 = g.B.Bank.view c.append.new.bank in
     let v2 = g.B.Bank.view c.fill.new.bank in
     let v3 = g.B.Bank.view c.sync.new.self in
-    let v4 = g.B.Bank.view c.put.new.bank in
     let log : Log = record { g = c.self.inside.g; head = c.self.inside.head; cell = c.self.inside.cell; stage = c.self.inside.stage; index = c.self.inside.index } in
-    subst (λ (l : Log). StaysFrom (l.g.members + 1) old v4) c.self.view_is
-    (put_stays log c.self.invariant.place c.ring_of-ring.result c.ring_of-ring.ensures old v1 _ _ c.append.ensures.contents v2 c.append.ensures.any_moment.tells c.self.inside.stage.g _ c.fill.ensures.contents v3 c.fill.ensures.any_moment.tells c.sync.ensures.call.same v4 _ c.sync.ensures.call.goes.tells c.put.ensures.contents)
+    let can = subst (λ (l : Log). CanCommit l old (entry_for c.args.time c.args.block c.args.bytes.now) c.args.parity.now c.args.spelled.now) (sym c.self.view_is) c.requires.can in
+    subst (λ (l : Log). Touches (InCommit (going l)) old v3) c.self.view_is
+    (sync_touches log c.self.invariant.place c.self.invariant.same c.ring_of-ring.result c.ring_of-ring.ensures (length c.args.spelled.now) can.next.offsets.window old v1 c.append.ensures.contents c.append.ensures.any_moment v2 c.fill.ensures.contents c.fill.ensures.any_moment v3 c.sync.ensures.call.same (sync_steps _ _ _ _ c.sync.ensures.call))
 
-pub returns-clause-others : goal.returns-clause-others
-returns-clause-others g c =
+pub returns-in_err-put-clause-touches : goal.returns-in_err-put-clause-touches
+returns-in_err-put-clause-touches g c =
     let old = g.B.Bank.view c.args.bank.now in
     let v1 = g.B.Bank.view c.append.new.bank in
     let v2 = g.B.Bank.view c.fill.new.bank in
     let v3 = g.B.Bank.view c.sync.new.self in
     let v4 = g.B.Bank.view c.put.new.bank in
     let log : Log = record { g = c.self.inside.g; head = c.self.inside.head; cell = c.self.inside.cell; stage = c.self.inside.stage; index = c.self.inside.index } in
-    subst (λ (l : Log). StaysFrom (l.g.members + 1) old v4) c.self.view_is
-    (put_stays log c.self.invariant.place c.ring_of-ring.result c.ring_of-ring.ensures old v1 _ _ c.append.ensures.contents v2 c.append.ensures.any_moment.tells c.self.inside.stage.g _ c.fill.ensures.contents v3 c.fill.ensures.any_moment.tells c.sync.ensures.call.same v4 _ c.sync.ensures.call.goes.tells c.put.ensures.contents)
+    let can = subst (λ (l : Log). CanCommit l old (entry_for c.args.time c.args.block c.args.bytes.now) c.args.parity.now c.args.spelled.now) (sym c.self.view_is) c.requires.can in
+    subst (λ (l : Log). Touches (InCommit (going l)) old v4) c.self.view_is
+    (commit_touches log c.self.invariant.place c.self.invariant.same c.ring_of-ring.result c.ring_of-ring.ensures (length c.args.spelled.now) can.next.offsets.window old v1 c.append.ensures.contents c.append.ensures.any_moment v2 c.fill.ensures.contents c.fill.ensures.any_moment v3 c.sync.ensures.call.same (sync_steps _ _ _ _ c.sync.ensures.call) v4 c.value_of-value.result c.put.ensures.contents c.put.ensures.any_moment)
+
+pub returns-clause-touches : goal.returns-clause-touches
+returns-clause-touches g c =
+    let old = g.B.Bank.view c.args.bank.now in
+    let v1 = g.B.Bank.view c.append.new.bank in
+    let v2 = g.B.Bank.view c.fill.new.bank in
+    let v3 = g.B.Bank.view c.sync.new.self in
+    let v4 = g.B.Bank.view c.put.new.bank in
+    let log : Log = record { g = c.self.inside.g; head = c.self.inside.head; cell = c.self.inside.cell; stage = c.self.inside.stage; index = c.self.inside.index } in
+    let can = subst (λ (l : Log). CanCommit l old (entry_for c.args.time c.args.block c.args.bytes.now) c.args.parity.now c.args.spelled.now) (sym c.self.view_is) c.requires.can in
+    subst (λ (l : Log). Touches (InCommit (going l)) old v4) c.self.view_is
+    (commit_touches log c.self.invariant.place c.self.invariant.same c.ring_of-ring.result c.ring_of-ring.ensures (length c.args.spelled.now) can.next.offsets.window old v1 c.append.ensures.contents c.append.ensures.any_moment v2 c.fill.ensures.contents c.fill.ensures.any_moment v3 c.sync.ensures.call.same (sync_steps _ _ _ _ c.sync.ensures.call) v4 c.value_of-value.result c.put.ensures.contents c.put.ensures.any_moment)

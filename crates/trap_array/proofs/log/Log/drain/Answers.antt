@@ -1,14 +1,15 @@
-use Rattle.std.proofs.Common.{◌+◌, sym, subst}
+use Rattle.std.proofs.Common.{◌+◌, ◌-◌, sym, subst, ◌∙◌, arith}
 use Rattle.trap_bank.specs.Steps.{Moves}
 use Rattle.trap_raid.specs.Condition.{Condition}
 use Rattle.trap_raid.specs.Members.{MembersFit}
 use Rattle.trap_raid.proofs.FitLemmas.{fits_from_sizes}
-use Rattle.trap_array.specs.Beside.{StaysFrom}
+use Rattle.trap_stage.specs.Slots.{last_of}
+use Rattle.trap_array.specs.Areas.{Touches, InDrain}
 use Rattle.trap_array.specs.Calls.{MayTurn, HasTurned, going}
 use Rattle.trap_array.specs.Log.{Log}
 use Rattle.trap_array.specs.NextHead.{drained_to}
 use Rattle.trap_array.specs.Ready.{CanDrain}
-use Rattle.trap_array.proofs.Beside.{raid_stays, drain_stays}
+use Rattle.trap_array.proofs.AreaSteps.{raid_touches, drain_touches, take_none}
 use Rattle.trap_array.proofs.CommitSteps.{cell_room}
 use Rattle.trap_array.proofs.DrainSteps.{drain_any, cell_still, put_any, put_ok}
 use Rattle.trap_array.proofs.Sizes.{fits_still}
@@ -89,28 +90,37 @@ returns-clause-any_moment g c =
     subst P c.self.view_is
     (put_any log c.self.invariant.place c.self.invariant.is_head can.in_step old c.new-raid.result c.new-raid.ensures v1 c.drain.ensures.any_moment c.in_ok-drain.ensures.ok v2 c.value_of-value.result c.value_of-value.ensures c.put.ensures.any_moment)
 
-pub returns-in_err-drain-clause-others : goal.returns-in_err-drain-clause-others
-returns-in_err-drain-clause-others g c =
+pub returns-in_err-drain-clause-touches : goal.returns-in_err-drain-clause-touches
+returns-in_err-drain-clause-touches g c =
     let old = g.B.Bank.view c.args.bank.now in
     let v1 = g.B.Bank.view c.drain.new.bank in
     let log : Log = record { g = c.self.inside.g; head = c.self.inside.head; cell = c.self.inside.cell; stage = c.self.inside.stage; index = c.self.inside.index } in
-    subst (λ (l : Log). StaysFrom (l.g.members + 1) old v1) c.self.view_is
-    (raid_stays log old v1 c.new-raid.result c.new-raid.ensures _ c.drain.ensures.contents)
+    let can = subst (λ (l : Log). CanDrain l old) (sym c.self.view_is) c.requires.can in
+    subst (λ (l : Log). Touches (InDrain (going l)) old v1) c.self.view_is
+    (raid_touches log c.self.invariant.place can.in_step c.new-raid.result c.new-raid.ensures old v1 c.drain.ensures.contents c.drain.ensures.any_moment)
 
-pub returns-in_err-put-clause-others : goal.returns-in_err-put-clause-others
-returns-in_err-put-clause-others g c =
+pub returns-in_err-put-clause-touches : goal.returns-in_err-put-clause-touches
+returns-in_err-put-clause-touches g c =
     let old = g.B.Bank.view c.args.bank.now in
     let v1 = g.B.Bank.view c.drain.new.bank in
     let v2 = g.B.Bank.view c.put.new.bank in
     let log : Log = record { g = c.self.inside.g; head = c.self.inside.head; cell = c.self.inside.cell; stage = c.self.inside.stage; index = c.self.inside.index } in
-    subst (λ (l : Log). StaysFrom (l.g.members + 1) old v2) c.self.view_is
-    (drain_stays log c.self.invariant.place old v1 v2 c.new-raid.result c.new-raid.ensures _ _ c.drain.ensures.any_moment.tells c.drain.ensures.contents c.put.ensures.contents)
+    let can = subst (λ (l : Log). CanDrain l old) (sym c.self.view_is) c.requires.can in
+    subst (λ (l : Log). Touches (InDrain (going l)) old v2) c.self.view_is
+    (drain_touches log c.self.invariant.place can.in_step c.new-raid.result c.new-raid.ensures old v1 c.drain.ensures.contents c.drain.ensures.any_moment v2 c.value_of-value.result c.put.ensures.contents c.put.ensures.any_moment)
 
-pub returns-clause-others : goal.returns-clause-others
-returns-clause-others g c =
+pub returns-clause-touches : goal.returns-clause-touches
+returns-clause-touches g c =
     let old = g.B.Bank.view c.args.bank.now in
     let v1 = g.B.Bank.view c.drain.new.bank in
     let v2 = g.B.Bank.view c.put.new.bank in
     let log : Log = record { g = c.self.inside.g; head = c.self.inside.head; cell = c.self.inside.cell; stage = c.self.inside.stage; index = c.self.inside.index } in
-    subst (λ (l : Log). StaysFrom (l.g.members + 1) old v2) c.self.view_is
-    (drain_stays log c.self.invariant.place old v1 v2 c.new-raid.result c.new-raid.ensures _ _ c.drain.ensures.any_moment.tells c.drain.ensures.contents c.put.ensures.contents)
+    let can = subst (λ (l : Log). CanDrain l old) (sym c.self.view_is) c.requires.can in
+    subst (λ (l : Log). Touches (InDrain (going l)) old v2) c.self.view_is
+    (drain_touches log c.self.invariant.place can.in_step c.new-raid.result c.new-raid.ensures old v1 c.drain.ensures.contents c.drain.ensures.any_moment v2 c.value_of-value.result c.put.ensures.contents c.put.ensures.any_moment)
+
+pub returns-clause-pending : goal.returns-clause-pending
+returns-clause-pending g c =
+    let log : Log = record { g = c.self.inside.g; head = c.self.inside.head; cell = c.self.inside.cell; stage = c.self.inside.stage; index = c.self.inside.index } in
+    let can = subst (λ (l : Log). CanDrain l (g.B.Bank.view c.args.bank.now)) (sym c.self.view_is) c.requires.can in
+    c.forget_to.ensures.pending ∙ take_none (last_of log.stage - log.head.last) log.stage.pending (omega (arith, can.in_step.last))

@@ -5,6 +5,9 @@ use Rattle.trap_array.specs.Turning.{Turns, IsFull}
 use Rattle.trap_array.specs.NextHead.{entry_for}
 use Rattle.trap_array.specs.declared.fault.Denied.{Denied}
 use Rattle.trap_array.specs.declared.fault.Denied.TheVariants.{MemberFault}
+use Rattle.trap_array.specs.Areas.{Touches, InWrite}
+use Rattle.trap_array.specs.Calls.{going}
+use Rattle.trap_array.proofs.AreaSteps.{touches_then, touches_same}
 use Rattle.trap_array.proofs.KeepSteps.{next_of, reply_of, plan_failed, full_turns, can_commit, kept_turns}
 use Rattle.trap_array.proofs.log.Log.keep_in_room.Goals as goal
 
@@ -63,4 +66,19 @@ returns-clause-turns g c =
     kept_turns here (g.B.Bank.view c.args.bank.now) (g.B.Bank.view c.plan.new.bank) c.args.time c.args.block size c.args.bytes.now c.plan.new.room.delta c.plan.new.room.parity (take size spelled)
     c.is_full.ensures.head c.requires.can c.plan.ensures.any_moment c.requires.free c.requires.later c.requires.not_worn c.ranges.time.fits
     c.requires.block c.requires.bytes c.plan.ensures.room.parity long c.spell-size.ensures.short c.spell-size.ensures.code c.in_ok-plan.ensures.plan c.spell-size.ensures.spelled not_full
-    c.keep_planned.new.self c.keep_planned.result (g.B.Bank.view c.keep_planned.new.bank) c.keep_planned.ensures
+    c.keep_planned.new.self c.keep_planned.result (g.B.Bank.view c.keep_planned.new.bank) c.keep_planned.ensures.turns
+
+pub returns-in_err-plan-clause-touches : goal.returns-in_err-plan-clause-touches
+returns-in_err-plan-clause-touches g c =
+    touches_same (InWrite (going c.args.self.now) c.args.block) (g.B.Bank.view c.args.bank.now) (g.B.Bank.view c.plan.new.bank) c.plan.ensures.any_moment.same c.plan.ensures.any_moment.moves
+
+pub returns-then-is_full-clause-touches : goal.returns-then-is_full-clause-touches
+returns-then-is_full-clause-touches g c =
+    touches_same (InWrite (going c.args.self.now) c.args.block) (g.B.Bank.view c.args.bank.now) (g.B.Bank.view c.plan.new.bank) c.plan.ensures.any_moment.same c.plan.ensures.any_moment.moves
+
+pub returns-clause-touches : goal.returns-clause-touches
+returns-clause-touches g c =
+    let area = InWrite (going c.args.self.now) c.args.block in
+    let old = g.B.Bank.view c.args.bank.now in
+    let mid = g.B.Bank.view c.plan.new.bank in
+    touches_then area old mid (g.B.Bank.view c.keep_planned.new.bank) (touches_same area old mid c.plan.ensures.any_moment.same c.plan.ensures.any_moment.moves) c.keep_planned.ensures.touches

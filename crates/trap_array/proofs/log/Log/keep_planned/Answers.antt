@@ -11,6 +11,8 @@ use Rattle.trap_array.specs.Log.{Log}
 use Rattle.trap_array.specs.NextHead.{entry_for}
 use Rattle.trap_array.specs.Turning.{Turns}
 use Rattle.trap_array.specs.declared.fault.Denied.{Denied}
+use Rattle.trap_array.specs.Areas.{Touches, InWrite}
+use Rattle.trap_array.proofs.AreaSteps.{write_touches, commit_within, commit_beside, drain_beside}
 use Rattle.trap_array.proofs.Beside.{both_stay}
 use Rattle.trap_array.proofs.Turns.{then_keep_may, then_keep_has}
 use Rattle.trap_array.proofs.TurnSteps.{fault_since, goes_then, turns_failed, turns_done}
@@ -23,8 +25,8 @@ drain-requires g c = record {
       c.in_ok-commit.ensures.in_step c.in_ok-commit.ensures.stands;
 }
 
-pub returns-in_err-drain : goal.returns-in_err-drain
-returns-in_err-drain g c =
+pub returns-in_err-drain-clause-turns : goal.returns-in_err-drain-clause-turns
+returns-in_err-drain-clause-turns g c =
     let old = g.B.Bank.view c.args.bank.now in
     let mid = g.B.Bank.view c.commit.new.bank in
     let new = g.B.Bank.view c.drain.new.bank in
@@ -40,11 +42,11 @@ returns-in_err-drain g c =
     (fault_since (going here) (going between) old mid new c.commit.ensures.goes_on c.in_ok-commit.ensures.ok.faults c.in_err-drain.field-0.0 c.in_err-drain.ensures.cause)
     (goes_then (going here) (going between) (going after) c.commit.ensures.goes_on c.drain.ensures.goes_on)
     (λ d. c.drain.ensures.sizes d ∙ c.commit.ensures.sizes d)
-    (both_stay (going here) (going between) old mid new c.commit.ensures.goes_on c.in_ok-commit.ensures.ok.tells c.commit.ensures.others c.drain.ensures.others)
+    (both_stay (going here) (going between) old mid new c.commit.ensures.goes_on c.in_ok-commit.ensures.ok.tells (commit_beside (going here) old mid c.commit.ensures.touches) (drain_beside (going between) mid new c.drain.ensures.touches))
     (then_keep_may (going here) (going between) c.commit.ensures.goes_on old mid new next c.in_ok-commit.ensures.ok c.drain.ensures.any_moment))
 
-pub returns : goal.returns
-returns g c =
+pub returns-clause-turns : goal.returns-clause-turns
+returns-clause-turns g c =
     let old = g.B.Bank.view c.args.bank.now in
     let mid = g.B.Bank.view c.commit.new.bank in
     let new = g.B.Bank.view c.drain.new.bank in
@@ -60,4 +62,18 @@ returns g c =
     c.in_ok-drain.ensures.in_step c.in_ok-drain.ensures.stands
     (goes_then (going here) (going between) (going after) c.commit.ensures.goes_on c.drain.ensures.goes_on)
     (λ d. c.drain.ensures.sizes d ∙ c.commit.ensures.sizes d)
-    (both_stay (going here) (going between) old mid new c.commit.ensures.goes_on c.in_ok-commit.ensures.ok.tells c.commit.ensures.others c.drain.ensures.others)
+    (both_stay (going here) (going between) old mid new c.commit.ensures.goes_on c.in_ok-commit.ensures.ok.tells (commit_beside (going here) old mid c.commit.ensures.touches) (drain_beside (going between) mid new c.drain.ensures.touches))
+
+pub returns-in_err-commit-clause-touches : goal.returns-in_err-commit-clause-touches
+returns-in_err-commit-clause-touches g c =
+    commit_within (going c.args.self.now) c.args.block (g.B.Bank.view c.args.bank.now) (g.B.Bank.view c.commit.new.bank) c.commit.ensures.touches
+
+pub returns-in_err-drain-clause-touches : goal.returns-in_err-drain-clause-touches
+returns-in_err-drain-clause-touches g c =
+    write_touches c.args.self.now c.commit.new.self _ c.commit.ensures.goes_on c.in_ok-commit.ensures.pending
+    (g.B.Bank.view c.args.bank.now) (g.B.Bank.view c.commit.new.bank) (g.B.Bank.view c.drain.new.bank) c.commit.ensures.touches c.drain.ensures.touches
+
+pub returns-clause-touches : goal.returns-clause-touches
+returns-clause-touches g c =
+    write_touches c.args.self.now c.commit.new.self _ c.commit.ensures.goes_on c.in_ok-commit.ensures.pending
+    (g.B.Bank.view c.args.bank.now) (g.B.Bank.view c.commit.new.bank) (g.B.Bank.view c.drain.new.bank) c.commit.ensures.touches c.drain.ensures.touches

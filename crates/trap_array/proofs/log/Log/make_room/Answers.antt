@@ -1,3 +1,9 @@
+use Rattle.std.proofs.Common.{refl, inl, inr}
+use Rattle.std.proofs.lemmas.Result.{on_ok_weaker}
+use Rattle.trap_array.specs.Areas.{InDrain}
+use Rattle.trap_array.specs.Calls.{going}
+use Rattle.trap_array.proofs.AreaSteps.{touches_same}
+use Rattle.trap_array.proofs.TurnSteps.{none_moves}
 use Rattle.trap_array.proofs.WriteSteps.{can_drain_after}
 use Rattle.trap_array.proofs.log.Log.make_room.Goals as goal
 
@@ -5,3 +11,6 @@ pub returns-clause-can : goal.returns-clause-can
 returns-clause-can g c =
     can_drain_after c.drain.result c.args.self.now c.drain.new.self (g.B.Bank.view c.args.bank.now) (g.B.Bank.view c.drain.new.bank) c.drain.ensures.goes_on c.drain.ensures.sizes c.requires.can.sizes
     c.drain.ensures.in_step c.drain.ensures.stands
+
+pub returns-clause-stage : goal.returns-clause-stage
+returns-clause-stage g c = on_ok_weaker c.drain.result (λ none. inr none) c.drain.ensures.pending

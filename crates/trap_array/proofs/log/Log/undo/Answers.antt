@@ -12,7 +12,7 @@ invariant_of-past g c = record {
 
 pub returns-clause-damaged : goal.returns-clause-damaged
 returns-clause-damaged g c offset is told s stands =
-    look_damaged c.args.self.now _ _ _ c.block_at.result offset c.block_at.ensures.blame.caused is told s stands
+    look_damaged c.args.self.now _ _ _ _ _ c.block_at.result offset c.block_at.ensures.blame.caused is told s stands
 
 pub returns-clause-calls : goal.returns-clause-calls
 returns-clause-calls g c =

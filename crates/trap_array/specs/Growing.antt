@@ -1,0 +1,37 @@
+-- How a write moves the head.
+use Rattle.std.specs.Prelude.{◌≡◌, ℕ, ◌+◌, ◌<◌, ◌≤◌, Result, Ok, Err}
+use Rattle.trap_format.specs.declared.head.Head.{Head}
+use Rattle.trap_model.specs.Limits.{greatest_record}
+use Rattle.trap_model.specs.declared.numbers.Geometry.{Geometry}
+use Rattle.trap_array.specs.NextHead.{committed, drained_to}
+use Rattle.trap_array.specs.declared.fault.Denied.{Denied}
+use Rattle.trap_array.specs.declared.fault.Denied.TheVariants.{Refused, LogFault, MemberFault, Damaged, Stopped}
+
+-- nothing that was committed is dropped or moved: the window begins where it began, and the numbers and offsets only grow
+pub record Grows (h t : Head) : Type 0 where
+  pub first : t.first ≡ h.first
+  pub base_time : t.base_time ≡ h.base_time
+  pub first_off : t.first_off ≡ h.first_off
+  pub end_off : h.end_off ≤ t.end_off
+  pub last : h.last ≤ t.last
+  pub drained : h.drained ≤ t.drained
+
+-- There was room for one entry more, with the next number. Its record stands right behind the others.
+pub record HasOneMore (g : Geometry) (h t : Head) (time seq : ℕ) : Type 0 where
+  pub number : seq ≡ h.last + 1
+  -- the record's length
+  pub size : ℕ
+  pub least : 30 ≤ size
+  pub most : size ≤ greatest_record g.block
+  pub few : h.last < h.first + g.entries
+  pub room : h.end_off + size ≤ h.first_off + g.ring
+  pub head : t ≡ drained_to (committed h time size) t.drained
+
+-- the head after a write: a refusal changes at most how much is drained
+abbrev pub HeadAfter : Geometry → Head → Head → ℕ → Result ℕ Denied → Type 0
+HeadAfter g h t time (Ok seq) = HasOneMore g h t time seq
+HeadAfter g h t time (Err (Refused why)) = t ≡ drained_to h t.drained
+HeadAfter g h t time (Err LogFault) = Grows h t
+HeadAfter g h t time (Err (MemberFault first second)) = Grows h t
+HeadAfter g h t time (Err (Damaged offset)) = t ≡ h
+HeadAfter g h t time (Err Stopped) = t ≡ h
