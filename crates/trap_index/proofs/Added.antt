@@ -9,9 +9,10 @@ use Rattle.trap_model.specs.Image.{volume}
 use Rattle.trap_model.specs.LogRecord.{KeepsRanges, SnapshotLength}
 use Rattle.trap_index.specs.declared.item.Item.{Item}
 use Rattle.trap_index.specs.Indexed.{Indexed, with_record, last_seq, last_time, rec_len, recs_len, newest, no_rec, item_behind}
-use Rattle.trap_index.specs.Keeping.{IsKept, rec_of, recs_of, no_item}
+use Rattle.trap_index.specs.Keeping.{IsKept, rec_of, recs_of, no_item, link, told}
 use Rattle.trap_index.proofs.Numbered.{length-recs_of, recs_of-push, numbered-push, times-push, time_behind-push, recs_len-push}
 use Rattle.trap_index.proofs.Chains.{newest-push, newest-push_other}
+use Rattle.trap_index.proofs.Links.{link-some}
 
 -- what a caller says of a further record
 pub record IsNext (i : Indexed) (rec : LogRec) : Type 0 where
@@ -48,8 +49,8 @@ item_last first_off recs rec k is =
     ∙ ap (λ (r : LogRec). item_behind first_off (take k (recs ++ rec ∷ [])) r) heres
 
 -- what is kept of the records with a further one
-pub kept_added : (i : Indexed) (items : List Item) (capacity : ℕ) (heads : List ℕ) (end_off last : ℕ) (rec : LogRec) → IsKept i items capacity heads end_off last → IsNext i rec → length items ≡ length i.recs → IsKept (with_record i rec) (items ++ item_behind i.first_off i.recs rec ∷ []) capacity (set heads rec.block rec.seq) (end_off + rec_len rec) rec.time
-kept_added i items capacity heads end_off last rec kept next same =
+pub kept_added : (i : Indexed) (items : List Item) (capacity : ℕ) (heads : List ℕ) (end_off last : ℕ) (rec : LogRec) (item : Item) → IsKept i items capacity heads end_off last → IsNext i rec → length items ≡ length i.recs → told i.first item ≡ item_behind i.first_off i.recs rec → IsKept (with_record i rec) (items ++ item ∷ []) capacity (set heads rec.block rec.seq) (end_off + rec_len rec) rec.time
+kept_added i items capacity heads end_off last rec item kept next same is_told =
     let long : length (i.recs ++ rec ∷ []) ≡ length i.recs + 1 = length-append i.recs (rec ∷ []) in
     let was = kept.indexed in
     let few = next.few in
@@ -66,19 +67,19 @@ kept_added i items capacity heads end_off last rec kept next same =
       room = kept.room;
       item = λ k inside. ⊎_elim
           (λ (older : k < length i.recs).
-          get_or_append_left items (item_behind i.first_off i.recs rec ∷ []) no_item k (omega arith)
+          ap (told i.first) (get_or_append_left items (item ∷ []) no_item k (omega arith))
           ∙ kept.item k older ∙ item_same i.first_off i.recs (rec ∷ []) k older)
           (λ (newer : length i.recs ≤ k).
-          get_or_push items (item_behind i.first_off i.recs rec) no_item k (omega arith)
+          ap (told i.first) (get_or_push items item no_item k (omega arith)) ∙ is_told
           ∙ item_last i.first_off i.recs rec k (omega arith))
           (cases_lt k (length i.recs));
       blocks = length-set heads rec.block rec.seq ∙ kept.blocks;
       head = λ block inside. ⊎_elim
           (λ (is : block ≡ rec.block).
           let here : get_or (set heads rec.block rec.seq) rec.block 0 ≡ rec.seq = get_or-set_same heads rec.block rec.seq 0 (let blocks = kept.blocks in let block_is = next.block in omega arith) in
-          ap (λ (b : ℕ). get_or (set heads rec.block rec.seq) b 0) is ∙ here ∙ sym (newest-push block i.recs rec (sym is)))
+          ap (λ (b : ℕ). link i.first (get_or (set heads rec.block rec.seq) b 0)) is ∙ ap (link i.first) here ∙ link-some i.first rec.seq (omega arith) ∙ sym (newest-push block i.recs rec (sym is)))
           (λ (other : block ≡ rec.block → ⊥).
-          get_or-set_other heads rec.block block rec.seq 0 other ∙ kept.head block inside ∙ sym (newest-push_other block i.recs rec (λ e. other (sym e))))
+          ap (link i.first) (get_or-set_other heads rec.block block rec.seq 0 other) ∙ kept.head block inside ∙ sym (newest-push_other block i.recs rec (λ e. other (sym e))))
           (cases_eq block rec.block);
       end = (let was_end = kept.end in let more = recs_len-push i.recs rec in omega arith);
       end_most = (let was_most = kept.end_most in let short = rec_short i.g rec next.ranges in omega arith);
@@ -102,18 +103,17 @@ same_item rec off off' prev prev' p q = cc
 
 pub added : (i : Indexed) (items : Buffer Item) (heads : List ℕ) (end_off last : ℕ) (rec : LogRec) (new : Buffer Item) (prev : ℕ) → IsKept i items.items items.capacity heads end_off last → i.recs ≡ recs_of i.first items.items → IsNext i rec → prev ≡ get_or heads rec.block 0 → new ≡ buffer (keep_last items.capacity (items.items ++ item_made rec end_off prev ∷ [])) items.capacity → IsAddedTo i new (set heads rec.block rec.seq) (end_off + rec_len rec) rec.time rec
 added i items heads end_off last rec new prev kept of next prev_is new_is =
-    let item = item_behind i.first_off i.recs rec in
+    let item = item_made rec end_off prev in
     let long : length i.recs ≡ length items.items = ap (λ (l : List LogRec). length l) of ∙ length-recs_of i.first items.items in
-    let same : item_made rec end_off prev ≡ item = same_item rec end_off (i.first_off + recs_len i.recs) prev (newest rec.block i.recs) kept.end (prev_is ∙ kept.head rec.block next.block) in
-    let more : length (items.items ++ item_made rec end_off prev ∷ []) ≡ length items.items + 1 = length-append items.items (item_made rec end_off prev ∷ []) in
+    let is_told : told i.first item ≡ item_behind i.first_off i.recs rec = same_item rec end_off (i.first_off + recs_len i.recs) (link i.first prev) (newest rec.block i.recs) kept.end (ap (link i.first) prev_is ∙ kept.head rec.block next.block) in
+    let more : length (items.items ++ item ∷ []) ≡ length items.items + 1 = length-append items.items (item ∷ []) in
     let items_are : new.items ≡ items.items ++ item ∷ [] =
     ap (λ (b : Buffer Item). b.items) new_is
-    ∙ keep_all items.capacity (items.items ++ item_made rec end_off prev ∷ []) (let few = next.few in let room = kept.room in omega arith)
-    ∙ ap (λ (x : Item). items.items ++ x ∷ []) same in
+    ∙ keep_all items.capacity (items.items ++ item ∷ []) (let few = next.few in let room = kept.room in omega arith) in
     let room : items.capacity ≡ new.capacity = sym (ap (λ (b : Buffer Item). b.capacity) new_is) in
     let pushed : recs_of i.first (items.items ++ item ∷ []) ≡ recs_of i.first items.items ++ rec_of rec.seq item ∷ [] = recs_of-push i.first rec.seq items.items item (let seq = next.number in omega arith) in
     let recs : recs_of i.first new.items ≡ i.recs ++ rec ∷ [] = ap (recs_of i.first) items_are ∙ pushed ∙ ap (λ (l : List LogRec). l ++ rec ∷ []) (sym of) in
-    let whole : IsKept (with_record i rec) (items.items ++ item ∷ []) items.capacity (set heads rec.block rec.seq) (end_off + rec_len rec) rec.time = kept_added i items.items items.capacity heads end_off last rec kept next (sym long) in
+    let whole : IsKept (with_record i rec) (items.items ++ item ∷ []) items.capacity (set heads rec.block rec.seq) (end_off + rec_len rec) rec.time = kept_added i items.items items.capacity heads end_off last rec item kept next (sym long) is_told in
     record {
       recs = recs;
       kept = subst (λ (l : List LogRec). IsKept (record i { recs = l }) new.items new.capacity (set heads rec.block rec.seq) (end_off + rec_len rec) rec.time) (sym recs)

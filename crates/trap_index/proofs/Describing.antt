@@ -9,7 +9,7 @@ use Rattle.trap_model.specs.declared.known.Known.TheVariants.{Present}
 use Rattle.trap_model.specs.declared.known.Path.{Path}
 use Rattle.trap_model.specs.declared.known.Way.TheVariants.{Back}
 use Rattle.trap_model.specs.declared.numbers.Geometry.{Geometry}
-use Rattle.trap_model.specs.ArrayStep.{added}
+use Rattle.trap_model.specs.ArrayStep.{added, kept_from}
 use Rattle.trap_model.specs.Image.{block_of, written, image_after}
 use Rattle.trap_model.specs.Path.{path}
 use Rattle.trap_model.specs.Records.{rec_of, no_entry, entry_at, record_of, records_from, records}
@@ -17,11 +17,11 @@ use Rattle.trap_model.specs.Size.{size_over}
 use Rattle.trap_model.specs.State as state
 use Rattle.trap_model.specs.State.{fresh, image, image_at, image_by, kept, last, up_to}
 use Rattle.trap_model.proofs.Records.{length-record_of, length-records_from, records_from-append}
-use Rattle.trap_index.specs.Indexed.{Indexed, nothing_indexed, with_record, time_behind, last_seq, last_time, recs_len, rec_len, of_block, newest, no_rec, rec_at, item_at, IsLastBy, path_to}
-use Rattle.trap_index.specs.Describes.{headers, Describes, IsLastOf, block_before, IsItemOf}
+use Rattle.trap_index.specs.Indexed.{Indexed, nothing_indexed, with_record, dropped_to, time_behind, last_seq, last_time, recs_len, rec_len, of_block, newest, no_rec, rec_at, item_at, IsLastBy, path_to}
+use Rattle.trap_index.specs.Describes.{headers_from, headers, Describes, IsLastOf, block_before, IsItemOf}
 use Rattle.trap_index.proofs.Numbered.{numbered-take}
 use Rattle.trap_index.proofs.Chains.{IsNewest, HasNone, newest_cases, of_block_parts, none_of_block}
-use Rattle.trap_index.proofs.Headers.{length-headers, headers-take, headers-push, headers-at, headers-numbered, headers-time, headers-len, headers-of_block, rec_len-entry}
+use Rattle.trap_index.proofs.Headers.{length-headers, headers-take, headers-drop, headers-push, headers-at, headers-numbered, headers-time, headers-len, headers-of_block, rec_len-entry}
 
 pub describes_fresh : (g : Geometry) (first_off : ℕ) → Describes (nothing_indexed g 0 0 first_off) (fresh g)
 describes_fresh g first_off = record { first = refl; base_time = refl; recs = refl }
@@ -33,6 +33,21 @@ describes-added i s e is = record {
   recs = ap (λ (l : List LogRec). l ++ rec_of (last s + 1) (block_of (image s) e.block) e ∷ []) is.recs
       ∙ sym (headers-push s.base s.first (last s + 1) s.entries e refl);
 }
+
+-- with entries dropped it tells of the state without them
+pub describes-dropped : (i : Indexed) (s : State) (q : ℕ) → Describes i s → s.first ≤ q → q ≤ last s → Describes (dropped_to i q) (kept_from s q)
+describes-dropped i s q is low high =
+    let d = q - s.first in
+    let at : q - i.first ≡ d = ap (λ (n : ℕ). q - n) is.first in
+    let fronts : take (q - i.first) i.recs ≡ headers_from s.base s.first (take d s.entries) =
+    ap (λ (n : ℕ). take n i.recs) at ∙ ap (take d) is.recs ∙ headers-take s.base s.first d s.entries in
+    record {
+      first = refl;
+      base_time = ap (λ (t : ℕ). time_behind t (take (q - i.first) i.recs)) is.base_time ∙ ap (time_behind s.base_time) fronts
+          ∙ headers-time s.base s.first s.base_time (take d s.entries);
+      recs = ap (λ (n : ℕ). drop n i.recs) at ∙ ap (drop d) is.recs ∙ headers-drop s.base s.first d s.entries (omega arith)
+          ∙ ap (λ (n : ℕ). headers_from (image_at s q) n (drop d s.entries)) (let same : s.first + d ≡ q = omega arith in same);
+    }
 
 pub last_told : (i : Indexed) (s : State) → Describes i s → last_seq i ≡ last s
 last_told i s is =

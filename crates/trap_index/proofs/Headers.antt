@@ -1,5 +1,5 @@
 -- The headers of a history's records, one for each entry.
-use Rattle.std.proofs.Common.{◌≡◌, ℕ, zero, suc, ◌+◌, ◌<◌, List, [], ◌∷◌, ◌++◌, length, get_or, take, drop, Bool, true, false, ◌==◌, if◌then◌else◌, refl, ap, arith}
+use Rattle.std.proofs.Common.{◌≡◌, ℕ, zero, suc, ◌+◌, ◌<◌, ◌≤◌, List, [], ◌∷◌, ◌++◌, length, get_or, take, drop, Bool, true, false, ◌==◌, if◌then◌else◌, refl, ap, ◌∙◌, arith}
 use Rattle.trap_model.specs.declared.history.Entry.{Entry}
 use Rattle.trap_model.specs.declared.log_record.LogRec.{LogRec}
 use Rattle.trap_model.specs.Image.{block_of, written, image_after}
@@ -65,3 +65,11 @@ headers-of_block image q block zero (x ∷ xs) =
     one_more (x.block == block) (rec_of (q + 1) (block_of image x.block) x) x (of_block block (headers_from (written image x) (q + 1) xs)) (entries.of_block block xs)
     (headers-of_block (written image x) (q + 1) block zero xs)
 headers-of_block image q block (suc k) (x ∷ xs) = headers-of_block (written image x) (q + 1) block k xs
+
+-- those behind so many are of the entries behind so many
+pub headers-drop : (image : List (List ℕ)) (q d : ℕ) (xs : List Entry) → d ≤ length xs → drop d (headers_from image q xs) ≡ headers_from (image_after image (take d xs)) (q + d) (drop d xs)
+headers-drop image q zero xs within = ap (λ (n : ℕ). headers_from image n xs) (let same : q ≡ q + 0 = omega arith in same)
+headers-drop image q (suc d) [] within = absurd (omega arith)
+headers-drop image q (suc d) (x ∷ xs) within =
+    headers-drop (written image x) (q + 1) d xs (omega arith)
+    ∙ ap (λ (n : ℕ). headers_from (image_after (written image x) (take d xs)) n (drop d xs)) (let same : q + 1 + d ≡ q + suc d = omega arith in same)

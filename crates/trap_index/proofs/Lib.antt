@@ -1,6 +1,8 @@
 pub mod Numbered
 pub mod Chains
+pub mod Links
 pub mod Added
+pub mod Dropped
 pub mod Searching
 pub mod Walking
 pub mod Timed

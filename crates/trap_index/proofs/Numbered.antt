@@ -1,5 +1,5 @@
 -- Records with successive numbers, in the order of their times.
-use Rattle.std.proofs.Common.{◌≡◌, ℕ, zero, suc, ◌+◌, ◌<◌, ◌≤◌, List, [], ◌∷◌, ◌++◌, length, get_or, take, refl, ap, arith}
+use Rattle.std.proofs.Common.{◌≡◌, ℕ, zero, suc, ◌+◌, ◌<◌, ◌≤◌, List, [], ◌∷◌, ◌++◌, length, get_or, take, drop, refl, ap, ◌∙◌, subst, arith}
 use Rattle.trap_model.specs.declared.log_record.LogRec.{LogRec}
 use Rattle.trap_index.specs.declared.item.Item.{Item}
 use Rattle.trap_index.specs.Indexed.{time_behind, rec_len, recs_len, no_rec}
@@ -59,3 +59,37 @@ times_in_order before (rec ∷ later) (suc j) (suc k) h order inside = times_in_
 pub recs_len-push : (recs : List LogRec) (rec : LogRec) → recs_len (recs ++ rec ∷ []) ≡ recs_len recs + rec_len rec
 recs_len-push [] rec = omega arith
 recs_len-push (x ∷ recs) rec = let rest = recs_len-push recs rec in omega arith
+
+-- ---- the first so many records, and those behind them
+pub numbered-drop : (before : ℕ) (recs : List LogRec) (d : ℕ) → AreNumbered before recs → d ≤ length recs → AreNumbered (before + d) (drop d recs)
+numbered-drop before recs zero is within = subst (λ (n : ℕ). AreNumbered n recs) (let same : before ≡ before + 0 = omega arith in same) is
+numbered-drop before [] (suc d) is within = absurd (omega arith)
+numbered-drop before (rec ∷ later) (suc d) is within =
+    subst (λ (n : ℕ). AreNumbered n (drop d later)) (let same : before + 1 + d ≡ before + suc d = omega arith in same) (numbered-drop (before + 1) later d is.1 (omega arith))
+
+pub times-drop : (before : ℕ) (recs : List LogRec) (d : ℕ) → TimesNeverFall before recs → TimesNeverFall (time_behind before (take d recs)) (drop d recs)
+times-drop before recs zero h = h
+times-drop before [] (suc d) h = tt
+times-drop before (rec ∷ later) (suc d) h = times-drop rec.time later d h.1
+
+pub time_behind-parts : (before : ℕ) (recs : List LogRec) (d : ℕ) → time_behind (time_behind before (take d recs)) (drop d recs) ≡ time_behind before recs
+time_behind-parts before recs zero = refl
+time_behind-parts before [] (suc d) = refl
+time_behind-parts before (rec ∷ later) (suc d) = time_behind-parts rec.time later d
+
+pub recs_len-parts : (recs : List LogRec) (d : ℕ) → recs_len (take d recs) + recs_len (drop d recs) ≡ recs_len recs
+recs_len-parts recs zero = omega arith
+recs_len-parts [] (suc d) = omega arith
+recs_len-parts (rec ∷ later) (suc d) = let rest = recs_len-parts later d in omega arith
+
+-- the time behind so many records is the last one's
+pub time_behind-at : (before : ℕ) (recs : List LogRec) (k : ℕ) → k < length recs → time_behind before (take (suc k) recs) ≡ (get_or recs k no_rec).time
+time_behind-at before [] k inside = absurd (omega arith)
+time_behind-at before (rec ∷ later) zero inside = refl
+time_behind-at before (rec ∷ later) (suc k) inside = time_behind-at rec.time later k (omega arith)
+
+pub recs_of-drop : (before : ℕ) (items : List Item) (d : ℕ) → d ≤ length items → recs_of (before + d) (drop d items) ≡ drop d (recs_of before items)
+recs_of-drop before items zero within = ap (λ (n : ℕ). recs_of n items) (let same : before + 0 ≡ before = omega arith in same)
+recs_of-drop before [] (suc d) within = absurd (omega arith)
+recs_of-drop before (item ∷ later) (suc d) within =
+    ap (λ (n : ℕ). recs_of n (drop d later)) (let same : before + suc d ≡ before + 1 + d = omega arith in same) ∙ recs_of-drop (before + 1) later d (omega arith)

@@ -74,6 +74,16 @@ recs_up_to i q = take (q - i.first) i.recs
 abbrev pub recs_above : Indexed → ℕ → List LogRec
 recs_above i q = drop (q - i.first) i.recs
 
+-- with the entries up to number q dropped, for first ≤ q ≤ last
+abbrev pub dropped_to : Indexed → ℕ → Indexed
+dropped_to i q = record {
+  g = i.g;
+  first = q;
+  base_time = time_behind i.base_time (recs_up_to i q);
+  first_off = i.first_off + recs_len (recs_up_to i q);
+  recs = recs_above i q;
+}
+
 -- what a record's header tells, where the first record begins at an offset and these lie between
 abbrev pub item_behind : ℕ → List LogRec → LogRec → Item
 item_behind first_off before rec = record {

@@ -1,5 +1,5 @@
 -- What is so of every index, and how its items are kept.
-use Rattle.std.specs.Prelude.{◌≡◌, ℕ, ◌+◌, ◌*◌, ◌^◌, ◌<◌, ◌≤◌, List, [], ◌∷◌, length, get_or, take, false}
+use Rattle.std.specs.Prelude.{◌≡◌, ℕ, ◌+◌, ◌*◌, ◌^◌, ◌<◌, ◌≤◌, List, [], ◌∷◌, length, get_or, take, false, nat_le, if◌then◌else◌}
 use Rattle.trap_model.specs.declared.log_record.LogRec.{LogRec}
 use Rattle.trap_model.specs.Image.{volume}
 use Rattle.trap_index.specs.declared.item.Item.{Item}
@@ -42,15 +42,23 @@ recs_of before (item ∷ later) = rec_of (before + 1) item ∷ recs_of (before +
 abbrev pub no_item : Item
 no_item = record { time = 0; block = 0; off = 0; plen = 0; slen = 0; snap = false; prev = 0 }
 
--- the items are those of the records, a number is kept for each block, and the rest goes with the last record; no
--- record has more than 8232 bytes
+-- a link as it is read: one that names no retained entry is 0, so that dropping touches no link
+abbrev pub link : ℕ → ℕ → ℕ
+link first number = if nat_le number first then 0 else number
+
+-- an item as it is told, with its link as it is read
+abbrev pub told : ℕ → Item → Item
+told first item = record item { prev = link first item.prev }
+
+-- the items are told as those of the records, a number is kept for each block, and the rest goes with the last record;
+-- no record has more than 8232 bytes
 pub record IsKept (i : Indexed) (items : List Item) (capacity : ℕ) (heads : List ℕ) (end_off last : ℕ) : Type 0 where
   pub indexed : IsIndexed i
   pub room : capacity ≡ i.g.entries
   pub item : (k : ℕ) → k < length i.recs
-      → get_or items k no_item ≡ item_behind i.first_off (take k i.recs) (get_or i.recs k no_rec)
+      → told i.first (get_or items k no_item) ≡ item_behind i.first_off (take k i.recs) (get_or i.recs k no_rec)
   pub blocks : length heads ≡ volume i.g
-  pub head : (block : ℕ) → block < volume i.g → get_or heads block 0 ≡ newest block i.recs
+  pub head : (block : ℕ) → block < volume i.g → link i.first (get_or heads block 0) ≡ newest block i.recs
   pub end : end_off ≡ i.first_off + recs_len i.recs
   pub end_most : end_off ≤ 2 ^ 54 + 8232 * last_seq i
   pub time : last ≡ last_time i

@@ -3,8 +3,8 @@
 ghost use Rattle.std.specs.Prelude.{◌≡◌, ◌↔◌, ◌+◌, ◌^◌, ◌<◌, ◌≤◌, length, IfOk, IfSome, IsSome};
 ghost use Rattle.trap_model.specs.Image.{volume};
 ghost use Rattle.trap_model.specs.LogRecord.{KeepsRanges};
-ghost use Rattle.trap_index.specs.Indexed.{nothing_indexed, with_record, last_seq, last_time, recs_len, newest, item_at, IsLastBy, path_to};
-ghost use Rattle.trap_index.specs.Keeping.{IsIndexed};
+ghost use Rattle.trap_index.specs.Indexed.{nothing_indexed, with_record, dropped_to, time_behind, recs_up_to, last_seq, last_time, recs_len, newest, item_at, IsLastBy, path_to};
+ghost use Rattle.trap_index.specs.Keeping.{IsIndexed, link};
 
 use crate::Item;
 use crate::times::{count_by, item_in};
@@ -27,8 +27,9 @@ pub struct Index {
     /// The offset behind the last record.
     end_off: u64,
     last_time: u64,
+    /// Each with the number of its block's previous entry, dropped or not, or 0.
     items: HeapCircularBuffer<Item>,
-    /// The number of each block's last retained entry, or 0.
+    /// The number of each block's last entry, dropped or not, or 0.
     newest: Vec<u64>,
 }
 
@@ -108,6 +109,51 @@ impl Index {
         self.last_time = rec.time;
     }
 
+    /// Drops the entries up to this number. No link is touched: those to dropped entries are read as 0.
+    pub fn drop_to(&mut self, seq: u64)
+        requires low { self.old.first ≤ seq }
+        requires high { seq ≤ last_seq self.old }
+        ensures { self.new ≡ dropped_to self.old seq }
+    {
+        let kept = (self.last() - seq) as usize;
+        let (base_time, first_off) = (self.time_at(seq), self.off_behind(seq));
+        self.first = seq;
+        self.base_time = base_time;
+        self.first_off = first_off;
+        self.items.truncate_front(kept);
+    }
+
+    /// The time of the record with this number, or the base time where it is the last dropped one's.
+    fn time_at(&self, seq: u64) -> u64
+        requires low { self.now.first ≤ seq }
+        requires high { seq ≤ last_seq self.now }
+        ensures { result ≡ time_behind self.now.base_time (recs_up_to self.now seq) }
+    {
+        if seq == self.first {
+            return self.base_time;
+        }
+        self.retained(seq).time
+    }
+
+    /// The offset behind the record with this number, or where the first one begins.
+    fn off_behind(&self, seq: u64) -> u64
+        requires low { self.now.first ≤ seq }
+        requires high { seq ≤ last_seq self.now }
+        ensures { result ≡ self.now.first_off + recs_len (recs_up_to self.now seq) }
+    {
+        if seq == self.last() {
+            return self.end_off;
+        }
+        self.retained(seq + 1).off
+    }
+
+    /// A stored link as it is read: 0 where it names no retained entry.
+    fn link(&self, number: u64) -> u64
+        ensures { result ≡ link self.now.first number }
+    {
+        if number <= self.first { 0 } else { number }
+    }
+
     /// How many entries were dropped.
     pub fn first(&self) -> u64
         ensures first { result ≡ self.now.first }
@@ -152,7 +198,7 @@ impl Index {
         ensures newest { result ≡ newest block self.now.recs }
         ensures indexed { IsIndexed self.now }
     {
-        self.newest[block as usize]
+        self.link(self.newest[block as usize])
     }
 
     /// What is known of the record with this number.
@@ -172,7 +218,11 @@ impl Index {
         requires high { seq ≤ last_seq self.now }
         ensures { result ≡ item_at self.now seq }
     {
-        item_in(&self.items, (seq - self.first - 1) as usize)
+        let item = item_in(&self.items, (seq - self.first - 1) as usize);
+        Item {
+            prev: self.link(item.prev),
+            ..item
+        }
     }
 
     /// The last number whose time is at most this one, or `first` where there is none.

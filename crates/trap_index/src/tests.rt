@@ -116,3 +116,27 @@ fn a_path_turns_at_each_entry_of_its_block(rt: HostRuntime) -> Result<(), Fail> 
     }
     Ok(())
 }
+
+#[test]
+fn what_is_dropped_is_told_no_more(rt: HostRuntime) -> Result<(), Fail> {
+    let mut index = three_entries(&rt, rt.alloc())?;
+    let (first, last) = (index.first(), index.last());
+    assert!(rt; first <= 12 && 12 <= last);
+    index.drop_to(12);
+    assert_eq!(rt; (index.first(), index.last()), (12, 13));
+    assert_eq!(rt; (index.base_time(), index.last_time()), (105, 105));
+    assert_eq!(rt; index.bytes_kept(), 49);
+    assert_eq!(rt; index.item(12), None);
+    let kept = Item {
+        time: 105,
+        block: 3,
+        off: 1066,
+        plen: 23,
+        slen: 0,
+        snap: false,
+        prev: 0,
+    };
+    assert_eq!(rt; index.item(13), Some(kept));
+    assert_eq!(rt; (index.newest(3), index.newest(1)), (13, 0));
+    Ok(())
+}

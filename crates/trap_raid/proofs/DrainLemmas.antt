@@ -13,7 +13,7 @@ use Rattle.trap_map.proofs.PlaceLemmas.{member_within, row_of-within, block_is_n
 use Rattle.trap_stage.proofs.Overlays.{staged_at_block, staged_at_parity, staged_at_other, staged_at_row, newest_at-append}
 use Rattle.trap_stage.specs.Staged.{Staged, staged_at, newest_at}
 use Rattle.trap_raid.specs.Members.{Counts, Covered, member_place}
-use Rattle.trap_raid.specs.Draining.{Drains, PlaceWritten, place_area}
+use Rattle.trap_raid.specs.Draining.{Drains, InDrained, InCounted, PlaceWritten, place_area}
 use Rattle.trap_raid.proofs.OptionLemmas.{some_or_none, not_both}
 
 -- ---- places and their positions
@@ -71,17 +71,26 @@ covered_older g newer older e i covered =
     still_some None bytes = (bytes, refl)
     still_some (Some more) bytes = (more, refl)
 
+-- so of what of it counts
+pub drained_newer : (g : Geometry) (lost : Option ℕ) (rebuilt : ℕ) (newer older : List Staged) (e i : ℕ) → InDrained g lost rebuilt newer e i → InDrained g lost rebuilt (newer ++ older) e i
+unfolding covered_newer
+drained_newer g lost rebuilt newer older e i drained = record { covered = covered_newer g newer older e i drained.covered; counts = drained.counts }
+
+pub drained_older : (g : Geometry) (lost : Option ℕ) (rebuilt : ℕ) (newer older : List Staged) (e i : ℕ) → InDrained g lost rebuilt older e i → InDrained g lost rebuilt (newer ++ older) e i
+unfolding covered_older
+drained_older g lost rebuilt newer older e i drained = record { covered = covered_older g newer older e i drained.covered; counts = drained.counts }
+
 -- newer writes drained after older ones
 pub drains_then : (g : Geometry) (lost : Option ℕ) (rebuilt : ℕ) (newer older : List Staged) (x y z : Disks) → Drains g lost rebuilt older x y → Drains g lost rebuilt newer y z → Drains g lost rebuilt (newer ++ older) x z
 drains_then g lost rebuilt newer older x y z first second = record {
-  differs = differs_again (Covered g (newer ++ older)) x y z
-      (differs_mono (Covered g older) (Covered g (newer ++ older)) x y (covered_older g newer older) first.differs)
-      (differs_mono (Covered g newer) (Covered g (newer ++ older)) y z (covered_newer g newer older) second.differs);
+  differs = differs_again (InDrained g lost rebuilt (newer ++ older)) x y z
+      (differs_mono (InDrained g lost rebuilt older) (InDrained g lost rebuilt (newer ++ older)) x y (drained_older g lost rebuilt newer older) first.differs)
+      (differs_mono (InDrained g lost rebuilt newer) (InDrained g lost rebuilt (newer ++ older)) y z (drained_newer g lost rebuilt newer older) second.differs);
   there = λ row m bytes below inside counts found.
       let found_in = sym (newest_at-append g newer older row m) ∙ found in
       elim (some_or_none (newest_at g newer row m)) [
         | inl none ↦
-            bare_stays g newer y z second.differs row m none
+            bare_stays g newer y z (differs_mono (InDrained g lost rebuilt newer) (Covered g newer) y z (λ e i drained. drained.covered) second.differs) row m none
             ∙ first.there row m bytes below inside counts (passed (newest_at g newer row m) (newest_at g older row m) bytes none found_in)
         | inr some ↦ second.there row m bytes below inside counts (kept (newest_at g newer row m) (newest_at g older row m) some.0 bytes some.1 found_in)
       ];
@@ -134,6 +143,15 @@ parity_covered g staged e i below within =
       within = within;
     }
 
+-- so where they count
+pub block_drained : (g : Geometry) (lost : Option ℕ) (rebuilt : ℕ) (staged : Staged) (e i : ℕ) → staged.block < volume g → InCounted g lost rebuilt (block_place g staged.block).row (block_place g staged.block).member e i → InDrained g lost rebuilt (staged ∷ []) e i
+unfolding block_covered
+block_drained g lost rebuilt staged e i below counted = record { covered = block_covered g staged e i below counted.within; counts = counted.counts }
+
+pub parity_drained : (g : Geometry) (lost : Option ℕ) (rebuilt : ℕ) (staged : Staged) (e i : ℕ) → staged.block < volume g → InCounted g lost rebuilt (block_place g staged.block).row (parity_member g (block_place g staged.block).row) e i → InDrained g lost rebuilt (staged ∷ []) e i
+unfolding parity_covered
+parity_drained g lost rebuilt staged e i below counted = record { covered = parity_covered g staged e i below counted.within; counts = counted.counts }
+
 -- a write whose two places were written is drained
 pub both_written : (g : Geometry) (lost : Option ℕ) (rebuilt : ℕ) (staged : Staged) (x y z : Disks) → staged.block < volume g
     → PlaceWritten g lost rebuilt (block_place g staged.block).row (block_place g staged.block).member staged.bytes x y
@@ -143,16 +161,16 @@ both_written g lost rebuilt staged x y z below block parity =
     let here = block_place g staged.block in
     let at_parity = parity_member g here.row in
     record {
-      differs = differs_again (Covered g (staged ∷ [])) x y z
-          (differs_mono (place_area g here.row here.member) (Covered g (staged ∷ [])) x y (λ e i. block_covered g staged e i below) block.differs)
-          (differs_mono (place_area g here.row at_parity) (Covered g (staged ∷ [])) y z (λ e i. parity_covered g staged e i below) parity.differs);
+      differs = differs_again (InDrained g lost rebuilt (staged ∷ [])) x y z
+          (differs_mono (InCounted g lost rebuilt here.row here.member) (InDrained g lost rebuilt (staged ∷ [])) x y (λ e i. block_drained g lost rebuilt staged e i below) block.differs)
+          (differs_mono (InCounted g lost rebuilt here.row at_parity) (InDrained g lost rebuilt (staged ∷ [])) y z (λ e i. parity_drained g lost rebuilt staged e i below) parity.differs);
       there = λ row m bytes in_rows inside counts found.
           elim (cases_eq row here.row) [
             | inl e ↦ elim (cases_eq m here.member) [
               | inl f ↦
                   let counts_here = subst (λ r. Counts lost rebuilt r here.member) e (subst (λ k. Counts lost rebuilt row k) f counts) in
                   ap (λ r. member_place g z r m) e ∙ ap (λ k. member_place g z here.row k) f
-                  ∙ place_beside g here.row here.member here.row at_parity y z parity.differs (λ same apart. block_is_not_parity g staged.block apart)
+                  ∙ place_beside g here.row here.member here.row at_parity y z (differs_mono (InCounted g lost rebuilt here.row at_parity) (place_area g here.row at_parity) y z (λ e i counted. counted.within) parity.differs) (λ same apart. block_is_not_parity g staged.block apart)
                   ∙ block.there counts_here ∙ is_it (staged_at g staged row m) staged.bytes bytes (staged_at_block g staged row m e f) found
               | inr h ↦ elim (cases_eq m (parity_member g row)) [
                 | inl f ↦

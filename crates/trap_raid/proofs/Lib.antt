@@ -5,5 +5,6 @@ pub mod CostLemmas
 pub mod FitLemmas
 pub mod DrainLemmas
 pub mod DrainSteps
+pub mod DrainCosts
 pub mod MemberLemmas
 pub mod ZeroLemmas

@@ -7,7 +7,7 @@ use Rattle.trap_model.specs.Image.{volume, IsImage}
 use Rattle.trap_model.specs.declared.numbers.Geometry.{Geometry}
 use Rattle.trap_bank.specs.Disks.{Disks, Contents, View, Area, Differs, region, size_of}
 use Rattle.trap_bank.specs.Calls.{IsLawful, MayLeave}
-use Rattle.trap_bank.proofs.Regions.{region_apart, region_of_disk}
+use Rattle.trap_bank.proofs.Regions.{region_apart, region_of_disk, differs_mono}
 use Rattle.trap_format.specs.MemberDisk.{row_at}
 use Rattle.trap_map.specs.Layout.{block_place}
 use Rattle.trap_map.specs.Table.{row_parity, table}
@@ -15,7 +15,7 @@ use Rattle.trap_stage.proofs.Overlays.{laid_over-append, laid_over_same, laid_ov
 use Rattle.trap_stage.proofs.Standing.{stand_from_writes}
 use Rattle.trap_stage.specs.Staged.{Staged, newest_at, laid_over, image_after_writes, AreWrites}
 use Rattle.trap_raid.specs.Members.{Counts, MembersFit, StandFor, IsMember, IsOut, IsTrusted, MembersHold, InHeaders, InPlaces, Covered, member_place}
-use Rattle.trap_raid.specs.Draining.{AreDrained, Drains}
+use Rattle.trap_raid.specs.Draining.{AreDrained, Drains, InDrained}
 use Rattle.trap_raid.proofs.FitLemmas.{counts_first, others_count}
 use Rattle.trap_raid.proofs.DrainLemmas.{one_place, covered_older}
 use Rattle.trap_raid.proofs.OptionLemmas.{not_both}
@@ -239,4 +239,4 @@ torn_members g lost rebuilt newer older image x y holds differs =
 -- after it they hold the same with the newer writes alone pending
 pub members_after_drain : (g : Geometry) (lost : Option ℕ) (rebuilt : ℕ) (newer older : List Staged) (image : List (List ℕ)) (x y : Disks) → MembersHold g lost rebuilt (newer ++ older) image x → Drains g lost rebuilt older x y → MembersHold g lost rebuilt newer image y
 members_after_drain g lost rebuilt newer older image x y holds drains =
-    drained_members g lost rebuilt newer older image y (torn_members g lost rebuilt newer older image x y holds drains.differs) drains.there
+    drained_members g lost rebuilt newer older image y (torn_members g lost rebuilt newer older image x y holds (differs_mono (InDrained g lost rebuilt older) (Covered g older) x y (λ e i drained. drained.covered) drains.differs)) drains.there

@@ -1,10 +1,10 @@
 -- What a call does that only reads members.
-use Rattle.std.specs.Prelude.{◌≡◌, ◌≢◌, ℕ, ◌+◌, ◌-◌, ◌^◌, ◌<◌, ◌≤◌, min, max, List, Option, Some, None, Result, OnOk, IsTrue}
+use Rattle.std.specs.Prelude.{◌≡◌, ◌≢◌, ◌⊎◌, ℕ, ◌+◌, ◌-◌, ◌^◌, ◌<◌, ◌≤◌, min, max, List, Option, Some, None, Result, OnOk, IsTrue}
 use Rattle.trap_model.specs.declared.numbers.Geometry.{Geometry}
 use Rattle.trap_bank.specs.Disks.{View}
 use Rattle.trap_bank.specs.Faults.{Rose}
 use Rattle.trap_bank.specs.Steps.{Moves, Same}
-use Rattle.trap_map.specs.Layout.{block_place}
+use Rattle.trap_map.specs.Layout.{parity_member, block_place}
 use Rattle.trap_stage.specs.Staged.{Staged, newest_at}
 
 -- the disks are as they were, also after a crash at any moment
@@ -18,6 +18,23 @@ pub record HasFailed (g : Geometry) (lost : Option ℕ) (old new : View) (member
   pub inside : member < g.members
   pub apart : lost ≢ Some member
   pub rose : Rose (old.faults (member + 1)) (new.faults (member + 1))
+
+-- A place of member m is read for the place of this member in its row, and nothing is pending for either: it is the
+-- place itself, or where the member is lost, that of another one. The lost member's is never read.
+pub record IsReadFor (g : Geometry) (lost : Option ℕ) (writes : List Staged)
+    (row member m : ℕ) : Type 0 where
+  pub inside : m < g.members
+  pub own : newest_at g writes row member ≡ None
+  pub bare : newest_at g writes row m ≡ None
+  pub apart : lost ≢ Some m
+  pub itself : lost ≢ Some member → m ≡ member
+
+-- a place of the member is read for a block's place, or for the parity of its row
+abbrev pub IsReadForBlock : Geometry → Option ℕ → List Staged → ℕ → ℕ → Type 0
+IsReadForBlock g lost writes block m =
+    let place = block_place g block in
+    IsReadFor g lost writes place.row place.member m
+    ⊎ IsReadFor g lost writes place.row (parity_member g place.row) m
 
 -- the moment after so many calls of a bank that counts each of them, up to the end of 64 bits
 abbrev pub moment_after : ℕ → ℕ → ℕ

@@ -8,9 +8,9 @@ ghost use Rattle.trap_bank.specs.Disks.{Differs, Torn};
 ghost use Rattle.trap_bank.specs.Steps.{Moves};
 ghost use Rattle.trap_model.specs.Image.{IsImage};
 ghost use Rattle.trap_stage.specs.Slots.{last_of};
-ghost use Rattle.trap_raid.specs.Members.{Counts, IsPlace, PlaceFits, BlockFits, MembersFit, StandFor, Covered, member_place};
-ghost use Rattle.trap_raid.specs.Draining.{writes_to, Drains};
-ghost use Rattle.trap_raid.specs.Reads.{OnlyReads, HasFailed, ReadCosts, PlanCosts};
+ghost use Rattle.trap_raid.specs.Members.{Counts, IsPlace, PlaceFits, BlockFits, MembersFit, StandFor, member_place};
+ghost use Rattle.trap_raid.specs.Draining.{writes_to, Drains, InDrained, IsDrainedTo, CostsWhole, drain_calls};
+ghost use Rattle.trap_raid.specs.Reads.{OnlyReads, HasFailed, IsReadFor, IsReadForBlock, ReadCosts, PlanCosts};
 ghost use Rattle.trap_raid.specs.Plan.{AreBlocks, IsPlan};
 
 use crate::MemberFailed;
@@ -101,6 +101,8 @@ impl Raid {
             → OnOk result (into.new ≡ table self.now.g image place.row place.member) }
         ensures cause { IfErr result (λ failed.
             HasFailed self.now.g self.now.lost (B.view bank.old) (B.view bank.new) failed.member) }
+        ensures read { IfErr result (λ failed. IsReadFor self.now.g self.now.lost stage.now.pending
+            place.row place.member failed.member) }
         ensures cost { ReadCosts self.now.g self.now.lost stage.now.pending place.row place.member
             result (B.view bank.old) (B.view bank.new) }
 
@@ -142,6 +144,8 @@ impl Raid {
             → OnOk result (IsPlan self.now.g image block fresh.now delta.new parity.new) }
         ensures cause { IfErr result (λ failed.
             HasFailed self.now.g self.now.lost (B.view bank.old) (B.view bank.new) failed.member) }
+        ensures read { IfErr result (λ failed. IsReadForBlock self.now.g self.now.lost stage.now.pending
+            block failed.member) }
         ensures cost { PlanCosts self.now.g self.now.lost stage.now.pending block result
             (B.view bank.old) (B.view bank.new) }
 
@@ -161,26 +165,38 @@ impl Raid {
     }
 
     /// Writes the pending writes up to this number to the members, the oldest first, and syncs each place. Places that
-    /// don't count are left. The slots stay pending: the caller puts a head with the new number first.
+    /// don't count are left, as are the writes above the number. The slots stay pending: the caller puts a head with the
+    /// new number first.
     pub fn drain<B: Bank>(&self, bank: &mut B, stage: &Stage, upto: u64) -> Result<(), MemberFailed>
         requires stage { stage.now.g ≡ self.now.g }
         requires low { stage.now.drained ≤ upto }
         requires high { upto ≤ last_of stage.now }
         requires disks { MembersFit self.now.g self.now.lost self.now.rebuilt (B.view bank.old) }
         ensures ok { OnOk result (Moves (B.view bank.old) (B.view bank.new)
-            (Differs (Covered self.now.g (writes_to stage.now upto)))
+            (Differs (InDrained self.now.g self.now.lost self.now.rebuilt
+            (writes_to stage.now upto)))
             (Drains self.now.g self.now.lost self.now.rebuilt (writes_to stage.now upto))) }
         ensures contents { IsTrue (B.view bank.old).tells
-            → Torn (Covered self.now.g (writes_to stage.now upto)) (B.view bank.old).now (B.view bank.new).now }
+            → Torn (InDrained self.now.g self.now.lost self.now.rebuilt
+            (writes_to stage.now upto)) (B.view bank.old).now (B.view bank.new).now }
         ensures sizes { (e : ℕ) → (B.view bank.new).sizes e ≡ (B.view bank.old).sizes e }
         ensures cause { IfErr result (λ failed. HasFailed self.now.g None
             (B.view bank.old) (B.view bank.new) failed.member) }
         ensures counts { IfErr result (λ failed. Counts self.now.lost self.now.rebuilt 0 failed.member) }
 
-        // Stopped at any moment, no byte has changed but in places for which something is pending.
+        // It fails only by a member that it writes.
+        ensures place { IfErr result (λ failed. IsDrainedTo self.now.g self.now.lost self.now.rebuilt
+            (writes_to stage.now upto) failed.member) }
+        ensures cost { CostsWhole (drain_calls self.now.g self.now.lost self.now.rebuilt
+            (writes_to stage.now upto)) result (B.view bank.old) (B.view bank.new) }
+
+        // Stopped at any moment, no byte has changed but in places that count and that these writes
+        // cover: nothing of the lost member's from its mark on, and no slot.
         ensures any_moment { Moves (B.view bank.old) (B.view bank.new)
-            (Differs (Covered self.now.g (writes_to stage.now upto)))
-            (Differs (Covered self.now.g (writes_to stage.now upto))) }
+            (Differs (InDrained self.now.g self.now.lost self.now.rebuilt
+            (writes_to stage.now upto)))
+            (Differs (InDrained self.now.g self.now.lost self.now.rebuilt
+            (writes_to stage.now upto))) }
     {
         for number in stage.drained()..upto {
             let (block, bytes, parity) = stage.slot(number + 1);

@@ -63,6 +63,8 @@ pub(crate) fn read_standing<B: Bank>(
         place.row place.member) }
     ensures cause { IfErr result (λ failed. (failed.member ≡ place.member)
         × HasFailed g.now None (B.view bank.old) (B.view bank.new) failed.member) }
+    ensures bare { IfErr result (λ failed.
+        newest_at g.now stage.now.pending place.row place.member ≡ None) }
     ensures cost { Costs (calls_for (newest_at g.now stage.now.pending place.row place.member))
         (B.view bank.old) (B.view bank.new) }
     ensures any_moment { OnlyReads (B.view bank.old) (B.view bank.new) }
@@ -97,6 +99,8 @@ pub(crate) fn read_others<B: Bank>(
         place.row) g.now.members) }
     ensures cause { IfErr result (λ failed.
         HasFailed g.now (Some place.member) (B.view bank.old) (B.view bank.new) failed.member) }
+    ensures bare { IfErr result (λ failed.
+        newest_at g.now stage.now.pending place.row failed.member ≡ None) }
     ensures cost { NonePending g.now stage.now.pending place.row
         → OnOk result (Costs (g.now.members - 1) (B.view bank.old) (B.view bank.new)) }
     ensures cost_at_most { CostsAtMost (g.now.members - 1) (B.view bank.old) (B.view bank.new) }

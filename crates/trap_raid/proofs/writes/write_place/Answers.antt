@@ -2,13 +2,39 @@ use Rattle.std.proofs.Common.{◌≡◌, ◌+◌, ◌*◌, ap, ◌∙◌, arith,
 use Rattle.trap_format.specs.MemberDisk.{row_at}
 use Rattle.trap_raid.specs.Members.{Counts}
 use Rattle.trap_raid.proofs.FitLemmas.{row_fits}
+use Rattle.trap_raid.proofs.DrainSteps.{counted_step, counted_written}
 use Rattle.trap_raid.proofs.writes.write_place.Goals as goal
 
 -- the place counts, so that its disk has all rows
-pub write_through-requires-clause-room : goal.write_through-requires-clause-room
-write_through-requires-clause-room g c =
+pub write_and_sync-requires-clause-room : goal.write_and_sync-requires-clause-room
+write_and_sync-requires-clause-room g c =
     let counts : Counts c.args.lost c.args.rebuilt c.args.place.row c.args.place.member = search rules in
     let there = row_fits c.args.g.now c.args.lost c.args.rebuilt (g.B.Bank.view c.args.bank.now) c.args.place.row c.args.place.member c.requires.disks c.requires.place.row c.requires.place.member counts in
     let at : 16 + c.from.result * c.from-2.result ≡ row_at c.args.g.now c.args.place.row =
     ap (λ r. 16 + r * c.from-2.result) c.from.ensures ∙ ap (λ b. 16 + c.args.place.row * b) c.from-2.ensures in
     (there.0, there.1, omega (arith, there.2, at, c.requires.size))
+
+-- it is written, and nothing else
+pub returns-in-Ok-clause-ok : goal.returns-in-Ok-clause-ok
+returns-in-Ok-clause-ok g c =
+    let counts : Counts c.args.lost c.args.rebuilt c.args.place.row c.args.place.member = search rules in
+    let at : 16 + c.from.result * c.from-2.result ≡ row_at c.args.g.now c.args.place.row =
+    ap (λ r. 16 + r * c.from-2.result) c.from.ensures ∙ ap (λ b. 16 + c.args.place.row * b) c.from-2.ensures in
+    counted_written c.args.g.now c.args.lost c.args.rebuilt c.args.place.row c.args.place.member (16 + c.from.result * c.from-2.result) c.args.bytes.now counts at c.requires.size
+    (g.B.Bank.view c.args.bank.now) (g.B.Bank.view c.write_and_sync.new.bank) c.in-Ok.ensures.ok
+
+pub returns-in-Ok-clause-any_moment : goal.returns-in-Ok-clause-any_moment
+returns-in-Ok-clause-any_moment g c =
+    let counts : Counts c.args.lost c.args.rebuilt c.args.place.row c.args.place.member = search rules in
+    let at : 16 + c.from.result * c.from-2.result ≡ row_at c.args.g.now c.args.place.row =
+    ap (λ r. 16 + r * c.from-2.result) c.from.ensures ∙ ap (λ b. 16 + c.args.place.row * b) c.from-2.ensures in
+    counted_step c.args.g.now c.args.lost c.args.rebuilt c.args.place.row c.args.place.member (16 + c.from.result * c.from-2.result) c.args.bytes.now counts at c.requires.size
+    (g.B.Bank.view c.args.bank.now) (g.B.Bank.view c.write_and_sync.new.bank) c.write_and_sync.ensures.any_moment
+
+pub returns-in-Err-clause-any_moment : goal.returns-in-Err-clause-any_moment
+returns-in-Err-clause-any_moment g c =
+    let counts : Counts c.args.lost c.args.rebuilt c.args.place.row c.args.place.member = search rules in
+    let at : 16 + c.from.result * c.from-2.result ≡ row_at c.args.g.now c.args.place.row =
+    ap (λ r. 16 + r * c.from-2.result) c.from.ensures ∙ ap (λ b. 16 + c.args.place.row * b) c.from-2.ensures in
+    counted_step c.args.g.now c.args.lost c.args.rebuilt c.args.place.row c.args.place.member (16 + c.from.result * c.from-2.result) c.args.bytes.now counts at c.requires.size
+    (g.B.Bank.view c.args.bank.now) (g.B.Bank.view c.write_and_sync.new.bank) c.write_and_sync.ensures.any_moment

@@ -1,6 +1,11 @@
-use Rattle.std.proofs.lemmas.Result.{on_ok_weaker}
+use Rattle.std.proofs.Common.{◌≡◌, Err, IfErr, ◌∷◌, [], subst, rules}
+use Rattle.std.proofs.lemmas.Result.{on_ok_weaker, IfErr-weaker}
+use Rattle.trap_stage.specs.Staged.{Staged}
+use Rattle.trap_raid.specs.Draining.{IsDrainedTo}
 use Rattle.trap_raid.proofs.FitLemmas.{fit_along}
 use Rattle.trap_raid.proofs.DrainSteps.{block_torn, slot_torn, block_step, slot_step, slot_steps}
+use Rattle.trap_raid.proofs.DrainSteps.{block_fails, parity_fails}
+use Rattle.trap_raid.proofs.DrainCosts.{slot_cost, slot_failed}
 use Rattle.trap_raid.proofs.writes.write_slot.Goals as goal
 
 pub write_place-requires-2-clause-disks : goal.write_place-requires-2-clause-disks
@@ -8,12 +13,12 @@ write_place-requires-2-clause-disks g c = fit_along c.args.g.now c.args.lost c.a
 
 pub returns-in_err-write_place-clause-any_moment : goal.returns-in_err-write_place-clause-any_moment
 returns-in_err-write_place-clause-any_moment g c =
-    block_step c.args.g.now (record { block = c.args.block; bytes = c.args.bytes.now; parity = c.args.parity.now }) c.place_of-place.result _ _
+    block_step c.args.g.now c.args.lost c.args.rebuilt (record { block = c.args.block; bytes = c.args.bytes.now; parity = c.args.parity.now }) c.place_of-place.result _ _
     c.requires.block c.place_of-place.ensures.place c.write_place.ensures.any_moment
 
 pub returns-clause-any_moment : goal.returns-clause-any_moment
 returns-clause-any_moment g c =
-    slot_step c.args.g.now (record { block = c.args.block; bytes = c.args.bytes.now; parity = c.args.parity.now }) c.place_of-place.result c.parity_of.result _ _ _
+    slot_step c.args.g.now c.args.lost c.args.rebuilt (record { block = c.args.block; bytes = c.args.bytes.now; parity = c.args.parity.now }) c.place_of-place.result c.parity_of.result _ _ _
     c.requires.block c.place_of-place.ensures.place c.parity_of.ensures.parity c.write_place.ensures.any_moment c.write_place-2.ensures.any_moment
 
 pub returns-clause-ok : goal.returns-clause-ok
@@ -24,11 +29,42 @@ returns-clause-ok g c = on_ok_weaker c.write_place-2.result
 
 pub returns-in_err-write_place-clause-contents : goal.returns-in_err-write_place-clause-contents
 returns-in_err-write_place-clause-contents g c =
-    block_torn c.args.g.now (record { block = c.args.block; bytes = c.args.bytes.now; parity = c.args.parity.now }) c.place_of-place.result (g.B.Bank.view c.args.bank.now) (g.B.Bank.view c.write_place.new.bank)
+    block_torn c.args.g.now c.args.lost c.args.rebuilt (record { block = c.args.block; bytes = c.args.bytes.now; parity = c.args.parity.now }) c.place_of-place.result (g.B.Bank.view c.args.bank.now) (g.B.Bank.view c.write_place.new.bank)
     c.requires.block c.place_of-place.ensures.place c.write_place.ensures.contents
 
 pub returns-clause-contents : goal.returns-clause-contents
 returns-clause-contents g c =
-    slot_torn c.args.g.now (record { block = c.args.block; bytes = c.args.bytes.now; parity = c.args.parity.now }) c.place_of-place.result c.parity_of.result
+    slot_torn c.args.g.now c.args.lost c.args.rebuilt (record { block = c.args.block; bytes = c.args.bytes.now; parity = c.args.parity.now }) c.place_of-place.result c.parity_of.result
     (g.B.Bank.view c.args.bank.now) (g.B.Bank.view c.write_place.new.bank) (g.B.Bank.view c.write_place-2.new.bank)
     c.requires.block c.place_of-place.ensures.place c.parity_of.ensures.parity c.write_place.ensures.any_moment.tells c.write_place.ensures.contents c.write_place-2.ensures.contents
+
+-- a member fails in one of the two places, and that counts
+pub returns-in_err-write_place-clause-place : goal.returns-in_err-write_place-clause-place
+returns-in_err-write_place-clause-place g c =
+    let staged : Staged = record { block = c.args.block; bytes = c.args.bytes.now; parity = c.args.parity.now } in
+    let is : Err c.in_err-write_place.field-0.0 ≡ c.from_residual.result = search rules in
+    subst (λ r. IfErr r (λ failed. IsDrainedTo c.args.g.now c.args.lost c.args.rebuilt (staged ∷ []) failed.member)) is
+    (block_fails c.args.g.now c.args.lost c.args.rebuilt staged c.place_of-place.result c.in_err-write_place.field-0.0.member
+    c.requires.block c.place_of-place.ensures.place c.in_err-write_place.ensures.place)
+
+pub returns-clause-place : goal.returns-clause-place
+returns-clause-place g c =
+    let staged : Staged = record { block = c.args.block; bytes = c.args.bytes.now; parity = c.args.parity.now } in
+    IfErr-weaker c.write_place-2.result _ (λ failed. IsDrainedTo c.args.g.now c.args.lost c.args.rebuilt (staged ∷ []) failed.member)
+    (λ failed at. parity_fails c.args.g.now c.args.lost c.args.rebuilt staged c.place_of-place.result c.parity_of.result failed.member
+    c.requires.block c.place_of-place.ensures.place c.parity_of.ensures.parity at)
+    c.write_place-2.ensures.place
+
+pub returns-in_err-write_place-clause-cost : goal.returns-in_err-write_place-clause-cost
+returns-in_err-write_place-clause-cost g c =
+    let staged : Staged = record { block = c.args.block; bytes = c.args.bytes.now; parity = c.args.parity.now } in
+    let is : Err c.in_err-write_place.field-0.0 ≡ c.from_residual.result = search rules in
+    slot_failed c.args.g.now c.args.lost c.args.rebuilt staged c.place_of-place.result c.write_place.result c.from_residual.result c.in_err-write_place.field-0.0
+    (g.B.Bank.view c.args.bank.now) (g.B.Bank.view c.write_place.new.bank) c.place_of-place.ensures.place is c.write_place.ensures.cost
+
+pub returns-clause-cost : goal.returns-clause-cost
+returns-clause-cost g c =
+    let staged : Staged = record { block = c.args.block; bytes = c.args.bytes.now; parity = c.args.parity.now } in
+    slot_cost c.args.g.now c.args.lost c.args.rebuilt staged c.place_of-place.result c.parity_of.result c.write_place-2.result
+    (g.B.Bank.view c.args.bank.now) (g.B.Bank.view c.write_place.new.bank) (g.B.Bank.view c.write_place-2.new.bank)
+    c.place_of-place.ensures.place c.parity_of.ensures.parity c.write_place.ensures.any_moment.tells c.in_ok-write_place.ensures.cost.whole c.write_place-2.ensures.cost

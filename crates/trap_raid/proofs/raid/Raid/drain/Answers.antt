@@ -1,13 +1,16 @@
-use Rattle.std.proofs.Common.{ℕ, [], ◌∷◌, IsTrue, refl, sym, subst, ◌∙◌, arith}
+use Rattle.std.proofs.Common.{◌≡◌, ℕ, List, [], ◌∷◌, IsTrue, Err, IfErr, refl, sym, ap, subst, ◌∙◌, arith, rules}
 use Rattle.trap_bank.specs.Disks.{Differs, Torn}
 use Rattle.trap_bank.specs.Steps.{Moves}
 use Rattle.trap_bank.proofs.Moves.{torn_same}
 use Rattle.trap_stage.specs.Staged.{Staged}
 use Rattle.trap_raid.specs.Condition.{Condition}
-use Rattle.trap_raid.specs.Members.{MembersFit, Covered}
-use Rattle.trap_raid.specs.Draining.{writes_to, Drains}
+use Rattle.trap_raid.specs.Members.{MembersFit}
+use Rattle.trap_raid.specs.Draining.{writes_to, Drains, InDrained, IsDrainedTo, CostsWhole, write_calls, drain_calls}
+use Rattle.trap_raid.specs.Reads.{Costs}
 use Rattle.trap_raid.proofs.FitLemmas.{fit_along}
-use Rattle.trap_raid.proofs.DrainSteps.{drain_start, drain_more, drain_torn, drain_given}
+use Rattle.trap_raid.proofs.DrainSteps.{drain_start, drain_more, drain_torn, drain_given, drain_fails, writes_to-none}
+use Rattle.trap_raid.proofs.DrainCosts.{drain_costs, drain_cost_failed, drain_cost_whole}
+use Rattle.trap_raid.proofs.CostLemmas.{costs_none}
 use Rattle.trap_raid.proofs.raid.Raid.drain.Goals as goal
 
 pub write_slot-requires-clause-disks : goal.write_slot-requires-clause-disks
@@ -19,9 +22,11 @@ write_slot-requires-clause-disks g c =
 pub loop-number-init : goal.loop-number-init
 loop-number-init g c = record {
   moves = subst (λ (n : ℕ). Moves (g.B.Bank.view c.args.bank.now) (g.B.Bank.view c.args.bank.now)
-      (Differs (Covered c.args.self.now.g (writes_to c.args.stage.now c.args.upto))) (Drains c.args.self.now.g c.args.self.now.lost c.args.self.now.rebuilt (writes_to c.args.stage.now n)))
+      (Differs (InDrained c.args.self.now.g c.args.self.now.lost c.args.self.now.rebuilt (writes_to c.args.stage.now c.args.upto))) (Drains c.args.self.now.g c.args.self.now.lost c.args.self.now.rebuilt (writes_to c.args.stage.now n)))
       (sym c.drained-number.ensures) (drain_start c.args.self.now.g c.args.self.now.lost c.args.self.now.rebuilt c.args.stage.now c.args.upto (g.B.Bank.view c.args.bank.now));
-  contents = torn_same (Covered c.args.self.now.g (writes_to c.args.stage.now c.args.upto)) (g.B.Bank.view c.args.bank.now) (g.B.Bank.view c.args.bank.now) (λ told. refl);
+  contents = torn_same (InDrained c.args.self.now.g c.args.self.now.lost c.args.self.now.rebuilt (writes_to c.args.stage.now c.args.upto)) (g.B.Bank.view c.args.bank.now) (g.B.Bank.view c.args.bank.now) (λ told. refl);
+  cost = subst (λ (writes : List Staged). Costs (drain_calls c.args.self.now.g c.args.self.now.lost c.args.self.now.rebuilt writes) (g.B.Bank.view c.args.bank.now) (g.B.Bank.view c.args.bank.now))
+      (sym (ap (λ (n : ℕ). writes_to c.args.stage.now n) c.drained-number.ensures ∙ writes_to-none c.args.stage.now)) (costs_none (g.B.Bank.view c.args.bank.now));
   sizes = λ e. refl;
 }
 
@@ -32,10 +37,12 @@ loop-number-preserved g c =
     let new = g.B.Bank.view c.write_slot.new.bank in
     let here = c.args.self.now in
     let staged : Staged = record { block = c.slot-block.result.0; bytes = c.slot-block.result.1.now; parity = c.slot-block.result.2.now } in
-    let P : Condition → Type 0 = λ k. Moves mid new (Differs (Covered k.g (staged ∷ []))) (Drains k.g k.lost k.rebuilt (staged ∷ [])) in
-    let Q : Staged → Type 0 = λ one. Moves mid new (Differs (Covered here.g (one ∷ []))) (Drains here.g here.lost here.rebuilt (one ∷ [])) in
-    let S : Condition → Type 0 = λ k. IsTrue mid.tells → Torn (Covered k.g (staged ∷ [])) mid.now new.now in
-    let R : Staged → Type 0 = λ one. IsTrue mid.tells → Torn (Covered here.g (one ∷ [])) mid.now new.now in
+    let P : Condition → Type 0 = λ k. Moves mid new (Differs (InDrained k.g k.lost k.rebuilt (staged ∷ []))) (Drains k.g k.lost k.rebuilt (staged ∷ [])) in
+    let Q : Staged → Type 0 = λ one. Moves mid new (Differs (InDrained here.g here.lost here.rebuilt (one ∷ []))) (Drains here.g here.lost here.rebuilt (one ∷ [])) in
+    let S : Condition → Type 0 = λ k. IsTrue mid.tells → Torn (InDrained k.g k.lost k.rebuilt (staged ∷ [])) mid.now new.now in
+    let R : Staged → Type 0 = λ one. IsTrue mid.tells → Torn (InDrained here.g here.lost here.rebuilt (one ∷ [])) mid.now new.now in
+    let T : Condition → Type 0 = λ k. Costs (write_calls k.g k.lost k.rebuilt staged) mid new in
+    let U : Staged → Type 0 = λ one. Costs (write_calls here.g here.lost here.rebuilt one) mid new in
     record {
       moves = drain_more here.g here.lost here.rebuilt c.args.stage.now c.loop-number.number c.args.upto (omega (arith, c.loop-number.auto.number, c.drained-number.ensures)) (omega arith) c.requires.high
           (g.B.Bank.view c.args.bank.now) mid new c.loop-number.invariant.moves
@@ -43,6 +50,9 @@ loop-number-preserved g c =
       contents = drain_given here.g here.lost here.rebuilt c.args.stage.now c.loop-number.number c.args.upto (omega (arith, c.loop-number.auto.number, c.drained-number.ensures)) (omega arith) c.requires.high
           (g.B.Bank.view c.args.bank.now) mid new c.loop-number.invariant.moves.tells c.loop-number.invariant.contents
           (subst R c.slot-block.ensures.is (subst S c.self.view_is c.write_slot.ensures.contents));
+      cost = drain_costs here.g here.lost here.rebuilt c.args.stage.now c.loop-number.number c.args.upto (omega (arith, c.loop-number.auto.number, c.drained-number.ensures)) (omega arith) c.requires.high
+          (g.B.Bank.view c.args.bank.now) mid new c.loop-number.invariant.moves.tells c.loop-number.invariant.cost
+          (subst U c.slot-block.ensures.is (subst T c.self.view_is c.in_ok-write_slot.ensures.cost.whole));
       sizes = λ e. c.write_slot.ensures.sizes e ∙ c.loop-number.invariant.sizes e;
     }
 
@@ -53,8 +63,8 @@ returns-in_err-write_slot-clause-any_moment g c =
     let new = g.B.Bank.view c.write_slot.new.bank in
     let here = c.args.self.now in
     let staged : Staged = record { block = c.slot-block.result.0; bytes = c.slot-block.result.1.now; parity = c.slot-block.result.2.now } in
-    let P : Condition → Type 0 = λ k. Moves mid new (Differs (Covered k.g (staged ∷ []))) (Differs (Covered k.g (staged ∷ []))) in
-    let Q : Staged → Type 0 = λ one. Moves mid new (Differs (Covered here.g (one ∷ []))) (Differs (Covered here.g (one ∷ []))) in
+    let P : Condition → Type 0 = λ k. Moves mid new (Differs (InDrained k.g k.lost k.rebuilt (staged ∷ []))) (Differs (InDrained k.g k.lost k.rebuilt (staged ∷ []))) in
+    let Q : Staged → Type 0 = λ one. Moves mid new (Differs (InDrained here.g here.lost here.rebuilt (one ∷ []))) (Differs (InDrained here.g here.lost here.rebuilt (one ∷ []))) in
     drain_torn here.g here.lost here.rebuilt c.args.stage.now c.loop-number.number c.args.upto (omega (arith, c.loop-number.auto.number, c.drained-number.ensures)) (omega arith) c.requires.high
     (g.B.Bank.view c.args.bank.now) mid new c.loop-number.invariant.moves
     (subst Q c.slot-block.ensures.is (subst P c.self.view_is c.write_slot.ensures.any_moment))
@@ -66,8 +76,42 @@ returns-in_err-write_slot-clause-contents g c =
     let new = g.B.Bank.view c.write_slot.new.bank in
     let here = c.args.self.now in
     let staged : Staged = record { block = c.slot-block.result.0; bytes = c.slot-block.result.1.now; parity = c.slot-block.result.2.now } in
-    let S : Condition → Type 0 = λ k. IsTrue mid.tells → Torn (Covered k.g (staged ∷ [])) mid.now new.now in
-    let R : Staged → Type 0 = λ one. IsTrue mid.tells → Torn (Covered here.g (one ∷ [])) mid.now new.now in
+    let S : Condition → Type 0 = λ k. IsTrue mid.tells → Torn (InDrained k.g k.lost k.rebuilt (staged ∷ [])) mid.now new.now in
+    let R : Staged → Type 0 = λ one. IsTrue mid.tells → Torn (InDrained here.g here.lost here.rebuilt (one ∷ [])) mid.now new.now in
     drain_given here.g here.lost here.rebuilt c.args.stage.now c.loop-number.number c.args.upto (omega (arith, c.loop-number.auto.number, c.drained-number.ensures)) (omega arith) c.requires.high
     (g.B.Bank.view c.args.bank.now) mid new c.loop-number.invariant.moves.tells c.loop-number.invariant.contents
     (subst R c.slot-block.ensures.is (subst S c.self.view_is c.write_slot.ensures.contents))
+
+-- the member is one that the write goes to
+pub returns-in_err-write_slot-clause-place : goal.returns-in_err-write_slot-clause-place
+returns-in_err-write_slot-clause-place g c =
+    let here = c.args.self.now in
+    let staged : Staged = record { block = c.slot-block.result.0; bytes = c.slot-block.result.1.now; parity = c.slot-block.result.2.now } in
+    let failed = c.in_err-write_slot.field-0.0 in
+    let P : Condition → Type 0 = λ k. IsDrainedTo k.g k.lost k.rebuilt (staged ∷ []) failed.member in
+    let Q : Staged → Type 0 = λ one. IsDrainedTo here.g here.lost here.rebuilt (one ∷ []) failed.member in
+    let is : Err c.in_err-write_slot.field-0.0 ≡ c.from_residual.result = search rules in
+    subst (λ r. IfErr r (λ why. IsDrainedTo here.g here.lost here.rebuilt (writes_to c.args.stage.now c.args.upto) why.member)) is
+    (drain_fails here.g here.lost here.rebuilt c.args.stage.now c.loop-number.number c.args.upto (omega (arith, c.loop-number.auto.number, c.drained-number.ensures)) (omega arith) c.requires.high
+    failed.member (subst Q c.slot-block.ensures.is (subst P c.self.view_is c.in_err-write_slot.ensures.place)))
+
+pub returns-in_err-write_slot-clause-cost : goal.returns-in_err-write_slot-clause-cost
+returns-in_err-write_slot-clause-cost g c =
+    let mid = g.B.Bank.view c.loop-number.bank in
+    let new = g.B.Bank.view c.write_slot.new.bank in
+    let here = c.args.self.now in
+    let staged : Staged = record { block = c.slot-block.result.0; bytes = c.slot-block.result.1.now; parity = c.slot-block.result.2.now } in
+    let P : Condition → Type 0 = λ k. CostsWhole (write_calls k.g k.lost k.rebuilt staged) c.write_slot.result mid new in
+    let Q : Staged → Type 0 = λ one. CostsWhole (write_calls here.g here.lost here.rebuilt one) c.write_slot.result mid new in
+    let is : Err c.in_err-write_slot.field-0.0 ≡ c.from_residual.result = search rules in
+    drain_cost_failed here.g here.lost here.rebuilt c.args.stage.now c.loop-number.number c.args.upto (omega (arith, c.loop-number.auto.number, c.drained-number.ensures)) (omega arith) c.requires.high
+    c.write_slot.result c.from_residual.result c.in_err-write_slot.field-0.0 (g.B.Bank.view c.args.bank.now) mid new is c.loop-number.invariant.moves.tells c.loop-number.invariant.cost
+    (subst Q c.slot-block.ensures.is (subst P c.self.view_is c.write_slot.ensures.cost))
+
+-- it was called for each write
+pub returns-clause-cost : goal.returns-clause-cost
+returns-clause-cost g c =
+    let here = c.args.self.now in
+    let end : c.loop-number.number ≡ c.args.upto = omega (arith, c.loop-number.auto.number, c.drained-number.ensures, c.requires.low) in
+    drain_cost_whole (drain_calls here.g here.lost here.rebuilt (writes_to c.args.stage.now c.args.upto)) _ (g.B.Bank.view c.args.bank.now) (g.B.Bank.view c.loop-number.bank)
+    (subst (λ (n : ℕ). Costs (drain_calls here.g here.lost here.rebuilt (writes_to c.args.stage.now n)) (g.B.Bank.view c.args.bank.now) (g.B.Bank.view c.loop-number.bank)) end c.loop-number.invariant.cost)
