@@ -4,7 +4,7 @@ use Rattle.std.specs.Option.{option_or}
 use Rattle.std.proofs.lemmas.Bool.{eqb-true}
 use Rattle.trap_bank.specs.Disks.{View, Area, Within, Contents, Differs, Torn, Quiet}
 use Rattle.trap_bank.specs.Steps.{Moves, Same}
-use Rattle.trap_bank.proofs.Moves.{moves_weaken, moves_again, moves_mono, moves_same, torn_again, torn_same, torn_mono}
+use Rattle.trap_bank.proofs.Moves.{no_moves, moves_weaken, moves_again, moves_mono, moves_same, torn_again, torn_same, torn_mono}
 use Rattle.trap_cell.specs.Slots.{Place, Slots, slot_at, other_slot}
 use Rattle.trap_cell.specs.Steps.{PutsIn}
 use Rattle.trap_format.specs.MemberDisk.{row_at}
@@ -41,6 +41,16 @@ touches_mono small large a b within touches = record {
 
 pub touches_same : (area : Area) (a b : View) → (IsTrue a.tells → b.now ≡ a.now) → Moves a b Same Same → Touches area a b
 touches_same area a b same moves = record { contents = torn_same area a b same; any_moment = moves_same area a b moves }
+
+-- no call
+pub unchanged : (v : View) → IsTrue v.tells → v.now ≡ v.now
+unchanged v told = refl
+
+pub unmoved : (v : View) → Moves v v Same Same
+unmoved v = no_moves v Same Same (λ x was. refl)
+
+pub touches_none : (area : Area) (v : View) → Touches area v v
+touches_none area v = touches_same area v v (unchanged v) (unmoved v)
 
 -- ---- the head's cell
 in_cell : (cell : Slots) → cell.place ≡ head_place → (e i : ℕ) → other_slot cell e i → InCell e i

@@ -11,14 +11,14 @@ loop-before-init g c =
     record {
       within = omega arith;
       long = refl;
-      steps = lists_start c.args.array.now span.first span.last span.base_time span.last_time c.span-span.ensures view [];
+      steps = lists_start c.args.array.now span.first span.last span.base_time span.last_time c.span-span.ensures.reply view [];
       disks = keeps_none view;
     }
 
 pub returns-in_err-len-clause-steps : goal.returns-in_err-len-clause-steps
 returns-in_err-len-clause-steps g c =
     let span = c.span-span.result in
-    lists_failed c.args.array.now span.first span.last span.base_time span.last_time c.span-span.ensures (g.B.Bank.view c.args.bank.now) (g.B.Bank.view c.loop-before.bank) (g.B.Bank.view c.make_room.new.bank)
+    lists_failed c.args.array.now span.first span.last span.base_time span.last_time c.span-span.ensures.reply (g.B.Bank.view c.args.bank.now) (g.B.Bank.view c.loop-before.bank) (g.B.Bank.view c.make_room.new.bank)
     c.loop-before.before (omega arith) (omega arith) c.loop-before.piece c.loop-before.len c.loop-before.invariant.steps
     c.from_residual.result c.from_residual.ensures.0 c.in_err-len.ensures.steps
 
@@ -32,7 +32,7 @@ loop-before-preserved g c =
           let here : HasCome c.args.array.now (view c.args.bank.now) (view w.make_room.new.bank) (c.loop-before.before + 1) w.put_line-len.new.out w.put_line-len.result = record {
             within = omega (arith, w.put_line-len.ensures.end, w.in_ok-len.ensures.room, so_far.long);
             long = w.put_line-len.auto.out ∙ so_far.long;
-            steps = lists_line c.args.array.now span.first span.last span.base_time span.last_time c.span-span.ensures (view c.args.bank.now) (view c.loop-before.bank) (view w.make_room.new.bank)
+            steps = lists_line c.args.array.now span.first span.last span.base_time span.last_time c.span-span.ensures.reply (view c.args.bank.now) (view c.loop-before.bank) (view w.make_room.new.bank)
                 c.loop-before.before (omega arith) (omega arith) c.loop-before.piece c.loop-before.len so_far.steps
                 Failed w.in_ok-len.len w.put_line-len.result w.put_line-len.new.out w.in-Some.item w.in_ok-len.ensures.steps w.in-Some.ensures.some w.put_line-len.ensures.so_far;
             disks = keeps_then (view c.args.bank.now) (view c.loop-before.bank) (view w.make_room.new.bank) so_far.steps.tells so_far.disks w.make_room.ensures.disks;
@@ -42,7 +42,7 @@ loop-before-preserved g c =
           let here : HasCome c.args.array.now (view c.args.bank.now) (view c.loop-before.bank) (c.loop-before.before + 1) c.loop-before.piece c.loop-before.len = record {
             within = so_far.within;
             long = so_far.long;
-            steps = lists_none c.args.array.now span.first span.last span.base_time span.last_time c.span-span.ensures (view c.args.bank.now) (view c.loop-before.bank) (view c.loop-before.bank)
+            steps = lists_none c.args.array.now span.first span.last span.base_time span.last_time c.span-span.ensures.reply (view c.args.bank.now) (view c.loop-before.bank) (view c.loop-before.bank)
                 c.loop-before.before (omega arith) (omega arith) c.loop-before.piece c.loop-before.len so_far.steps
                 (λ inside. let both = w.in_default.ensures.retained.1 inside in cc both);
             disks = so_far.disks;
@@ -53,5 +53,5 @@ loop-before-preserved g c =
 pub returns-clause-steps : goal.returns-clause-steps
 returns-clause-steps g c =
     let span = c.span-span.result in
-    lists_end c.args.array.now span.first span.last span.base_time span.last_time c.span-span.ensures (g.B.Bank.view c.args.bank.now) (g.B.Bank.view c.loop-before.bank) (g.B.Bank.view c.say.new.self)
+    lists_end c.args.array.now span.first span.last span.base_time span.last_time c.span-span.ensures.reply (g.B.Bank.view c.args.bank.now) (g.B.Bank.view c.loop-before.bank) (g.B.Bank.view c.say.new.self)
     c.loop-before.before c.loop-before.piece c.loop-before.len c.say.result (λ order. omega (arith, order)) c.loop-before.invariant.steps c.say.ensures.call

@@ -6,8 +6,7 @@ use Rattle.trap_array.specs.Causes.{DeniedBy, of_write}
 use Rattle.trap_array.specs.Taking.{TakesStep}
 use Rattle.trap_array.proofs.Denials.{denied_write}
 use Rattle.trap_array.specs.Areas.{InWrite}
-use Rattle.trap_array.proofs.AreaSteps.{touches_same}
-use Rattle.trap_array.proofs.TurnSteps.{none_moves}
+use Rattle.trap_array.proofs.AreaSteps.{touches_none}
 use Rattle.trap_array.proofs.KeepSteps.{next_of, reply_of}
 use Rattle.trap_array.proofs.WriteSteps.{mounted, as_going, may_mounted, has_mounted, beyond_turned, beyond_any, ready_after}
 use Rattle.trap_array.proofs.array.Array.write.Goals as goal
@@ -21,7 +20,7 @@ returns-then-block-volume_of-clause-takes g c =
       any_moment = beyond_any c.args.self.now (g.B.Bank.view c.args.bank.now) c.args.time c.args.block c.args.bytes.now beyond;
       head = refl;
       pending = refl;
-      touches = touches_same (InWrite c.args.self.now c.args.block) (g.B.Bank.view c.args.bank.now) (g.B.Bank.view c.args.bank.now) (λ told. refl) (none_moves (g.B.Bank.view c.args.bank.now));
+      touches = touches_none (InWrite c.args.self.now c.args.block) (g.B.Bank.view c.args.bank.now);
     }
 
 pub keep-result-requires-clause-can : goal.keep-result-requires-clause-can

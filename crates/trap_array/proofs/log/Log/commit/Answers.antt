@@ -37,6 +37,7 @@ returns-in_err-fill-clause-any_moment g c =
     subst P c.self.view_is
     (fill_any log c.self.invariant.place c.self.invariant.same old entry c.args.parity.now c.args.spelled.now can refl c.ring_of-ring.result c.ring_of-ring.ensures v1 c.append.ensures.any_moment v2 c.fill.ensures.any_moment)
 
+-- ---- the sync fails
 pub returns-in_err-sync-clause-any_moment : goal.returns-in_err-sync-clause-any_moment
 returns-in_err-sync-clause-any_moment g c =
     let old = g.B.Bank.view c.args.bank.now in
@@ -50,28 +51,41 @@ returns-in_err-sync-clause-any_moment g c =
     subst P c.self.view_is
     (sync_any log c.self.invariant.place c.self.invariant.same old entry c.args.parity.now c.args.spelled.now can refl c.ring_of-ring.result c.ring_of-ring.ensures v1 c.append.ensures.any_moment v2 c.fill.ensures.any_moment v3 (sync_steps _ _ _ _ c.sync.ensures.call))
 
-pub put-requires-clause-room : goal.put-requires-clause-room
-put-requires-clause-room g c =
+pub returns-in_err-sync-clause-touches : goal.returns-in_err-sync-clause-touches
+returns-in_err-sync-clause-touches g c =
     let old = g.B.Bank.view c.args.bank.now in
     let v1 = g.B.Bank.view c.append.new.bank in
     let v2 = g.B.Bank.view c.fill.new.bank in
     let v3 = g.B.Bank.view c.sync.new.self in
     let log : Log = record { g = c.self.inside.g; head = c.self.inside.head; cell = c.self.inside.cell; stage = c.self.inside.stage; index = c.self.inside.index } in
+    let can = subst (λ (l : Log). CanCommit l old (entry_for c.args.time c.args.block c.args.bytes.now) c.args.parity.now c.args.spelled.now) (sym c.self.view_is) c.requires.can in
+    subst (λ (l : Log). Touches (InCommit (going l)) old v3) c.self.view_is
+    (sync_touches log c.self.invariant.place c.self.invariant.same c.ring_of-ring.result c.ring_of-ring.ensures (length c.args.spelled.now) can.next.offsets.window old v1 c.append.ensures.contents c.append.ensures.any_moment v2 c.fill.ensures.contents c.fill.ensures.any_moment v3 c.sync.ensures.call.same (sync_steps _ _ _ _ c.sync.ensures.call))
+
+-- ---- what the put asks
+pub put-requires-clause-room : goal.put-requires-clause-room
+put-requires-clause-room g c =
+    let old = g.B.Bank.view c.args.bank.now in
+    let before_put = g.B.Bank.view c.sync.new.self in
+    let log : Log = record { g = c.self.inside.g; head = c.self.inside.head; cell = c.self.inside.cell; stage = c.self.inside.stage; index = c.self.inside.index } in
     let entry : Entry = entry_for c.args.time c.args.block c.args.bytes.now in
     let can = subst (λ (l : Log). CanCommit l old entry c.args.parity.now c.args.spelled.now) (sym c.self.view_is) c.requires.can in
-    cell_room log.g v3 log.cell.place c.self.invariant.place (fits_still old v3 0 _ (c.sync.ensures.call.sizes 0 ∙ c.fill.ensures.sizes 0 ∙ c.append.ensures.sizes 0) can.sizes.log)
+    let still = c.sync.ensures.call.sizes 0 ∙ c.fill.ensures.sizes 0 ∙ c.append.ensures.sizes 0 in
+    cell_room log.g before_put log.cell.place c.self.invariant.place (fits_still old before_put 0 _ still can.sizes.log)
 
 pub put-requires-clause-stands : goal.put-requires-clause-stands
 put-requires-clause-stands g c =
     let old = g.B.Bank.view c.args.bank.now in
     let v1 = g.B.Bank.view c.append.new.bank in
     let v2 = g.B.Bank.view c.fill.new.bank in
-    let v3 = g.B.Bank.view c.sync.new.self in
+    let at_put = g.B.Bank.view c.sync.new.self in
+    let sync = sync_steps _ _ _ _ c.sync.ensures.call in
     let log : Log = record { g = c.self.inside.g; head = c.self.inside.head; cell = c.self.inside.cell; stage = c.self.inside.stage; index = c.self.inside.index } in
     let entry : Entry = entry_for c.args.time c.args.block c.args.bytes.now in
     let can = subst (λ (l : Log). CanCommit l old entry c.args.parity.now c.args.spelled.now) (sym c.self.view_is) c.requires.can in
-    cell_still log c.self.invariant.place c.self.invariant.same old entry c.args.parity.now c.args.spelled.now can refl c.ring_of-ring.result c.ring_of-ring.ensures v1 c.append.ensures.any_moment v2 c.fill.ensures.any_moment v3 (sync_steps _ _ _ _ c.sync.ensures.call)
+    cell_still log c.self.invariant.place c.self.invariant.same old entry c.args.parity.now c.args.spelled.now can refl c.ring_of-ring.result c.ring_of-ring.ensures v1 c.append.ensures.any_moment v2 c.fill.ensures.any_moment at_put sync
 
+-- ---- the state before or the one after
 pub returns-in_err-put-clause-any_moment : goal.returns-in_err-put-clause-any_moment
 returns-in_err-put-clause-any_moment g c =
     let old = g.B.Bank.view c.args.bank.now in
@@ -100,18 +114,6 @@ returns-clause-ok g c =
     subst P c.self.view_is
     (put_ok log c.self.invariant.place c.self.invariant.same old entry c.args.parity.now c.args.spelled.now can refl c.ring_of-ring.result c.ring_of-ring.ensures v1 c.append.ensures.any_moment v2 c.fill.ensures.any_moment v3 (sync_steps _ _ _ _ c.sync.ensures.call) c.in_ok-append.ensures.written c.fill.ensures.contents c.in_ok-fill.ensures.written c.sync.ensures.call.same (settled_there _ v2 v3 c.in_ok-sync.ensures.call) v4 c.value_of-value.result c.value_of-value.ensures c.put.new.self c.fill.new.self c.add.new.self c.add.ensures c.in_ok-fill.ensures.ok c.in_ok-put.ensures.ok)
 
-pub returns-clause-stands : goal.returns-clause-stands
-returns-clause-stands g c =
-    let old = g.B.Bank.view c.args.bank.now in
-    let v1 = g.B.Bank.view c.append.new.bank in
-    let v2 = g.B.Bank.view c.fill.new.bank in
-    let v3 = g.B.Bank.view c.sync.new.self in
-    let v4 = g.B.Bank.view c.put.new.bank in
-    let log : Log = record { g = c.self.inside.g; head = c.self.inside.head; cell = c.self.inside.cell; stage = c.self.inside.stage; index = c.self.inside.index } in
-    let entry : Entry = entry_for c.args.time c.args.block c.args.bytes.now in
-    let can = subst (λ (l : Log). CanCommit l old entry c.args.parity.now c.args.spelled.now) (sym c.self.view_is) c.requires.can in
-    λ w left. let from = c.in_ok-put.ensures.ok.now w left in from.by.disks.stands
-
 pub returns-clause-any_moment : goal.returns-clause-any_moment
 returns-clause-any_moment g c =
     let old = g.B.Bank.view c.args.bank.now in
@@ -125,6 +127,10 @@ returns-clause-any_moment g c =
     let P : Log → Type 0 = λ (l : Log). Moves old v4 (MayTurn (going l) old (λ s. added s entry)) (MayTurn (going l) old (λ s. added s entry)) in
     subst P c.self.view_is
     (put_any log c.self.invariant.place c.self.invariant.same old entry c.args.parity.now c.args.spelled.now can refl c.ring_of-ring.result c.ring_of-ring.ensures v1 c.append.ensures.any_moment v2 c.fill.ensures.any_moment v3 (sync_steps _ _ _ _ c.sync.ensures.call) c.in_ok-append.ensures.written c.fill.ensures.contents c.in_ok-fill.ensures.written c.sync.ensures.call.same (settled_there _ v2 v3 c.in_ok-sync.ensures.call) v4 c.value_of-value.result c.value_of-value.ensures c.put.ensures.any_moment)
+
+-- ---- what stands then
+pub returns-clause-stands : goal.returns-clause-stands
+returns-clause-stands g c = λ w left. (let from = c.in_ok-put.ensures.ok.now w left in from.by.disks.stands)
 
 pub returns-clause-in_step : goal.returns-clause-in_step
 returns-clause-in_step g c =
@@ -153,37 +159,30 @@ returns-in_err-fill-clause-touches g c =
     subst (λ (l : Log). Touches (InCommit (going l)) old v2) c.self.view_is
     (fill_touches log c.self.invariant.place c.self.invariant.same c.ring_of-ring.result c.ring_of-ring.ensures (length c.args.spelled.now) can.next.offsets.window old v1 c.append.ensures.contents c.append.ensures.any_moment v2 c.fill.ensures.contents c.fill.ensures.any_moment)
 
-pub returns-in_err-sync-clause-touches : goal.returns-in_err-sync-clause-touches
-returns-in_err-sync-clause-touches g c =
-    let old = g.B.Bank.view c.args.bank.now in
-    let v1 = g.B.Bank.view c.append.new.bank in
-    let v2 = g.B.Bank.view c.fill.new.bank in
-    let v3 = g.B.Bank.view c.sync.new.self in
-    let log : Log = record { g = c.self.inside.g; head = c.self.inside.head; cell = c.self.inside.cell; stage = c.self.inside.stage; index = c.self.inside.index } in
-    let can = subst (λ (l : Log). CanCommit l old (entry_for c.args.time c.args.block c.args.bytes.now) c.args.parity.now c.args.spelled.now) (sym c.self.view_is) c.requires.can in
-    subst (λ (l : Log). Touches (InCommit (going l)) old v3) c.self.view_is
-    (sync_touches log c.self.invariant.place c.self.invariant.same c.ring_of-ring.result c.ring_of-ring.ensures (length c.args.spelled.now) can.next.offsets.window old v1 c.append.ensures.contents c.append.ensures.any_moment v2 c.fill.ensures.contents c.fill.ensures.any_moment v3 c.sync.ensures.call.same (sync_steps _ _ _ _ c.sync.ensures.call))
-
 pub returns-in_err-put-clause-touches : goal.returns-in_err-put-clause-touches
 returns-in_err-put-clause-touches g c =
     let old = g.B.Bank.view c.args.bank.now in
     let v1 = g.B.Bank.view c.append.new.bank in
     let v2 = g.B.Bank.view c.fill.new.bank in
-    let v3 = g.B.Bank.view c.sync.new.self in
+    let torn_v3 = g.B.Bank.view c.sync.new.self in
+    let torn_same = c.sync.ensures.call.same in
+    let torn_sync = sync_steps _ _ _ _ c.sync.ensures.call in
     let v4 = g.B.Bank.view c.put.new.bank in
     let log : Log = record { g = c.self.inside.g; head = c.self.inside.head; cell = c.self.inside.cell; stage = c.self.inside.stage; index = c.self.inside.index } in
     let can = subst (λ (l : Log). CanCommit l old (entry_for c.args.time c.args.block c.args.bytes.now) c.args.parity.now c.args.spelled.now) (sym c.self.view_is) c.requires.can in
     subst (λ (l : Log). Touches (InCommit (going l)) old v4) c.self.view_is
-    (commit_touches log c.self.invariant.place c.self.invariant.same c.ring_of-ring.result c.ring_of-ring.ensures (length c.args.spelled.now) can.next.offsets.window old v1 c.append.ensures.contents c.append.ensures.any_moment v2 c.fill.ensures.contents c.fill.ensures.any_moment v3 c.sync.ensures.call.same (sync_steps _ _ _ _ c.sync.ensures.call) v4 c.value_of-value.result c.put.ensures.contents c.put.ensures.any_moment)
+    (commit_touches log c.self.invariant.place c.self.invariant.same c.ring_of-ring.result c.ring_of-ring.ensures (length c.args.spelled.now) can.next.offsets.window old v1 c.append.ensures.contents c.append.ensures.any_moment v2 c.fill.ensures.contents c.fill.ensures.any_moment torn_v3 torn_same torn_sync v4 c.value_of-value.result c.put.ensures.contents c.put.ensures.any_moment)
 
 pub returns-clause-touches : goal.returns-clause-touches
 returns-clause-touches g c =
     let old = g.B.Bank.view c.args.bank.now in
     let v1 = g.B.Bank.view c.append.new.bank in
     let v2 = g.B.Bank.view c.fill.new.bank in
-    let v3 = g.B.Bank.view c.sync.new.self in
+    let whole_v3 = g.B.Bank.view c.sync.new.self in
+    let whole_same = c.sync.ensures.call.same in
+    let whole_sync = sync_steps _ _ _ _ c.sync.ensures.call in
     let v4 = g.B.Bank.view c.put.new.bank in
     let log : Log = record { g = c.self.inside.g; head = c.self.inside.head; cell = c.self.inside.cell; stage = c.self.inside.stage; index = c.self.inside.index } in
     let can = subst (λ (l : Log). CanCommit l old (entry_for c.args.time c.args.block c.args.bytes.now) c.args.parity.now c.args.spelled.now) (sym c.self.view_is) c.requires.can in
     subst (λ (l : Log). Touches (InCommit (going l)) old v4) c.self.view_is
-    (commit_touches log c.self.invariant.place c.self.invariant.same c.ring_of-ring.result c.ring_of-ring.ensures (length c.args.spelled.now) can.next.offsets.window old v1 c.append.ensures.contents c.append.ensures.any_moment v2 c.fill.ensures.contents c.fill.ensures.any_moment v3 c.sync.ensures.call.same (sync_steps _ _ _ _ c.sync.ensures.call) v4 c.value_of-value.result c.put.ensures.contents c.put.ensures.any_moment)
+    (commit_touches log c.self.invariant.place c.self.invariant.same c.ring_of-ring.result c.ring_of-ring.ensures (length c.args.spelled.now) can.next.offsets.window old v1 c.append.ensures.contents c.append.ensures.any_moment v2 c.fill.ensures.contents c.fill.ensures.any_moment whole_v3 whole_same whole_sync v4 c.value_of-value.result c.put.ensures.contents c.put.ensures.any_moment)

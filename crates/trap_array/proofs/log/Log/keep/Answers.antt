@@ -1,13 +1,13 @@
-use Rattle.std.proofs.Common.{rules, ◌≡◌, ℕ, Some, None, Result, Err, refl, ap, subst, arith}
+use Rattle.std.proofs.Common.{rules, ◌≡◌, ℕ, Some, None, Result, Err, ap, subst, arith}
 use Rattle.trap_format.specs.declared.head.Head.{Head}
 use Rattle.trap_model.specs.declared.numbers.Geometry.{Geometry}
 use Rattle.trap_array.specs.Turning.{Turns, early_refusal}
 use Rattle.trap_array.specs.declared.fault.Denied.{Denied}
 use Rattle.trap_array.specs.Areas.{Touches, InWrite}
 use Rattle.trap_array.specs.Calls.{going}
-use Rattle.trap_array.proofs.AreaSteps.{touches_same, drain_within, since_touches, drain_beside}
+use Rattle.trap_array.proofs.AreaSteps.{touches_none, drain_within, since_touches, drain_beside}
 use Rattle.trap_array.proofs.KeepSteps.{next_of, reply_of, room_failed, early_none, early_turns}
-use Rattle.trap_array.proofs.TurnSteps.{turns_after, none_moves}
+use Rattle.trap_array.proofs.TurnSteps.{turns_after}
 use Rattle.trap_array.proofs.log.Log.keep.Goals as goal
 
 pub returns-in-Some-clause-turns : goal.returns-in-Some-clause-turns
@@ -49,8 +49,7 @@ returns-clause-turns g c =
 
 pub returns-in-Some-clause-touches : goal.returns-in-Some-clause-touches
 returns-in-Some-clause-touches g c =
-    let old = g.B.Bank.view c.args.bank.now in
-    touches_same (InWrite (going c.args.self.now) c.args.block) old old (λ told. refl) (none_moves old)
+    touches_none (InWrite (going c.args.self.now) c.args.block) (g.B.Bank.view c.args.bank.now)
 
 pub returns-in_err-make_room-clause-touches : goal.returns-in_err-make_room-clause-touches
 returns-in_err-make_room-clause-touches g c =

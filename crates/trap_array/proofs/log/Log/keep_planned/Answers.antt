@@ -19,6 +19,7 @@ use Rattle.trap_array.proofs.TurnSteps.{fault_since, goes_then, turns_failed, tu
 use Rattle.trap_array.proofs.WriteSteps.{can_drain_on}
 use Rattle.trap_array.proofs.log.Log.keep_planned.Goals as goal
 
+-- ---- the drain
 pub drain-requires : goal.drain-requires
 drain-requires g c = record {
   can = can_drain_on c.args.self.now c.commit.new.self (g.B.Bank.view c.args.bank.now) (g.B.Bank.view c.commit.new.bank) c.commit.ensures.goes_on c.commit.ensures.sizes c.requires.can.sizes
@@ -45,35 +46,41 @@ returns-in_err-drain-clause-turns g c =
     (both_stay (going here) (going between) old mid new c.commit.ensures.goes_on c.in_ok-commit.ensures.ok.tells (commit_beside (going here) old mid c.commit.ensures.touches) (drain_beside (going between) mid new c.drain.ensures.touches))
     (then_keep_may (going here) (going between) c.commit.ensures.goes_on old mid new next c.in_ok-commit.ensures.ok c.drain.ensures.any_moment))
 
-pub returns-clause-turns : goal.returns-clause-turns
-returns-clause-turns g c =
-    let old = g.B.Bank.view c.args.bank.now in
-    let mid = g.B.Bank.view c.commit.new.bank in
-    let new = g.B.Bank.view c.drain.new.bank in
-    let here = c.args.self.now in
-    let between = c.commit.new.self in
-    let after = c.drain.new.self in
-    let next : State → State = λ (s : State). added s (entry_for c.args.time c.args.block c.args.bytes.now) in
-    let seq : c.self.inside.head.last ≡ here.head.last + 1 =
-    ap (λ (l : Log). l.head.last) c.self.view_is ∙ ap (λ (h : Head). h.last) c.in_ok-drain.ensures.head ∙ ap (λ (h : Head). h.last) c.in_ok-commit.ensures.head in
-    turns_done here after next (λ (s : State). Kept (last s + 1)) c.self.inside.head.last old new
-    (λ told s always. ap (λ (n : ℕ). Kept (n + 1)) (sym (always old.now (read_is_left old told)).by.fits.head.last) ∙ ap Kept (sym seq))
-    (then_keep_has (going here) (going between) c.commit.ensures.goes_on old mid new next c.in_ok-commit.ensures.ok (going after) c.in_ok-drain.ensures.ok)
-    c.in_ok-drain.ensures.in_step c.in_ok-drain.ensures.stands
-    (goes_then (going here) (going between) (going after) c.commit.ensures.goes_on c.drain.ensures.goes_on)
-    (λ d. c.drain.ensures.sizes d ∙ c.commit.ensures.sizes d)
-    (both_stay (going here) (going between) old mid new c.commit.ensures.goes_on c.in_ok-commit.ensures.ok.tells (commit_beside (going here) old mid c.commit.ensures.touches) (drain_beside (going between) mid new c.drain.ensures.touches))
-
-pub returns-in_err-commit-clause-touches : goal.returns-in_err-commit-clause-touches
-returns-in_err-commit-clause-touches g c =
-    commit_within (going c.args.self.now) c.args.block (g.B.Bank.view c.args.bank.now) (g.B.Bank.view c.commit.new.bank) c.commit.ensures.touches
-
 pub returns-in_err-drain-clause-touches : goal.returns-in_err-drain-clause-touches
 returns-in_err-drain-clause-touches g c =
     write_touches c.args.self.now c.commit.new.self _ c.commit.ensures.goes_on c.in_ok-commit.ensures.pending
     (g.B.Bank.view c.args.bank.now) (g.B.Bank.view c.commit.new.bank) (g.B.Bank.view c.drain.new.bank) c.commit.ensures.touches c.drain.ensures.touches
 
+-- ---- the write is kept
+pub returns-in_err-commit-clause-touches : goal.returns-in_err-commit-clause-touches
+returns-in_err-commit-clause-touches g c =
+    commit_within (going c.args.self.now) c.args.block (g.B.Bank.view c.args.bank.now) (g.B.Bank.view c.commit.new.bank) c.commit.ensures.touches
+
+pub returns-clause-turns : goal.returns-clause-turns
+returns-clause-turns g c =
+    let old = g.B.Bank.view c.args.bank.now in
+    let mid = g.B.Bank.view c.commit.new.bank in
+    let here = c.args.self.now in
+    let between = c.commit.new.self in
+    let next : State → State = λ (s : State). added s (entry_for c.args.time c.args.block c.args.bytes.now) in
+    let done = g.B.Bank.view c.drain.new.bank in
+    let kept = c.drain.new.self in
+    let number = ap (λ (h : Head). h.last) c.in_ok-drain.ensures.head ∙ ap (λ (h : Head). h.last) c.in_ok-commit.ensures.head in
+    let seq : c.self.inside.head.last ≡ here.head.last + 1 = ap (λ (l : Log). l.head.last) c.self.view_is ∙ number in
+    let turned = then_keep_has (going here) (going between) c.commit.ensures.goes_on old mid done next c.in_ok-commit.ensures.ok (going kept) c.in_ok-drain.ensures.ok in
+    let step = c.in_ok-drain.ensures.in_step in
+    let cell = c.in_ok-drain.ensures.stands in
+    let on = goes_then (going here) (going between) (going kept) c.commit.ensures.goes_on c.drain.ensures.goes_on in
+    let sizes : (d : ℕ) → done.sizes d ≡ old.sizes d = λ d. c.drain.ensures.sizes d ∙ c.commit.ensures.sizes d in
+    let beside = both_stay (going here) (going between) old mid done c.commit.ensures.goes_on c.in_ok-commit.ensures.ok.tells (commit_beside (going here) old mid c.commit.ensures.touches) (drain_beside (going between) mid done c.drain.ensures.touches) in
+    turns_done here kept next (λ (s : State). Kept (last s + 1)) c.self.inside.head.last old done
+    (λ told s always. ap (λ (n : ℕ). Kept (n + 1)) (sym (always old.now (read_is_left old told)).by.fits.head.last) ∙ ap Kept (sym seq))
+    turned step cell on sizes beside
+
 pub returns-clause-touches : goal.returns-clause-touches
 returns-clause-touches g c =
-    write_touches c.args.self.now c.commit.new.self _ c.commit.ensures.goes_on c.in_ok-commit.ensures.pending
-    (g.B.Bank.view c.args.bank.now) (g.B.Bank.view c.commit.new.bank) (g.B.Bank.view c.drain.new.bank) c.commit.ensures.touches c.drain.ensures.touches
+    let old = g.B.Bank.view c.args.bank.now in
+    let mid = g.B.Bank.view c.commit.new.bank in
+    let end = g.B.Bank.view c.drain.new.bank in
+    let whole = write_touches c.args.self.now c.commit.new.self _ c.commit.ensures.goes_on c.in_ok-commit.ensures.pending old mid end c.commit.ensures.touches c.drain.ensures.touches in
+    whole

@@ -1,9 +1,5 @@
-use Rattle.std.proofs.Common.{refl, inl, inr}
+use Rattle.std.proofs.Common.{inr}
 use Rattle.std.proofs.lemmas.Result.{on_ok_weaker}
-use Rattle.trap_array.specs.Areas.{InDrain}
-use Rattle.trap_array.specs.Calls.{going}
-use Rattle.trap_array.proofs.AreaSteps.{touches_same}
-use Rattle.trap_array.proofs.TurnSteps.{none_moves}
 use Rattle.trap_array.proofs.WriteSteps.{can_drain_after}
 use Rattle.trap_array.proofs.log.Log.make_room.Goals as goal
 
