@@ -27,7 +27,7 @@ use Rattle.trap_array.specs.Calls.{Mounted, StandsFor, MayTurn, HasTurned, going
 use Rattle.trap_array.specs.Log.{Log}
 use Rattle.trap_array.specs.NextHead.{committed, IsPlanned}
 use Rattle.trap_array.specs.Ready.{CanCommit}
-use Rattle.trap_array.proofs.Frames.{ring_stays, cell_stands}
+use Rattle.trap_mount.proofs.Frames.{ring_stays, cell_stands}
 use Rattle.trap_array.proofs.IndexSteps.{rec_for, further_told}
 use Rattle.trap_array.proofs.Commits.{record_outside, slot_outside, next_fits}
 use Rattle.trap_array.proofs.Turns.{StillIf, still_beside, still_same, still_then_still, still_may, still_then_may, still_then_has, asked_may, asked_has, put_may, put_has}

@@ -1,7 +1,5 @@
 pub mod Beside
 pub mod Sizes
-pub mod Frames
-pub mod Puts
 pub mod NextHeads
 pub mod Commits
 pub mod Drains
@@ -17,17 +15,5 @@ pub mod TurnSteps
 pub mod KeepSteps
 pub mod WriteSteps
 pub mod Removed
-pub mod FreshArray
-pub mod LogGate
-pub mod MemberDisks
-pub mod MountHistory
-pub mod MountMembers
-pub mod MountRecords
-pub mod MountPuts
-pub mod MountReads
-pub mod MountRefusals
-pub mod MountStands
-pub mod OneRefusal
-pub mod Zeros
 pub mod Sources
 pub mod LookingBack

@@ -17,8 +17,8 @@ use Rattle.trap_stage.specs.Pending.{pending}
 use Rattle.trap_stage.specs.Staged.{Staged}
 use Rattle.trap_array.specs.Holding.{head_place, Fits, HoldsBy, Outside}
 use Rattle.trap_array.specs.Calls.{Mounted, StandsFor, HoldsLike, GoesOn, MayTurn, HasTurned}
-use Rattle.trap_array.proofs.Frames.{holds_outside, cell_stands}
-use Rattle.trap_array.proofs.Puts.{put_holds, put_held}
+use Rattle.trap_mount.proofs.Frames.{holds_outside, cell_stands}
+use Rattle.trap_mount.proofs.Puts.{put_holds, put_held}
 
 -- ---- inside a call, where something is known of the state
 -- at a moment

@@ -1,4 +1,4 @@
-pub mod Holding
+pub use Rattle.trap_mount.specs.Holding
 pub mod Log
 pub mod NextHead
 pub mod Beside
@@ -12,12 +12,12 @@ pub mod Taking
 pub mod Ready
 pub mod Turning
 pub mod Gone
-pub mod OnDisks
-pub mod Mounting
-pub mod MountEnds
-pub mod Creating
-pub mod MountSteps
-pub mod Reading
+pub use Rattle.trap_mount.specs.OnDisks
+pub use Rattle.trap_mount.specs.Mounting
+pub use Rattle.trap_mount.specs.MountEnds
+pub use Rattle.trap_mount.specs.Creating
+pub use Rattle.trap_mount.specs.MountSteps
+pub use Rattle.trap_mount.specs.Reading
 pub mod Instants
 pub mod Sources
 pub mod SourceLaws

@@ -1,13 +1,13 @@
 -- What a mounted array keeps in memory.
-use Rattle.std.specs.Prelude.{◌≡◌, ℕ, ◌+◌, List, length, Bool, false}
+use Rattle.std.specs.Prelude.{◌≡◌, Bool, false}
 use Rattle.trap_cell.specs.Slots.{Slots}
 use Rattle.trap_format.specs.HeadValue.{IsHead}
 use Rattle.trap_format.specs.declared.head.Head.{Head}
 use Rattle.trap_index.specs.Indexed.{Indexed, last_seq, last_time}
-use Rattle.trap_model.specs.Limits.{greatest_record}
 use Rattle.trap_model.specs.declared.numbers.Geometry.{Geometry}
 use Rattle.trap_stage.specs.Slots.{Stage, last_of}
 use Rattle.trap_array.specs.Holding.{head_place}
+pub use Rattle.trap_mount.specs.Memory.{Buffers, AreFor}
 
 -- the log's disk as an array knows it: its numbers, the head that was put last, the head's cell, the pending writes, and
 -- an index of the retained records
@@ -35,24 +35,6 @@ pub record AreInStep (head : Head) (stage : Stage) (index : Indexed) : Type 0 wh
   pub offset : index.first_off ≡ head.first_off
   pub end : last_seq index ≡ head.last
   pub time : last_time index ≡ head.last_time
-
--- the memory that the calls of an array need
-pub record Buffers : Type 0 where
-  -- blocks: what a write changes, the parity of its row, and one more
-  pub delta : List ℕ
-  pub parity : List ℕ
-  pub scratch : List ℕ
-  -- a code, and a record
-  pub code : List ℕ
-  pub spelled : List ℕ
-
--- they are long enough for blocks of that size
-pub record AreFor (block : ℕ) (room : Buffers) : Type 0 where
-  pub delta : length room.delta ≡ block
-  pub parity : length room.parity ≡ block
-  pub scratch : length room.scratch ≡ block
-  pub code : length room.code ≡ block + 7
-  pub spelled : length room.spelled ≡ greatest_record block
 
 -- what holds of a mounted array: unless a fault has stopped it, its pending writes and its index are those of its head
 pub record IsArray (log : Log) (buffers : Buffers) (is_stopped : Bool) : Type 0 where

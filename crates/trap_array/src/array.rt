@@ -7,13 +7,13 @@ ghost use Rattle.trap_stage.specs.Slots.{last_of};
 ghost use Rattle.trap_array.specs.Holding.{head_place};
 ghost use Rattle.trap_array.specs.Log.{AreFor};
 
-use crate::buffers::Buffers;
 use crate::log::Log;
 use std::marker::Model;
 use trap_cell::Cell;
 use trap_format::Head;
 use trap_index::Index;
 use trap_model::Geometry;
+use trap_mount::Buffers;
 use trap_stage::Stage;
 
 /// An array that is mounted: what its log's head says, its pending writes, and the index of its records. After a fault it is stopped, and is of

@@ -9,10 +9,10 @@ ghost use Rattle.trap_array.specs.Calls.{StandsFor, HasSizes, going};
 ghost use Rattle.trap_array.specs.Log.{AreFor};
 ghost use Rattle.trap_array.specs.Sources.{CallsAtMost, present_reads};
 
-use crate::buffers::Buffers;
 use crate::log::Log;
 use trap_bank::Bank;
 use trap_map::place_of;
+use trap_mount::Buffers;
 use trap_raid::{MemberFailed, Raid};
 
 impl Log {

@@ -21,10 +21,10 @@ ghost use Rattle.trap_array.specs.Turning.{IsFaultOf, IsFull, Turns, early_refus
 ghost use Rattle.trap_array.specs.declared.fault.Denied.TheVariants.{Refused};
 
 use crate::Denied;
-use crate::buffers::Buffers;
 use crate::log::Log;
 use trap_bank::Bank;
 use trap_model::Refusal;
+use trap_mount::Buffers;
 
 impl Log {
     /// Keeps a write of a block of the array, where nothing is against it. When it is answered, it is committed and on

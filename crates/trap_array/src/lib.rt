@@ -2,11 +2,7 @@
 #![tactic(auto)]
 
 mod array;
-mod buffers;
 mod commit;
-mod creating;
-#[cfg(test)]
-mod creating_tests;
 mod denied;
 mod draining;
 mod fault;
@@ -16,7 +12,6 @@ pub mod laws;
 mod log;
 mod log_past;
 mod mount;
-pub mod mount_laws;
 mod past;
 #[cfg(test)]
 mod past_tests;
@@ -29,6 +24,6 @@ mod span_tests;
 mod write;
 
 pub use array::Array;
-pub use creating::create;
-pub use fault::{CreateFault, Denied, MountFault};
+pub use fault::Denied;
 pub use span::Span;
+pub use trap_mount::{CreateFault, MountFault, create, laws as mount_laws};

@@ -1,65 +1,20 @@
 //! Mounting: the state is found again, whatever a crash left.
 
-ghost use Rattle.std.specs.Prelude.{◌≡◌, ◌≢◌, ◌↔◌, ◌≤◌, ◌<◌, ℕ, ◌+◌, IsTrue, IsErrOf, IfOk, IfErr, OnOk, OnErr};
-ghost use Rattle.std.specs.Option.{ForSome};
+ghost use Rattle.std.specs.Prelude.{◌≡◌, ◌≢◌, ℕ, IsTrue, IsErrOf, IfOk, IfErr};
 ghost use Rattle.trap_bank.specs.Disks.{Quiet};
-ghost use Rattle.trap_bank.specs.Faults.{Rose};
-ghost use Rattle.trap_bank.specs.Calls.{Fits};
-ghost use Rattle.trap_bank.specs.Steps.{Moves, Always};
-ghost use Rattle.trap_cell.specs.Slots.{Stands};
+ghost use Rattle.trap_bank.specs.Steps.{Moves};
 ghost use Rattle.trap_format.specs.declared.head.Head.{Head};
 ghost use Rattle.trap_model.specs.declared.numbers.Geometry.{Geometry};
 ghost use Rattle.trap_model.specs.declared.history.State.{State};
-ghost use Rattle.trap_array.specs.Holding.{HoldsBy, head_place};
+ghost use Rattle.trap_array.specs.Holding.{HoldsBy};
 ghost use Rattle.trap_array.specs.Mounting.{IsNoLog, Mounts, FoundLost};
 ghost use Rattle.trap_array.specs.MountEnds.{MountsFor, MountEnds};
-ghost use Rattle.trap_array.specs.MountSteps.{MayPut, HasPut};
-ghost use Rattle.trap_array.specs.declared.fault.MountFault.{MountFault};
+ghost use Rattle.trap_mount.specs.declared.fault.MountFault.{MountFault};
 
-mod header;
-mod history;
-mod members;
-mod records;
-#[cfg(test)]
-mod tests;
-
-use crate::mount::history::find_log;
-use crate::mount::members::find_members;
-use crate::{Array, MountFault};
+use crate::Array;
 use std::alloc::Global;
-use trap_bank::{Bank, DiskFault};
-use trap_cell::Cell;
-use trap_format::{Head, spell_head};
-
-/// Puts the head where it isn't the one that was found.
-fn put_changed<B: Bank>(
-    cell: &mut Cell,
-    bank: &mut B,
-    found: &Head,
-    head: &Head,
-) -> Result<(), DiskFault>
-    requires place { cell.old.place ≡ head_place }
-    requires stands { Always (B.view bank.old) (Stands cell.old) }
-    requires room { Fits (B.view bank.old) 0 192 }
-    requires lost { ForSome head.now.lost (λ member. member < 16) }
-    ensures ok { OnOk result (Moves (B.view bank.old) (B.view bank.new) (MayPut cell.old head.now)
-        (HasPut (B.view bank.new) cell.old cell.new found.now head.now)) }
-    ensures contents { IsTrue (B.view bank.old).tells
-        → Quiet (MayPut cell.old head.now) (B.view bank.old).now (B.view bank.new).now }
-    ensures place { cell.new.place ≡ head_place }
-    ensures sizes { (e : ℕ) → (B.view bank.new).sizes e ≡ (B.view bank.old).sizes e }
-    ensures cause { OnErr result (Rose ((B.view bank.old).faults 0) ((B.view bank.new).faults 0)) }
-    ensures any_moment { Moves (B.view bank.old) (B.view bank.new)
-        (MayPut cell.old head.now) (MayPut cell.old head.now) }
-{
-    if *head == *found {
-        return Ok(());
-    }
-    let mut value = [0; 62];
-    spell_head(head, &mut value);
-    // The member that is out, or whose rows no longer count, is recorded before a call relies on it.
-    cell.put(bank, &value)
-}
+use trap_bank::Bank;
+use trap_mount::MountFault;
 
 impl Array {
     /// Mounts the array that the disks hold. Nothing is written but the head, and that as the last step, where a
@@ -84,14 +39,10 @@ impl Array {
         ensures any_moment { Moves (B.view bank.old) (B.view bank.new)
             (Mounts (B.view bank.old)) (Mounts (B.view bank.old)) }
     {
-        let mut found = find_log(alloc, bank)?;
-        let head = find_members(bank, &found.g, &found.head)?;
-        let Ok(()) = put_changed(&mut found.cell, bank, &found.head, &head) else {
-            return Err(MountFault::LogFault);
-        };
+        let found = trap_mount::mount(alloc, bank)?;
         Ok(Array::assemble(
             found.g,
-            head,
+            found.head,
             found.cell,
             found.stage,
             found.index,

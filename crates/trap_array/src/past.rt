@@ -18,12 +18,12 @@ ghost use Rattle.trap_array.specs.Log.{AreFor};
 ghost use Rattle.trap_array.specs.Sources.{CallsAtMost, reads_back};
 ghost use Rattle.trap_array.specs.declared.fault.Denied.TheVariants as Denied;
 
-use crate::buffers::Buffers;
 use crate::log::Log;
 use crate::planning::volume_of;
 use crate::{Array, Denied};
 use trap_bank::Bank;
 use trap_model::Refusal;
+use trap_mount::Buffers;
 
 impl Array {
     /// Reads the contents of a block after the entry with number `seq` into `into`, which has as many bytes as a

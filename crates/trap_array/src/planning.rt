@@ -15,10 +15,10 @@ ghost use Rattle.trap_array.specs.Log.{AreFor};
 ghost use Rattle.trap_array.specs.NextHead.{entry_for};
 ghost use Rattle.trap_array.specs.Turning.{IsFull, early_refusal};
 
-use crate::buffers::Buffers;
 use crate::log::Log;
 use trap_bank::Bank;
 use trap_model::{Geometry, LogRec, Refusal};
+use trap_mount::Buffers;
 use trap_raid::{MemberFailed, Raid};
 use trap_record::spell;
 use trap_zrun::code;

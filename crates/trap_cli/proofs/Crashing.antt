@@ -17,7 +17,7 @@ use Rattle.trap_script.proofs.GivenLemmas.{below_end}
 use Rattle.trap_array.specs.Holding.{Holds}
 use Rattle.trap_array.specs.Calls.{Mounted, StandsFor, HoldsLike}
 use Rattle.trap_array.specs.Mounting.{Mounts, SameHead}
-use Rattle.trap_array.specs.declared.fault.MountFault.{MountFault}
+use Rattle.trap_mount.specs.declared.fault.MountFault.{MountFault}
 use Rattle.trap_session.specs.declared.outcome.SessionFault.TheVariants as serving
 use Rattle.trap_session.specs.Serving.{Serves, bytes_taken}
 use Rattle.trap_cli.specs.declared.outcome.Ended.{Ended}

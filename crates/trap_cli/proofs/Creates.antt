@@ -15,8 +15,8 @@ use Rattle.trap_format.specs.declared.limits.Field.{Field}
 use Rattle.trap_format.proofs.Spellings.{same_geometry}
 use Rattle.trap_array.specs.Holding.{Holds}
 use Rattle.trap_array.specs.Creating.{CreateFails as MakeFails, IsNoArray, Creates, HasCreated, IsLowest, NoneIsThere, IsUntouched}
-use Rattle.trap_array.specs.declared.fault.CreateFault.{CreateFault}
-use Rattle.trap_array.specs.declared.fault.CreateFault.TheVariants.{Exists, LogFault, MemberFault}
+use Rattle.trap_mount.specs.declared.fault.CreateFault.{CreateFault}
+use Rattle.trap_mount.specs.declared.fault.CreateFault.TheVariants.{Exists, LogFault, MemberFault}
 use Rattle.trap_cli.specs.declared.outcome.Ended.{Ended}
 use Rattle.trap_cli.specs.declared.outcome.Ended.TheVariants.{Done, BadGeometry, NotCreated, Port}
 use Rattle.trap_cli.specs.Command.{command_create}

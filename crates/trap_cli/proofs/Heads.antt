@@ -9,7 +9,7 @@ use Rattle.trap_model.specs.declared.numbers.Geometry.{Geometry}
 use Rattle.trap_model.specs.declared.history.State.{State}
 use Rattle.trap_array.specs.Holding.{Holds, HoldsBy}
 use Rattle.trap_array.specs.Mounting.{Mounts, SameHead, FoundLost}
-use Rattle.trap_array.proofs.Puts.{put_in_cell, fits_put}
+use Rattle.trap_mount.proofs.Puts.{put_in_cell, fits_put}
 use Rattle.trap_cli.specs.Run.{KeepsMembers, MembersStay}
 use Rattle.trap_cli.proofs.Saying.{rose_later}
 

@@ -12,8 +12,8 @@ use Rattle.trap_model.specs.declared.history.State.{State}
 use Rattle.trap_array.specs.Holding.{Holds, HoldsBy}
 use Rattle.trap_array.specs.Calls.{Mounted, StandsFor}
 use Rattle.trap_array.specs.Mounting.{Mounts, SameHead, Refuses, MountFails, FoundLost, HasFound, IsNoLog, is_refusal}
-use Rattle.trap_array.specs.declared.fault.MountFault.{MountFault}
-use Rattle.trap_array.specs.declared.fault.MountFault.TheVariants.{NotAnArray}
+use Rattle.trap_mount.specs.declared.fault.MountFault.{MountFault}
+use Rattle.trap_mount.specs.declared.fault.MountFault.TheVariants.{NotAnArray}
 use Rattle.trap_cli.specs.declared.outcome.Ended.{Ended}
 use Rattle.trap_cli.specs.declared.outcome.Ended.TheVariants.{Done, NotMounted, Port}
 use Rattle.trap_cli.specs.Command.{command_history}

@@ -8,9 +8,9 @@ use Rattle.trap_bank.specs.Stream.{Stream}
 use Rattle.trap_bank.proofs.Moves.{nothing_done}
 use Rattle.trap_array.specs.Holding.{HoldsBy}
 use Rattle.trap_array.specs.Mounting.{MountFails}
-use Rattle.trap_array.specs.declared.fault.CreateFault.TheVariants as creating
-use Rattle.trap_array.specs.declared.fault.MountFault.{MountFault}
-use Rattle.trap_array.specs.declared.fault.MountFault.TheVariants as mounting
+use Rattle.trap_mount.specs.declared.fault.CreateFault.TheVariants as creating
+use Rattle.trap_mount.specs.declared.fault.MountFault.{MountFault}
+use Rattle.trap_mount.specs.declared.fault.MountFault.TheVariants as mounting
 use Rattle.trap_array.specs.declared.fault.Denied.TheVariants as denied
 use Rattle.trap_session.specs.declared.outcome.SessionFault.{SessionFault}
 use Rattle.trap_session.specs.declared.outcome.SessionFault.TheVariants as serving

@@ -11,8 +11,8 @@ use Rattle.trap_array.specs.Beside.{StaysFrom}
 use Rattle.trap_array.specs.Holding.{Holds, HoldsBy}
 use Rattle.trap_array.specs.Calls.{Mounted, StandsFor}
 use Rattle.trap_array.specs.Mounting.{Mounts, Refuses, MountFails, FoundLost, HasFound, IsNoLog, is_refusal}
-use Rattle.trap_array.specs.declared.fault.MountFault.{MountFault}
-use Rattle.trap_array.specs.declared.fault.MountFault.TheVariants.{NotAnArray}
+use Rattle.trap_mount.specs.declared.fault.MountFault.{MountFault}
+use Rattle.trap_mount.specs.declared.fault.MountFault.TheVariants.{NotAnArray}
 use Rattle.trap_array.specs.declared.fault.Denied.TheVariants as denied
 use Rattle.trap_session.specs.declared.outcome.SessionFault.TheVariants as serving
 use Rattle.trap_session.specs.Serving.{Serves, HoldsStill}

@@ -12,10 +12,10 @@ use Rattle.trap_raid.specs.Members.{IsMember, IsOut}
 use Rattle.trap_array.specs.Holding.{Holds}
 use Rattle.trap_array.specs.Creating.{IsLowest}
 use Rattle.trap_array.specs.Mounting.{HasMembers, Refuses, MountFails}
-use Rattle.trap_array.specs.declared.fault.CreateFault.{CreateFault}
-use Rattle.trap_array.specs.declared.fault.CreateFault.TheVariants as creating
+use Rattle.trap_mount.specs.declared.fault.CreateFault.{CreateFault}
+use Rattle.trap_mount.specs.declared.fault.CreateFault.TheVariants as creating
 use Rattle.trap_array.specs.declared.fault.Denied.TheVariants as denied
-use Rattle.trap_array.specs.declared.fault.MountFault.{MountFault}
+use Rattle.trap_mount.specs.declared.fault.MountFault.{MountFault}
 use Rattle.trap_session.specs.Serving.{TookQuit}
 use Rattle.trap_session.specs.declared.outcome.SessionFault.{SessionFault}
 use Rattle.trap_session.specs.declared.outcome.SessionFault.TheVariants as serving

@@ -2,10 +2,10 @@
 use Rattle.std.specs.Prelude.{ℕ, ◌++◌, List, [], codes, decimal, Bool, true, false}
 use Rattle.trap_format.specs.declared.limits.Field.{Field}
 use Rattle.trap_format.specs.declared.limits.Field.TheVariants as field
-use Rattle.trap_array.specs.declared.fault.CreateFault.{CreateFault}
-use Rattle.trap_array.specs.declared.fault.CreateFault.TheVariants as creating
-use Rattle.trap_array.specs.declared.fault.MountFault.{MountFault}
-use Rattle.trap_array.specs.declared.fault.MountFault.TheVariants as mounting
+use Rattle.trap_mount.specs.declared.fault.CreateFault.{CreateFault}
+use Rattle.trap_mount.specs.declared.fault.CreateFault.TheVariants as creating
+use Rattle.trap_mount.specs.declared.fault.MountFault.{MountFault}
+use Rattle.trap_mount.specs.declared.fault.MountFault.TheVariants as mounting
 use Rattle.trap_array.specs.declared.fault.Denied.TheVariants as denied
 use Rattle.trap_array.specs.Mounting.{is_refusal}
 use Rattle.trap_session.specs.declared.outcome.SessionFault.{SessionFault}

@@ -14,8 +14,8 @@ use Rattle.trap_array.specs.Beside.{StaysFrom}
 use Rattle.trap_array.specs.Holding.{HoldsBy}
 use Rattle.trap_array.specs.Creating.{IsLowest}
 use Rattle.trap_array.specs.Mounting.{IsNoLog}
-use Rattle.trap_array.specs.declared.fault.CreateFault.TheVariants.{Exists}
-use Rattle.trap_array.specs.declared.fault.MountFault.TheVariants.{NotAnArray}
+use Rattle.trap_mount.specs.declared.fault.CreateFault.TheVariants.{Exists}
+use Rattle.trap_mount.specs.declared.fault.MountFault.TheVariants.{NotAnArray}
 use Rattle.trap_cli.specs.Ended.{status_of, last_line, is_refused}
 use Rattle.trap_cli.specs.Cause.{CauseOf}
 use Rattle.trap_cli.specs.Stops.{StopsBefore}

@@ -14,8 +14,8 @@ use Rattle.trap_format.specs.Checked.{HasNumbers}
 use Rattle.trap_array.specs.Holding.{Holds}
 use Rattle.trap_array.specs.Creating.{Creates}
 use Rattle.trap_array.specs.Mounting.{is_refusal}
-use Rattle.trap_array.specs.declared.fault.CreateFault.{CreateFault}
-use Rattle.trap_array.specs.declared.fault.CreateFault.TheVariants as creating
+use Rattle.trap_mount.specs.declared.fault.CreateFault.{CreateFault}
+use Rattle.trap_mount.specs.declared.fault.CreateFault.TheVariants as creating
 use Rattle.trap_session.specs.Store.{Store, array_store}
 use Rattle.trap_session.specs.Serving.{StopsDone, StopsAfter, StopsAs, StopsBy, TookQuit}
 use Rattle.trap_cli.specs.Ended.{created_line}

@@ -1,5 +1,5 @@
 use Rattle.std.proofs.Common.{◌≡◌, Ok, Err, sym, ◌∙◌}
-use Rattle.trap_array.specs.declared.fault.MountFault.TheVariants.{NotAnArray}
+use Rattle.trap_mount.specs.declared.fault.MountFault.TheVariants.{NotAnArray}
 use Rattle.trap_bank.specs.declared.disks.Failed.{Failed}
 use Rattle.trap_cli.proofs.Histories.{unlisted_works, listed_works, cut_works}
 use Rattle.trap_cli.proofs.history.run_history.Goals as goal

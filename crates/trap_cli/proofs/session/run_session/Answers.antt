@@ -1,5 +1,5 @@
 use Rattle.std.proofs.Common.{◌≡◌, Ok, Err, sym, ◌∙◌}
-use Rattle.trap_array.specs.declared.fault.MountFault.TheVariants.{NotAnArray}
+use Rattle.trap_mount.specs.declared.fault.MountFault.TheVariants.{NotAnArray}
 use Rattle.trap_cli.proofs.Sessions.{unmounted_works, session_works}
 use Rattle.trap_cli.proofs.session.run_session.Goals as goal
 

@@ -1,0 +1,122 @@
+-- New disks hold the fresh array, and how the calls that make them follow one another.
+use Rattle.std.proofs.Common.{◌≡◌, ℕ, ◌+◌, ◌*◌, ◌<◌, List, [], take, drop, replicate, Option, Some, None, IsTrue, inl, inr, ⊎_elim, refl, sym, ap, subst, ◌∙◌, arith}
+use Rattle.std.proofs.lemmas.List.{length-append, length-replicate}
+use Rattle.trap_bank.specs.Disks.{Contents, View, Disks, Quiet, bytes_of, size_of}
+use Rattle.trap_bank.specs.Calls.{MayLeave, IsLawful}
+use Rattle.trap_bank.specs.Steps.{Moves}
+use Rattle.trap_bank.proofs.Moves.{moves_then, moves_weaken, read_is_left}
+use Rattle.trap_format.specs.MemberDisk.{member_header}
+use Rattle.trap_model.specs.Image.{zero_image}
+use Rattle.trap_model.specs.State.{fresh}
+use Rattle.trap_model.specs.declared.numbers.Geometry.{Geometry}
+use Rattle.trap_model.proofs.KeptValid.{fresh_valid}
+use Rattle.trap_raid.specs.Members.{IsMember, IsOut, MembersHold}
+use Rattle.trap_mount.specs.Holding.{IsHeadOf, Holds}
+use Rattle.trap_mount.specs.Creating.{Creates, HasCreated, NoneIsThere, OnlyMembers, new_member, HasMembers, fresh_head, IsGateOff, IsNewLog, MakesLog, HasNewLog}
+use Rattle.trap_mount.proofs.Zeros.{zero_table, zero_place}
+use Rattle.trap_mount.proofs.LogGate.{off_no_array, absent_off}
+
+module _ (g : Geometry) (x : Disks) (made : (m : ℕ) → m < g.members → x (m + 1) ≡ Some (new_member g m)) where
+  -- a new member's disk has its size and its header
+  new_is_member : (m : ℕ) → m < g.members → IsMember g x m
+  new_is_member m inside = record {
+    size = ap size_of (made m inside) ∙ ap {B = Option ℕ} Some (length-append (member_header g.id m) (replicate (g.rows * g.block) 0) ∙ ap (λ (n : ℕ). 16 + n) (length-replicate (g.rows * g.block) 0));
+    header = ap (λ (disk : Option (List ℕ)). take 16 (bytes_of disk)) (made m inside);
+  }
+
+  -- no new member is out
+  none_out : (m : ℕ) → m < g.members → IsOut None x m → ⊥
+  none_out m inside out = ⊎_elim (λ (lost : None ≡ Some m). cc) (λ (absent : x (m + 1) ≡ None). some_none (new_member g m) (sym (made m inside) ∙ absent)) out
+    where
+      some_none : (bytes : List ℕ) → Some bytes ≡ None → ⊥
+      some_none bytes same = cc
+
+  -- new members hold the zero image
+  new_members : MembersHold g None 0 [] (zero_image g) x
+  new_members = record {
+    one_out = λ m k inside among out also. absurd (none_out m inside out);
+    made = λ m inside stays. new_is_member m inside;
+    places = λ row m below inside trusted.
+        ap (λ (disk : Option (List ℕ)). take g.block (drop (16 + row * g.block) (bytes_of disk))) (made m inside) ∙ zero_place g m row below ∙ sym (zero_table g row m below inside);
+  }
+
+  -- with a new log, they hold the fresh array
+  pub fresh_held : IsNewLog g x → Holds g (fresh g) x
+  fresh_held new = record {
+    head = fresh_head;
+    by = record {
+      value = new.value;
+      fits = record {
+        valid = fresh_valid g;
+        head = fresh_is_head;
+        log = new.log;
+        ring = λ k below. absurd (omega (arith, below));
+        slots = λ q low high. absurd (omega (arith, low, high));
+        members = new_members;
+      };
+    };
+  }
+    where
+      fresh_is_head : IsHeadOf g (fresh g) fresh_head
+      fresh_is_head = record {
+        head = record {
+          version = refl;
+          lost = record { member = omega arith; rebuilt = omega (arith, g.within.chunk_least, g.within.rows_least); none_rebuilt = λ none. refl };
+          numbers = record { dropped = omega arith; drained = omega arith; last_most = omega arith; pending = omega arith; retained = omega arith };
+          offsets = record { order = omega arith; window = omega arith; end_most = omega arith };
+          times = omega arith;
+          time_fits = omega arith;
+          empty = λ same. record { offsets = refl; times = refl };
+        };
+        first = refl;
+        base_time = refl;
+        last = refl;
+        last_time = refl;
+        window = refl;
+      }
+
+-- a disk with no size is absent, whatever a crash leaves
+left_absent : (a : View) (w : Contents) → IsLawful a → MayLeave a w → a.sizes 0 ≡ None → w.disks 0 ≡ None
+left_absent a w lawful left none = no_size (w.disks 0) (left.torn.disks.sizes 0 ∙ lawful.sized left.told 0 ∙ none)
+  where
+    no_size : (disk : Option (List ℕ)) → size_of disk ≡ None → disk ≡ None
+    no_size None is = refl
+    no_size (Some bytes) is = cc
+
+-- What a crash leaves while an array is made on disks that aren't there.
+module _ (g : Geometry) (a : View) (lawful : IsLawful a) (none : NoneIsThere g a) where
+  absent : (w : Contents) → MayLeave a w → w.disks 0 ≡ None
+  absent w left = left_absent a w lawful left (none 0 (omega arith))
+
+  before_log : (x y : Contents) → MayLeave a x → OnlyMembers g x.disks y.disks → Creates g x.disks y.disks
+  before_log x y left only = inl (off_no_array y.disks (absent_off y.disks (only 0 (inl refl) ∙ absent x left)))
+
+  with_log : (x y z : Contents) → MayLeave a x → HasMembers g g.members x.disks y.disks → MakesLog g y.disks z.disks → Creates g x.disks z.disks
+  with_log x y z left members makes = ⊎_elim
+      (λ (same : z.disks 0 ≡ y.disks 0). inl (off_no_array z.disks (absent_off z.disks (same ∙ members.others 0 (inl refl) ∙ absent x left))))
+      (λ rest. ⊎_elim (λ (off : IsGateOff z.disks). inl (off_no_array z.disks off))
+      (λ (new : IsNewLog g z.disks). inr (fresh_held g z.disks (λ m inside. makes.others (m + 1) (λ log. omega (arith, log)) ∙ members.disks m inside) new)) rest)
+      makes.disk
+
+  pub create_members_part : (b : View) → Moves a b (OnlyMembers g) (OnlyMembers g) → Moves a b (Creates g) (Creates g)
+  create_members_part b moves = moves_weaken a b (OnlyMembers g) (OnlyMembers g) (Creates g) (Creates g) moves
+      (λ x y was step. before_log x y was step)
+      (λ x y was left step. before_log x y was step)
+
+  pub create_log_part : (b c : View) → Moves a b (OnlyMembers g) (HasMembers g g.members) → Moves b c (MakesLog g) (MakesLog g) → Moves a c (Creates g) (Creates g)
+  create_log_part b c members log = moves_then a b c (OnlyMembers g) (HasMembers g g.members) (MakesLog g) (MakesLog g) (Creates g) (Creates g) members log
+      (λ x y was step. before_log x y was step)
+      (λ x y z was step mid makes. with_log x y z was step makes)
+      (λ x y z was step mid makes. with_log x y z was step makes)
+
+  pub create_done : (b c : View) → Moves a b (OnlyMembers g) (HasMembers g g.members) → Moves b c (MakesLog g) (HasNewLog g) → Moves a c (Creates g) (HasCreated g)
+  create_done b c members log = moves_then a b c (OnlyMembers g) (HasMembers g g.members) (MakesLog g) (HasNewLog g) (Creates g) (HasCreated g) members log
+      (λ x y was step. before_log x y was step)
+      (λ x y z was step mid makes. with_log x y z was step makes)
+      (λ x y z was step mid new. fresh_held g z.disks (λ m inside. new.others (m + 1) (λ log. omega (arith, log)) ∙ step.disks m inside) new.log)
+
+-- what a read gives is among what a crash leaves
+pub create_contents : (g : Geometry) (a b : View) → Moves a b (Creates g) (Creates g) → IsTrue a.tells → Quiet (Creates g) a.now b.now
+create_contents g a b moves told =
+    let from = moves.now b.now (read_is_left b (subst IsTrue (sym moves.tells) told)) in
+    record { disks = from.by.disks; said = from.by.said ∙ from.was.torn.said }

@@ -1,0 +1,314 @@
+-- What mounting leaves, from what it found and the put of its head.
+use Rattle.std.proofs.Common.{◌≡◌, ◌≢◌, ℕ, ◌+◌, ◌<◌, ◌≤◌, List, Option, Some, None, Bool, false, IsTrue, inl, inr, ⊎_elim, refl, sym, ap, subst, ◌∙◌, arith}
+use Rattle.trap_bank.specs.Disks.{Contents, View, Disks, Quiet, Differs, size_of}
+use Rattle.trap_bank.specs.Calls.{MayLeave, IsLawful}
+use Rattle.trap_bank.specs.Faults.{Rose}
+use Rattle.trap_bank.specs.Steps.{Moves, Same, Always}
+use Rattle.trap_bank.proofs.Regions.{region_of_disk, disk_apart}
+use Rattle.trap_bank.proofs.Moves.{moves_then, moves_weaken, always_same, read_is_left}
+use Rattle.trap_cell.specs.Slots.{Place, Slots, Stands, slot_at, value_at, current_slot, cell_value, other_slot}
+use Rattle.trap_cell.specs.Steps.{PutsIn, IsPut}
+use Rattle.trap_format.specs.LogDisk.{log_size}
+use Rattle.trap_format.specs.MemberDisk.{member_size}
+use Rattle.trap_format.specs.HeadValue.{IsHead, head_value}
+use Rattle.trap_format.specs.declared.head.Head.{Head}
+use Rattle.trap_format.proofs.Spellings.{heads_same}
+use Rattle.trap_index.specs.Indexed.{Indexed}
+use Rattle.trap_model.specs.State.{last}
+use Rattle.trap_model.specs.declared.numbers.Geometry.{Geometry}
+use Rattle.trap_model.specs.declared.history.State.{State}
+use Rattle.trap_raid.specs.Members.{Counts, IsMember, IsOut}
+use Rattle.trap_raid.specs.Reads.{OnlyReads}
+use Rattle.trap_stage.specs.Slots.{Stage}
+use Rattle.trap_stage.specs.Pending.{pending}
+use Rattle.trap_stage.specs.Found.{IsFound}
+use Rattle.trap_stage.proofs.FurtherSlots.{found_pending}
+use Rattle.trap_mount.specs.Holding.{head_place, Fits, Holds, HoldsBy}
+use Rattle.trap_mount.specs.Mounted.{Mounted, StandsFor, IsReady}
+use Rattle.trap_mount.specs.Mounting.{HoldsStill, Mounts, HasRecords, HasMembers, FoundLost, HasFound, Refuses, MountFails}
+use Rattle.trap_mount.specs.MountSteps.{ReadsLog, ReadsStage, ReadsMember, FindsMembers, MayPut, HasPut}
+use Rattle.trap_mount.specs.Reading.{ReadsIndex}
+use Rattle.trap_mount.specs.declared.fault.MountFault.{MountFault}
+use Rattle.trap_mount.specs.declared.fault.MountFault.TheVariants.{LogFault}
+use Rattle.trap_mount.proofs.MountRecords.{read_described}
+use Rattle.trap_mount.proofs.Puts.{put_in_cell, fits_put, held_by_read}
+use Rattle.trap_mount.proofs.MountReads.{reads_then, told_before, told_after, disks_same, stable_reads, rose_later, rose_before, refused_before}
+use Rattle.trap_mount.proofs.MountMembers.{absent_disk, is_some_or_not, finds_only, finds_one}
+use Rattle.trap_mount.proofs.MountStands.{one_array, fits_agree, fits_changed}
+
+-- a cell's value is what stands on its disk
+value_of_disk : (x y : Disks) → y 0 ≡ x 0 → cell_value head_place y ≡ cell_value head_place x
+value_of_disk x y same = in_slot (current_slot head_place y) ∙ ap (λ (slot : Option Bool). value_at slot head_place x) (ap (λ (disk : Option (List ℕ)). current_slot head_place (λ e. disk)) same)
+  where
+    in_slot : (slot : Option Bool) → value_at slot head_place y ≡ value_at slot head_place x
+    in_slot None = refl
+    in_slot (Some second) = ap {B = Option (List ℕ)} Some (region_of_disk x y 0 (slot_at head_place second + 2) 62 same)
+
+-- a run that ends before the put
+pub mounts_read : (a b : View) → OnlyReads a b → Moves a b (Mounts a) (Mounts a)
+mounts_read a b reads = moves_weaken a b Same Same (Mounts a) (Mounts a) reads.moves (λ x y was same. inl same) (λ x y was left same. inl same)
+
+-- what is refused of the members
+pub members_refused : (g : Geometry) (h : Head) (cell : Slots) (stage : Stage) (a b : View) (why : MountFault) → OnlyReads a b → ReadsLog g h cell stage a b
+    → (IsTrue b.tells → HasRecords g h b.now.disks → Refuses b why) → IsTrue a.tells → Refuses a why
+members_refused g h cell stage a b why reads log refused told =
+    refused_before a b why reads (λ later. refused later (subst (λ (x : Disks). HasRecords g h x) (sym (disks_same a b reads told)) (log.records told))) told
+
+-- a put that failed
+pub put_failed : (a c d : View) (why : MountFault) → OnlyReads a c → Rose (c.faults 0) (d.faults 0) → ◌≡◌ {A = MountFault} LogFault why → MountFails why a d
+put_failed a c d why reads rose is = subst (λ (w : MountFault). MountFails w a d) is (rose_later _ _ _ (reads.moves.faults 0) rose)
+
+-- one value of the head's cell is that of one head
+one_head : (g : Geometry) (h k : Head) (s t : State) (x y : Disks) → HoldsBy g h s x → HoldsBy g k t y → cell_value head_place y ≡ cell_value head_place x → h ≡ k
+one_head g h k s t x y by also same = heads_same g h k (head_value h) (record { head = by.fits.head.head; spelled = refl })
+    (record { head = also.fits.head.head; spelled = some_same (head_value h) (head_value k) (sym by.value ∙ sym same ∙ also.value) })
+  where
+    some_same : (xs ys : List ℕ) → Some xs ≡ Some ys → xs ≡ ys
+    some_same xs ys e = cc
+
+-- the same head has the same lost member
+same_lost : (g : Geometry) (h k : Head) (old new : View) → h ≡ k → FoundLost g h k old new
+same_lost g h k old new same = subst (λ (t : Head). FoundLost g h t old new) same (record { same = refl; lost = λ m is. inl is; still = λ m is. is; mark = inl refl })
+
+-- where nothing was written, the head is the same
+pub read_lost : (a b : View) → OnlyReads a b → (g : Geometry) (h k : Head) (s t : State) → IsTrue a.tells → HoldsBy g h s a.now.disks → HoldsBy g k t b.now.disks → FoundLost g h k a b
+read_lost a b reads g h k s t told by also =
+    same_lost g h k a b (one_head g h k s t a.now.disks b.now.disks by also (ap (cell_value head_place) (disks_same a b reads told)))
+
+pub read_others : (a b : View) → OnlyReads a b → IsTrue a.tells → (e : ℕ) → e ≢ 0 → b.now.disks e ≡ a.now.disks e
+read_others a b reads told e other = ap (λ (x : Disks). x e) (disks_same a b reads told)
+
+-- a put of these bytes is one of the head that they spell
+pub may_put : (a b : View) (cell : Slots) (k : Head) (bytes : List ℕ) → bytes ≡ head_value k → Moves a b (PutsIn cell bytes) (PutsIn cell bytes) → Moves a b (MayPut cell k) (MayPut cell k)
+may_put a b cell k bytes is put = moves_weaken a b (PutsIn cell bytes) (PutsIn cell bytes) (MayPut cell k) (MayPut cell k) put
+    (λ x y was step. inr (subst (λ (value : List ℕ). PutsIn cell value x.disks y.disks) is step))
+    (λ x y was left step. inr (subst (λ (value : List ℕ). PutsIn cell value x.disks y.disks) is step))
+
+pub has_put : (a b : View) (cell after : Slots) (h k : Head) (bytes : List ℕ) → bytes ≡ head_value k → Moves a b (PutsIn cell bytes) (IsPut b cell after bytes) → Moves a b (MayPut cell k) (HasPut b cell after h k)
+has_put a b cell after h k bytes is put = moves_weaken a b (PutsIn cell bytes) (IsPut b cell after bytes) (MayPut cell k) (HasPut b cell after h k) put
+    (λ x y was step. inr (subst (λ (value : List ℕ). PutsIn cell value x.disks y.disks) is step))
+    (λ x y was left step. inr (subst (λ (value : List ℕ). IsPut b cell after value x.disks y.disks) is step))
+
+-- a put that is under way, or done
+puts_of : (v : View) (cell after : Slots) (h k : Head) (x y : Disks) → HasPut v cell after h k x y → MayPut cell k x y
+puts_of v cell after h k x y put = ⊎_elim (λ none. inl none.0) (λ done. inr (record { differs = done.differs; either = inr done.value })) put
+
+-- the array that was mounted
+abbrev pub mounted_by : Geometry → Head → Slots → Stage → Indexed → Mounted
+mounted_by g k after stage index = record { g = g; head = k; cell = after; pending = stage.pending; index = index; is_stopped = false }
+
+module _ (g : Geometry) (h k : Head) (cell : Slots) (stage : Stage) (a b c : View) (to_b : OnlyReads a b) (to_c : OnlyReads b c) (lawful : IsLawful b)
+    (log : ReadsLog g h cell stage a b) (members : FindsMembers g h k b c) where
+  reads : OnlyReads a c
+  reads = reads_then a b c to_b to_c
+
+  -- the disk of which some row counts was read, and is stable
+  member_read : (m : ℕ) → m < g.members → Counts k.lost k.rebuilt 0 m → ReadsMember g m b c
+  member_read m inside counts = ⊎_elim (λ (is : k.lost ≡ Some m). members.own m is (counts is)) (λ (other : k.lost ≢ Some m). members.others m inside other) (is_some_or_not k.lost m)
+
+  pub stands_still : Always c (Stands cell)
+  stands_still = always_same b c (Stands cell) to_c.moves log.head.stands
+
+  pub put_room : (n : ℕ) × (c.sizes 0 ≡ Some n) × (192 ≤ n)
+  put_room = (log_size g, to_c.sizes 0 ∙ to_b.sizes 0 ∙ log.header.size, omega arith)
+
+  -- the pending writes and the index are those of the head that is put
+  pub stage_put : ReadsStage g k stage a
+  stage_put = subst (λ (t : Head). ReadsStage g t stage a) (sym members.same)
+      (record { same = log.slots.same; drained = log.slots.drained; last = log.slots.last; is = log.slots.is; slots = log.slots.slots })
+
+  pub index_put : (index : Indexed) → ReadsIndex g h index a → ReadsIndex g k index a
+  index_put index known = subst (λ (t : Head). ReadsIndex g t index a) (sym members.same)
+      (record { of = known.of; first = known.first; base_time = known.base_time; offset = known.offset; end = known.end; time = known.time; read = known.read })
+
+  -- what was found, over the disks on entry
+  found_entry : IsTrue a.tells → FoundLost g h k a c
+  found_entry told =
+      let found = members.found (told_after a b to_b told) in
+      let same = disks_same a b to_b told in
+      record {
+        same = found.same;
+        lost = λ m is. ⊎_elim inl (λ absent. inr (absent.0, sym (to_b.sizes (m + 1)) ∙ absent.1)) (found.lost m is);
+        still = found.still;
+        mark = ⊎_elim inl (λ rest. inr (rest.0, λ m is. ⊎_elim (λ rose. inl (rose_later _ _ _ (to_b.moves.faults (m + 1)) rose)) (λ not. inr (subst (λ (x : Disks). IsMember g x m → ⊥) same not)) (rest.1 m is))) found.mark;
+      }
+
+  -- a state that was held on entry fits the head that is put
+  fits_entry : IsTrue a.tells → (s : State) → Holds g s a.now.disks → Fits g k s a.now.disks
+  fits_entry told s holds =
+      let found = found_entry told in
+      let by = held_by_read g h s a.now.disks holds (log.head.value told) log.head.head in
+      fits_changed g h k s a.now.disks log.head.head members.head found.same found.still members.lost.inside
+      (λ m is. ⊎_elim inl (λ absent. inr (absent.0, subst (λ (x : Disks). x (m + 1) ≡ None) (disks_same a b to_b told) (absent_disk _ (lawful.sized (told_after a b to_b told) (m + 1) ∙ to_b.sizes (m + 1) ∙ absent.1)))) (found.lost m is))
+      (⊎_elim inl (λ rest. inr rest.0) found.mark) by.fits
+
+  -- and so it does whatever a crash leaves before the put
+  log_left : (y : Contents) → MayLeave c y → y.disks 0 ≡ a.now.disks 0
+  log_left y left = stable_reads b c 0 to_c log.header.stable y left ∙ ap (λ (x : Disks). x 0) (disks_same a c reads (told_before a c reads left.told))
+
+  fits_left : (y : Contents) → MayLeave c y → (s : State) → Holds g s a.now.disks → Fits g k s y.disks
+  fits_left y left s holds =
+      let told = told_before a c reads left.told in
+      let same = disks_same a c reads told in
+      fits_agree g a.now.disks y.disks (λ e. left.torn.disks.sizes e ∙ ap (λ (x : Disks). size_of (x e)) same) k s (log_left y left)
+      (λ m inside counts. (member_read m inside counts).stable y left ∙ ap (λ (x : Disks). x (m + 1)) same) (fits_entry told s holds)
+
+  header_entry : IsTrue a.tells → (g' : Geometry) (s : State) → Holds g' s a.now.disks → g' ≡ g
+  header_entry told g' s holds = one_array g g' s a.now.disks (log.header.header told) holds
+
+  -- at any moment of the put
+  put_mounts : (y : Contents) (z : Disks) → MayLeave c y → MayPut cell k y.disks z → Mounts a y.disks z
+  put_mounts y z left put = ⊎_elim inl (λ puts. inr (⊎_elim
+      (λ same. inl (record {
+        cell = cell;
+        place = log.head.place;
+        current = subst (λ (p : Place). current_slot p y.disks ≡ Some cell.second) log.head.place (stands_still y left).current;
+        differs = puts.differs;
+        value = subst (λ (p : Place). cell_value p z ≡ cell_value p y.disks) log.head.place same;
+      }))
+      (λ fresh. inr (held puts.differs fresh))
+      puts.either)) put
+    where
+      held : Differs (other_slot cell) y.disks z → cell_value cell.place z ≡ Some (head_value k) → HoldsStill a z
+      held differs fresh g' s holds =
+          let told = told_before a c reads left.told in
+          let one = header_entry told g' s holds in
+          subst (λ (n : Geometry). Holds n s z) (sym one) (record {
+            head = k;
+            by = record {
+              value = subst (λ (p : Place). cell_value p z ≡ Some (head_value k)) log.head.place fresh;
+              fits = fits_put g k s y.disks z (put_in_cell cell y.disks z log.head.place differs) (fits_left y left s (subst (λ (n : Geometry). Holds n s a.now.disks) one holds));
+            };
+          })
+
+  module _ (d : View) where
+    -- with the put
+    pub mounts_put : Moves c d (MayPut cell k) (MayPut cell k) → Moves a d (Mounts a) (Mounts a)
+    mounts_put put = moves_then a c d Same Same (MayPut cell k) (MayPut cell k) (Mounts a) (Mounts a) reads.moves put
+        (λ x y was same. inl same)
+        (λ x y z was same mid step. subst (λ (q : Disks). Mounts a q z.disks) same (put_mounts y z.disks mid step))
+        (λ x y z was same mid step. subst (λ (q : Disks). Mounts a q z.disks) same (put_mounts y z.disks mid step))
+
+    pub mounts_contents : (IsTrue c.tells → Quiet (MayPut cell k) c.now d.now) → IsTrue a.tells → Quiet (Mounts a) a.now d.now
+    mounts_contents put told =
+        let later = told_after a c reads told in
+        let step = put later in
+        record {
+          disks = subst (λ (q : Disks). Mounts a q d.now.disks) (disks_same a c reads told) (put_mounts c.now d.now.disks (read_is_left c later) step.disks);
+          said = step.said ∙ ap (λ (n : Contents). n.said) (reads.same told);
+        }
+
+    -- no disk but the log changes
+    pub put_others : (IsTrue c.tells → Quiet (MayPut cell k) c.now d.now) → IsTrue a.tells → (e : ℕ) → e ≢ 0 → d.now.disks e ≡ a.now.disks e
+    put_others put told e other = ⊎_elim (λ same. ap (λ (x : Disks). x e) same)
+        (λ puts. disk_apart (other_slot cell) c.now.disks d.now.disks e puts.differs (λ i within. other (within.disk ∙ ap (λ (p : Place). p.disk) log.head.place)))
+        (put (told_after a c reads told)).disks
+        ∙ ap (λ (x : Disks). x e) (disks_same a c reads told)
+
+    -- and the lost member is the one that was found, or the one before
+    pub put_lost : ((e : ℕ) → c.faults e ≤ d.faults e) → (IsTrue c.tells → Quiet (MayPut cell k) c.now d.now) → (n : Geometry) (l t : Head) (s u : State) → IsTrue a.tells
+        → HoldsBy n l s a.now.disks → HoldsBy n t u d.now.disks → FoundLost n l t a d
+    put_lost later put n l t s u told by also = ⊎_elim
+        (λ same. same_lost n l t a d (one_head n l t s u a.now.disks d.now.disks by also (ap (cell_value head_place) (same ∙ disks_same a c reads told))))
+        (λ puts. ⊎_elim
+        (λ same. same_lost n l t a d (one_head n l t s u a.now.disks d.now.disks by also
+        (subst (λ (p : Place). cell_value p d.now.disks ≡ cell_value p c.now.disks) log.head.place same ∙ ap (cell_value head_place) (disks_same a c reads told))))
+        (λ fresh. put_it (subst (λ (p : Place). cell_value p d.now.disks ≡ Some (head_value k)) log.head.place fresh))
+        puts.either)
+        (put (told_after a c reads told)).disks
+      where
+        some_same : (xs ys : List ℕ) → Some xs ≡ Some ys → xs ≡ ys
+        some_same xs ys e = cc
+
+        put_it : cell_value head_place d.now.disks ≡ Some (head_value k) → FoundLost n l t a d
+        put_it value =
+            let one : n ≡ g = header_entry told n s (record { head = l; by = by }) in
+            let found = found_entry told in
+            let before : h ≡ l = heads_same g h l (head_value h) (record { head = log.head.head; spelled = refl })
+            (record { head = subst (λ (q : Geometry). IsHead q l) one by.fits.head.head; spelled = some_same (head_value h) (head_value l) (sym (log.head.value told) ∙ by.value) }) in
+            let now : k ≡ t = heads_same g k t (head_value k) (record { head = members.head; spelled = refl })
+            (record { head = subst (λ (q : Geometry). IsHead q t) one also.fits.head.head; spelled = some_same (head_value k) (head_value t) (sym value ∙ also.value) }) in
+            subst (λ (q : Geometry). FoundLost q l t a d) (sym one)
+            (subst (λ (q : Head). FoundLost g q t a d) before (subst (λ (q : Head). FoundLost g h q a d) now (record {
+              same = found.same;
+              lost = found.lost;
+              still = found.still;
+              mark = ⊎_elim inl (λ rest. inr (rest.0, λ m is. ⊎_elim (λ rose. inl (rose_before _ _ _ (later (m + 1)) rose)) inr (rest.1 m is))) found.mark;
+            })))
+
+    module _ (after : Slots) (index : Indexed) (known : ReadsIndex g h index a) (put : Moves c d (MayPut cell k) (HasPut d cell after h k)) (sizes : (e : ℕ) → d.sizes e ≡ c.sizes e) where
+      cell_after : Always d (Stands after)
+      cell_after w left =
+          let from = put.now w left in
+          ⊎_elim (λ none. subst (λ (q : Disks). Stands after q) (sym none.0) (subst (λ (t : Slots). Stands t from.origin.disks) (sym none.2) (stands_still from.origin from.was)))
+          (λ done. done.stands) from.by.disks
+
+      pub mount_ready : IsReady (mounted_by g k after stage index) d
+      mount_ready = record {
+        sizes = λ going. record {
+          log = (log_size g, sizes 0 ∙ reads.sizes 0 ∙ log.header.size, omega arith);
+          members = λ m inside counts. (member_size g, sizes (m + 1) ∙ to_c.sizes (m + 1) ∙ (member_read m inside counts).size, omega arith);
+        };
+        stands = λ going. cell_after;
+      }
+
+      pending_is : IsTrue a.tells → (s : State) → Holds g s a.now.disks → stage.pending ≡ pending g s k.drained
+      pending_is told s holds =
+          let by = held_by_read g h s a.now.disks holds (log.head.value told) log.head.head in
+          let is = by.fits.head in
+          let numbers = log.head.head.numbers in
+          let found = subst (λ (n : ℕ). IsFound g h.drained n a.now.disks stage) is.last (log.slots.slots told) in
+          let same : k.drained ≡ h.drained = ap (λ (t : Head). t.drained) (found_entry told).same in
+          found_pending g s h.drained a.now.disks stage by.fits.valid (low is.first numbers.dropped) (high is.last numbers.drained) by.fits.slots log.slots.is found
+          ∙ ap (pending g s) (sym same)
+        where
+          low : h.first ≡ s.first → h.first ≤ h.drained → s.first ≤ h.drained
+          low first dropped = omega arith
+
+          high : h.last ≡ last s → h.drained ≤ h.last → h.drained ≤ last s
+          high end drained = omega arith
+
+      pub mount_stands : (g' : Geometry) (s : State) → IsTrue a.tells → Holds g' s a.now.disks → (g ≡ g') × Always d (StandsFor (mounted_by g k after stage index) s)
+      mount_stands g' s told holds =
+          let one = header_entry told g' s holds in
+          let here = subst (λ (n : Geometry). Holds n s a.now.disks) one holds in (
+            sym one,
+            λ w left.
+                let from = put.now w left in
+                let fits = fits_left from.origin from.was s here in
+                record {
+                  by = ⊎_elim
+                      (λ none. record {
+                        value = subst (λ (q : Disks). cell_value head_place q ≡ Some (head_value k)) (sym none.0)
+                            (value_of_disk a.now.disks from.origin.disks (log_left from.origin from.was) ∙ log.head.value told ∙ ap (λ (t : Head). Some (head_value t)) (sym none.1));
+                        fits = subst (λ (q : Disks). Fits g k s q) (sym none.0) fits;
+                      })
+                      (λ done. record {
+                        value = subst (λ (p : Place). cell_value p w.disks ≡ Some (head_value k)) log.head.place done.value;
+                        fits = fits_put g k s from.origin.disks w.disks (put_in_cell cell from.origin.disks w.disks log.head.place done.differs) fits;
+                      })
+                      from.by.disks;
+                  cell = cell_after w left;
+                  pending = pending_is told s here;
+                  index = read_described g h s index a (held_by_read g h s a.now.disks here (log.head.value told) log.head.head) known told;
+                },
+          )
+
+      pub mount_found : HasFound (mounted_by g k after stage index) a d
+      mount_found = record {
+        passed = λ told.
+            let later = told_after a b to_b told in
+            let same = disks_same a b to_b told in
+            let found = found_entry told in (
+              h,
+              subst (λ (x : Disks). HasMembers g h x) same (finds_one g h k.lost b lawful later members.lost (subst (λ (x : Disks). HasRecords g h x) (sym same) (log.records told))),
+              record {
+                same = found.same;
+                lost = found.lost;
+                still = found.still;
+                mark = ⊎_elim inl (λ rest. inr (rest.0, λ m is. ⊎_elim (λ rose. inl (rose_before _ _ _ (put.faults (m + 1)) rose)) inr (rest.1 m is))) found.mark;
+              },
+              λ m inside counts. subst (λ (x : Disks). IsMember g x m) same ((members.others m inside (λ is. counts (subst (λ (x : Disks). IsOut h.lost x m) same ((finds_only g h k.lost b lawful later members.lost).out m is)))).own later),
+              λ m is more. subst (λ (x : Disks). IsMember g x m) same ((members.own m is more).own later),
+            );
+      }

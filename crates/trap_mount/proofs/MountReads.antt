@@ -1,0 +1,82 @@
+-- Runs of calls that only read, and disks of which a crash leaves what a read gives.
+use Rattle.std.proofs.Common.{◌≡◌, ℕ, ◌+◌, ◌≤◌, IsTrue, Ok, refl, sym, ap, subst, ◌∙◌, arith}
+use Rattle.trap_bank.specs.Disks.{Contents, View, Disks}
+use Rattle.trap_bank.specs.Calls.{Syncs}
+use Rattle.trap_bank.specs.Faults.{Rose}
+use Rattle.trap_bank.specs.Steps.{Moves, Same}
+use Rattle.trap_bank.proofs.Moves.{synced_steps, same_then, no_moves}
+use Rattle.trap_raid.specs.Reads.{OnlyReads}
+use Rattle.trap_mount.specs.MountSteps.{IsStable}
+use Rattle.trap_mount.specs.Mounting.{Refuses, RefusesAs, MountFails}
+use Rattle.trap_mount.specs.declared.fault.MountFault.{MountFault}
+use Rattle.trap_mount.specs.declared.fault.MountFault.TheVariants.{NotAnArray, BadVersion, WrongMember, TooManyLost, Damaged, LogFault, MemberFault, OutOfMemory}
+
+-- one run and then another
+pub reads_then : (a b c : View) → OnlyReads a b → OnlyReads b c → OnlyReads a c
+reads_then a b c first second = record {
+  same = λ told. second.same (subst IsTrue (sym first.moves.tells) told) ∙ first.same told;
+  sizes = λ e. second.sizes e ∙ first.sizes e;
+  moves = same_then a b c first.moves second.moves;
+}
+
+-- no call at all
+pub reads_none : (v : View) → OnlyReads v v
+reads_none v = record { same = λ told. refl; sizes = λ e. refl; moves = no_moves v Same Same (λ x was. refl) }
+
+-- a bank that tells still does
+pub told_before : (a b : View) → OnlyReads a b → IsTrue b.tells → IsTrue a.tells
+told_before a b reads told = subst IsTrue reads.moves.tells told
+
+pub told_after : (a b : View) → OnlyReads a b → IsTrue a.tells → IsTrue b.tells
+told_after a b reads told = subst IsTrue (sym reads.moves.tells) told
+
+-- the disks are those before
+pub disks_same : (a b : View) → OnlyReads a b → IsTrue a.tells → b.now.disks ≡ a.now.disks
+disks_same a b reads told = ap (λ (c : Contents). c.disks) (reads.same told)
+
+-- a count that rose later rose all together
+pub rose_later : (a b c : ℕ) → a ≤ b → Rose b c → Rose a c
+rose_later a b c le rose = omega arith
+
+-- and one that rose before it didn't fall
+pub rose_before : (a b c : ℕ) → b ≤ c → Rose a b → Rose a c
+rose_before a b c le rose = omega arith
+
+-- a disk that was synced is stable, after a read too
+pub stable_read : {T E : Type 0} (value : T) (a b c : View) (d : ℕ) → Syncs {T = T} {E = E} d (Ok value) a b → Moves b c Same Same → (IsTrue b.tells → c.now ≡ b.now) → IsStable c d
+stable_read value a b c d call moves same z left =
+    let from = moves.now z left in
+    let settled = (synced_steps value a b d call).now from.origin from.was in
+    ap (λ (disks : Disks). disks d) from.by.disks ∙ settled.by.disks.read ∙ sym (ap (λ (c : Contents). c.disks d) (same from.was.told))
+
+-- a stable disk stays so where nothing is written
+pub stable_reads : (a b : View) (d : ℕ) → OnlyReads a b → IsStable a d → IsStable b d
+stable_reads a b d reads stable z left =
+    let from = reads.moves.now z left in
+    ap (λ (disks : Disks). disks d) from.by.disks ∙ stable from.origin from.was ∙ sym (ap (λ (c : Contents). c.disks d) (reads.same from.was.told))
+
+-- a refusal that comes later says the same of the disks before
+pub refused_before : (a b : View) (why : MountFault) → OnlyReads a b → (IsTrue b.tells → Refuses b why) → IsTrue a.tells → Refuses a why
+refused_before a b why reads refused told = subst (λ (x : Disks). RefusesAs x why) (disks_same a b reads told) (refused (told_after a b reads told))
+
+-- and what failed later failed since before
+pub cause_before : (a b c : View) (why : MountFault) → OnlyReads a b → MountFails why b c → MountFails why a c
+cause_before a b c NotAnArray reads fails = tt
+cause_before a b c (BadVersion version) reads fails = tt
+cause_before a b c (WrongMember member) reads fails = tt
+cause_before a b c (TooManyLost first second) reads fails = tt
+cause_before a b c (Damaged offset) reads fails = tt
+cause_before a b c LogFault reads fails = rose_later _ _ _ (reads.moves.faults 0) fails
+cause_before a b c (MemberFault first second) reads fails = (fails.0, fails.1, rose_later _ _ _ (reads.moves.faults (second + 1)) fails.2)
+cause_before a b c OutOfMemory reads fails = tt
+
+-- what failed before a later run, which only reads, failed in both
+pub cause_after : (a b c : View) (why : MountFault) → OnlyReads b c → MountFails why a b → MountFails why a c
+cause_after a b c NotAnArray reads fails = tt
+cause_after a b c (BadVersion version) reads fails = tt
+cause_after a b c (WrongMember member) reads fails = tt
+cause_after a b c (TooManyLost first second) reads fails = tt
+cause_after a b c (Damaged offset) reads fails = tt
+cause_after a b c LogFault reads fails = rose_before _ _ _ (reads.moves.faults 0) fails
+cause_after a b c (MemberFault first second) reads fails = (fails.0, fails.1, rose_before _ _ _ (reads.moves.faults (second + 1)) fails.2)
+cause_after a b c OutOfMemory reads fails = tt

@@ -1,0 +1,130 @@
+-- Making an array on disks that aren't there.
+use Rattle.std.specs.Prelude.{◌≡◌, ◌≢◌, ◌⊎◌, ℕ, ◌+◌, ◌*◌, ◌<◌, ◌≤◌, List, ◌++◌, replicate, take, drop, Some, None, IsTrue}
+use Rattle.trap_bank.specs.Disks.{Disks, View, byte, region, size_of}
+use Rattle.trap_bank.specs.Faults.{Rose}
+use Rattle.trap_bank.specs.Steps.{Moves, Same}
+use Rattle.trap_cell.specs.Slots.{cell_value}
+use Rattle.trap_format.specs.LogDisk.{log_start, log_size, log_header}
+use Rattle.trap_format.specs.MemberDisk.{member_header}
+use Rattle.trap_format.specs.HeadValue.{head_value}
+use Rattle.trap_format.specs.declared.head.Head.{Head}
+use Rattle.trap_model.specs.State.{fresh}
+use Rattle.trap_model.specs.declared.numbers.Geometry.{Geometry}
+use Rattle.trap_mount.specs.Holding.{head_place, HasLog, Holds}
+use Rattle.trap_mount.specs.declared.fault.CreateFault.{CreateFault}
+use Rattle.trap_mount.specs.declared.fault.CreateFault.TheVariants.{Exists, LogFault, MemberFault}
+
+-- disk 0 is there with at least 192 bytes, and begins with an open gate and the magic bytes
+pub record BeginsLog (disks : Disks) : Type 0 where
+  pub bytes : ℕ
+  pub there : size_of (disks 0) ≡ Some bytes
+  pub least : 192 ≤ bytes
+  pub start : take 5 (region disks 0 0 64) ≡ log_start
+
+-- disk 0 is no log, so that mounting refuses it as no array
+abbrev pub IsNoArray : Disks → Type 0
+IsNoArray disks = BeginsLog disks → ⊥
+
+-- while an array is made: disk 0 is no log, or the disks hold the fresh array
+abbrev pub Creates : Geometry → Disks → Disks → Type 0
+Creates g old new = IsNoArray new ⊎ Holds g (fresh g) new
+
+-- the disks hold the fresh array
+abbrev pub HasCreated : Geometry → Disks → Disks → Type 0
+HasCreated g old new = Holds g (fresh g) new
+
+-- the lowest of the disks of an array, the log and its members, that has a size
+pub record IsLowest (g : Geometry) (v : View) (d : ℕ) : Type 0 where
+  pub inside : d ≤ g.members
+  pub there : v.sizes d ≢ None
+  pub lowest : (e : ℕ) → e < d → v.sizes e ≡ None
+
+-- none of them has a size
+abbrev pub NoneIsThere : Geometry → View → Type 0
+NoneIsThere g v = (d : ℕ) → d ≤ g.members → v.sizes d ≡ None
+
+-- nothing was changed, by a read or by a crash
+pub record IsUntouched (old new : View) : Type 0 where
+  pub sizes : (e : ℕ) → new.sizes e ≡ old.sizes e
+  pub same : IsTrue old.tells → new.now ≡ old.now
+  pub moves : Moves old new Same Same
+
+-- what failed has a count of faults that rose; a member that did has both numbers
+abbrev pub CreateFails : Geometry → CreateFault → View → View → Type 0
+CreateFails g (Exists disk) old new = Unit {0}
+CreateFails g LogFault old new = Rose (old.faults 0) (new.faults 0)
+CreateFails g (MemberFault first second) old new =
+    (first ≡ second) × (second < g.members) × Rose (old.faults (second + 1)) (new.faults (second + 1))
+
+-- every disk but this one is the same
+abbrev pub OnlyDisk : ℕ → Disks → Disks → Type 0
+OnlyDisk d old new = (e : ℕ) → e ≢ d → new e ≡ old e
+
+-- every disk but those of the members is the same
+abbrev pub OnlyMembers : Geometry → Disks → Disks → Type 0
+OnlyMembers g old new = (e : ℕ) → (e ≡ 0) ⊎ (g.members < e) → new e ≡ old e
+
+-- the bytes of a new member's disk: its header, and a zero block at each place
+abbrev pub new_member : Geometry → ℕ → List ℕ
+new_member g m = member_header g.id m ++ replicate (g.rows * g.block) 0
+
+-- a member's disk is new
+pub record HasMember (g : Geometry) (m : ℕ) (old new : Disks) : Type 0 where
+  pub others : OnlyDisk (m + 1) old new
+  pub disk : new (m + 1) ≡ Some (new_member g m)
+
+-- so are the disks of the first members
+pub record HasMembers (g : Geometry) (count : ℕ) (old new : Disks) : Type 0 where
+  pub others : OnlyMembers g old new
+  pub disks : (m : ℕ) → m < count → new (m + 1) ≡ Some (new_member g m)
+
+-- the head before the first write
+abbrev pub fresh_head : Head
+fresh_head = record {
+  version = 1;
+  lost = None;
+  rebuilt = 0;
+  first = 0;
+  base_time = 0;
+  first_off = 0;
+  last = 0;
+  end_off = 0;
+  drained = 0;
+  last_time = 0;
+}
+
+-- the gate of disk 0 is off, or the disk is absent
+abbrev pub IsGateOff : Disks → Type 0
+IsGateOff disks = byte disks 0 0 ≢ 165
+
+-- disk 0 is a new log but for its gate, which is off
+pub record IsShutLog (g : Geometry) (disks : Disks) : Type 0 where
+  pub gate : IsGateOff disks
+  pub size : size_of (disks 0) ≡ Some (log_size g)
+  pub rest : region disks 0 1 63 ≡ drop 1 (log_header g)
+  pub value : cell_value head_place disks ≡ Some (head_value fresh_head)
+
+-- disk 0 is a new log: it has its size and its header, and the cell's value is the head before the first write
+pub record IsNewLog (g : Geometry) (disks : Disks) : Type 0 where
+  pub log : HasLog g disks
+  pub value : cell_value head_place disks ≡ Some (head_value fresh_head)
+
+-- while the log is made behind its gate
+pub record ShutsLog (old new : Disks) : Type 0 where
+  pub others : OnlyDisk 0 old new
+  pub disk : (new 0 ≡ old 0) ⊎ IsGateOff new
+
+-- and when it is made, with the gate off
+pub record HasShutLog (g : Geometry) (old new : Disks) : Type 0 where
+  pub others : OnlyDisk 0 old new
+  pub log : IsShutLog g new
+
+-- while the log is made, with its gate last
+pub record MakesLog (g : Geometry) (old new : Disks) : Type 0 where
+  pub others : OnlyDisk 0 old new
+  pub disk : (new 0 ≡ old 0) ⊎ (IsGateOff new ⊎ IsNewLog g new)
+
+-- and when it is made
+pub record HasNewLog (g : Geometry) (old new : Disks) : Type 0 where
+  pub others : OnlyDisk 0 old new
+  pub log : IsNewLog g new

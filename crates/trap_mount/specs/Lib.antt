@@ -1,0 +1,10 @@
+pub mod Holding
+pub mod Memory
+pub mod Mounted
+pub mod Creating
+pub mod OnDisks
+pub mod Mounting
+pub mod MountEnds
+pub mod MountSteps
+pub mod Reading
+pub mod Found

@@ -1,0 +1,179 @@
+//! Making an array: the members first, the log last, its gate last of all.
+
+ghost use Rattle.std.specs.Prelude.{◌≡◌, ◌≢◌, ◌↔◌, ◌≤◌, ◌<◌, ◌^◌, ℕ, ◌+◌, OnOk, OnErr, IsTrue, IsErrOf, IfErr, IfSome, IfNone, None, Some};
+ghost use Rattle.trap_bank.specs.Disks.{Quiet};
+ghost use Rattle.trap_bank.specs.Faults.{Rose};
+ghost use Rattle.trap_bank.specs.Steps.{Moves};
+ghost use Rattle.trap_format.specs.LogDisk.{log_size};
+ghost use Rattle.trap_mount.specs.Creating.{CreateFails, Creates, HasCreated, IsLowest, NoneIsThere, IsUntouched, OnlyDisk, OnlyMembers, HasMember, HasMembers, ShutsLog, HasShutLog, MakesLog, HasNewLog};
+ghost use Rattle.trap_mount.specs.declared.fault.CreateFault.TheVariants as fault;
+
+use crate::CreateFault;
+use trap_bank::{Bank, DiskFault, write_through};
+use trap_cell::Cell;
+use trap_format::{Head, log_len, member_len, spell_head, spell_log, spell_member};
+use trap_model::Geometry;
+use trap_raid::MemberFailed;
+
+/// The first byte of the log, where an array stands there.
+const GATE: u8 = 0xa5;
+
+/// Where the head's cell stands on disk 0.
+const CELL_AT: u64 = 64;
+
+/// The head before the first write.
+const FRESH: Head = Head {
+    version: 1,
+    lost: None,
+    rebuilt: 0,
+    first: 0,
+    base_time: 0,
+    first_off: 0,
+    last: 0,
+    end_off: 0,
+    drained: 0,
+    last_time: 0,
+};
+
+impl From<DiskFault> for CreateFault {
+    ghost from_gives = { λ _ e. e ≡ fault.LogFault };
+
+    fn from(_fault: DiskFault) -> CreateFault {
+        CreateFault::LogFault
+    }
+}
+
+impl From<MemberFailed> for CreateFault {
+    ghost from_gives = { λ failed e. e ≡ fault.MemberFault failed.member failed.member };
+
+    fn from(failed: MemberFailed) -> CreateFault {
+        CreateFault::MemberFault {
+            first: failed.member,
+            second: failed.member,
+        }
+    }
+}
+
+/// The lowest of the array's disks that has a size.
+fn lowest<B: Bank>(bank: &B, g: &Geometry) -> Option<u8>
+    ensures some { IfSome result (λ d. IsLowest g.now (B.view bank.now) d) }
+    ensures none { IfNone result (NoneIsThere g.now (B.view bank.now)) }
+{
+    for d in 0..g.members + 1 {
+        if bank.size(d).is_some() {
+            return Some(d);
+        }
+    }
+    None
+}
+
+/// Makes the disk of a member, whatever stood there: its header, and a zero block at each place.
+fn create_member<B: Bank>(bank: &mut B, g: &Geometry, member: u8) -> Result<(), DiskFault>
+    requires { member < g.now.members }
+    ensures ok { OnOk result (Moves (B.view bank.old) (B.view bank.new)
+        (OnlyDisk (member + 1)) (HasMember g.now member)) }
+    ensures sizes { (e : ℕ) → e ≢ member + 1 → (B.view bank.new).sizes e ≡ (B.view bank.old).sizes e }
+    ensures touches { IsTrue (B.view bank.old).tells
+        → OnlyDisk (member + 1) (B.view bank.old).now.disks (B.view bank.new).now.disks }
+    ensures cause { OnErr result (Rose ((B.view bank.old).faults (member + 1)) ((B.view bank.new).faults (member + 1))) }
+    ensures any_moment { Moves (B.view bank.old) (B.view bank.new)
+        (OnlyDisk (member + 1)) (OnlyDisk (member + 1)) }
+{
+    let mut header = [0; 16];
+    spell_member(g.id, member, &mut header);
+    // The zeros are stable when the disk is made.
+    bank.make(member + 1, member_len(g))?;
+    // The header is stable before the log's gate says that the array is there.
+    write_through(bank, member + 1, 0, &header)?;
+    Ok(())
+}
+
+/// Makes the disks of all members.
+fn create_members<B: Bank>(bank: &mut B, g: &Geometry) -> Result<(), MemberFailed>
+    ensures ok { OnOk result (Moves (B.view bank.old) (B.view bank.new)
+        (OnlyMembers g.now) (HasMembers g.now g.now.members)) }
+    ensures sizes { (e : ℕ) → g.now.members < e → (B.view bank.new).sizes e ≡ (B.view bank.old).sizes e }
+    ensures touches { IsTrue (B.view bank.old).tells
+        → OnlyMembers g.now (B.view bank.old).now.disks (B.view bank.new).now.disks }
+    ensures inside { IfErr result (λ failed. failed.member < g.now.members) }
+    ensures cause { IfErr result (λ failed.
+        Rose ((B.view bank.old).faults (failed.member + 1)) ((B.view bank.new).faults (failed.member + 1))) }
+    ensures any_moment { Moves (B.view bank.old) (B.view bank.new) (OnlyMembers g.now) (OnlyMembers g.now) }
+{
+    for member in 0..g.members {
+        let Ok(()) = create_member(bank, g, member) else {
+            return Err(MemberFailed { member });
+        };
+    }
+    Ok(())
+}
+
+/// Makes the log behind its gate, which stays off: the head's cell, and the header's other bytes.
+fn shut_log<B: Bank>(bank: &mut B, g: &Geometry) -> Result<(), DiskFault>
+    ensures ok { OnOk result (Moves (B.view bank.old) (B.view bank.new) ShutsLog (HasShutLog g.now)) }
+    ensures size { OnOk result ((B.view bank.new).sizes 0 ≡ Some (log_size g.now)) }
+    ensures sizes { (e : ℕ) → e ≢ 0 → (B.view bank.new).sizes e ≡ (B.view bank.old).sizes e }
+    ensures touches { IsTrue (B.view bank.old).tells
+        → OnlyDisk 0 (B.view bank.old).now.disks (B.view bank.new).now.disks }
+    ensures cause { OnErr result (Rose ((B.view bank.old).faults 0) ((B.view bank.new).faults 0)) }
+    ensures any_moment { Moves (B.view bank.old) (B.view bank.new) ShutsLog ShutsLog }
+{
+    let mut head = [0; 62];
+    spell_head(&FRESH, &mut head);
+    let mut header = [0; 64];
+    spell_log(g, &mut header);
+    bank.make(0, log_len(g))?;
+    // Head and header are stable before the gate says that they are there.
+    Cell::first(bank, 0, CELL_AT, &head)?;
+    write_through(bank, 0, 1, &header[1..])?;
+    Ok(())
+}
+
+/// Makes the log, whatever stood on disk 0.
+fn create_log<B: Bank>(bank: &mut B, g: &Geometry) -> Result<(), DiskFault>
+    requires one_slot { g.now.slots ≡ 1 }
+    ensures ok { OnOk result (Moves (B.view bank.old) (B.view bank.new) (MakesLog g.now) (HasNewLog g.now)) }
+    ensures sizes { (e : ℕ) → e ≢ 0 → (B.view bank.new).sizes e ≡ (B.view bank.old).sizes e }
+    ensures touches { IsTrue (B.view bank.old).tells
+        → OnlyDisk 0 (B.view bank.old).now.disks (B.view bank.new).now.disks }
+    ensures cause { OnErr result (Rose ((B.view bank.old).faults 0) ((B.view bank.new).faults 0)) }
+    ensures any_moment { Moves (B.view bank.old) (B.view bank.new) (MakesLog g.now) (MakesLog g.now) }
+{
+    // An id that is read is known to fit the header's field.
+    let _id = g.id;
+    shut_log(bank, g)?;
+    // The gate is a write of its own: whatever byte a crash leaves of it, the log is whole or is none.
+    write_through(bank, 0, 0, &[GATE])?;
+    Ok(())
+}
+
+/// Makes an array: the members first, the log last, its gate last of all. Nothing is done where a disk of the array
+/// is there.
+pub fn create<B: Bank>(bank: &mut B, g: &Geometry) -> Result<(), CreateFault>
+    requires one_slot { g.now.slots ≡ 1 }
+    ensures ok { OnOk result (Moves (B.view bank.old) (B.view bank.new) (Creates g.now) (HasCreated g.now)) }
+
+    // It is refused exactly where a disk of the array has a size, with the lowest of them; nothing is done then.
+    ensures exists { (d : ℕ) → IsErrOf result (fault.Exists d) ↔ IsLowest g.now (B.view bank.old) d }
+    ensures untouched { (d : ℕ) → IsLowest g.now (B.view bank.old) d
+        → IsUntouched (B.view bank.old) (B.view bank.new) }
+    ensures cause { IfErr result (λ why. CreateFails g.now why (B.view bank.old) (B.view bank.new)) }
+
+    // The disks beyond the members stay.
+    ensures sizes { (e : ℕ) → g.now.members < e → (B.view bank.new).sizes e ≡ (B.view bank.old).sizes e }
+    ensures touches { IsTrue (B.view bank.old).tells → (e : ℕ) → g.now.members < e
+        → (B.view bank.new).now.disks e ≡ (B.view bank.old).now.disks e }
+    ensures contents { NoneIsThere g.now (B.view bank.old) → IsTrue (B.view bank.old).tells
+        → Quiet (Creates g.now) (B.view bank.old).now (B.view bank.new).now }
+
+    // Stopped at any moment, disk 0 is no log, or the disks hold the fresh array.
+    ensures any_moment { NoneIsThere g.now (B.view bank.old)
+        → Moves (B.view bank.old) (B.view bank.new) (Creates g.now) (Creates g.now) }
+{
+    if let Some(disk) = lowest(bank, g) {
+        return Err(CreateFault::Exists { disk });
+    }
+    // All members are stable before the log's gate says that they are there.
+    create_members(bank, g)?;
+    Ok(create_log(bank, g)?)
+}

@@ -1,0 +1,180 @@
+//! The members' disks, looked at when an array is mounted.
+
+ghost use Rattle.std.specs.Prelude.{◌≡◌, ◌≢◌, ◌≤◌, ◌<◌, ◌+◌, ◌↔◌, ℕ, Some, None, IsTrue, OnOk, OnErr, IfOk, IfErr, IfSome, IfNone};
+ghost use Rattle.std.specs.Option.{ForSome};
+ghost use Rattle.trap_bank.specs.Faults.{Rose};
+ghost use Rattle.trap_format.specs.MemberDisk.{member_size, member_header};
+ghost use Rattle.trap_format.specs.HeadValue.{IsHead};
+ghost use Rattle.trap_format.specs.declared.head.Head.{Head};
+ghost use Rattle.trap_raid.specs.Members.{IsMember};
+ghost use Rattle.trap_raid.specs.Reads.{OnlyReads};
+ghost use Rattle.trap_mount.specs.Mounting.{Refuses, MountFails, HasRecords, HasMembers, IsWrong};
+ghost use Rattle.trap_mount.specs.MountSteps.{IsStable, IsOnlyOut, IsFirstOut, FindsLost, ReadsMember, ReadsMembers, KeepsRows, FindsMembers};
+
+use crate::MountFault;
+use crate::mounting::header::settle;
+use trap_bank::{Bank, Failed};
+use trap_format::{Head, member_len, read_member};
+use trap_model::Geometry;
+
+/// The lowest member whose disk is absent, but for one.
+fn lowest_absent<B: Bank>(bank: &B, members: u8, but: Option<u8>) -> Option<u8>
+    requires { members ≤ 16 }
+    ensures some { IfSome result (λ m. (m < members) × (but ≢ Some m) × ((B.view bank.now).sizes (m + 1) ≡ None)
+        × ((k : ℕ) → k < m → but ≢ Some k → (B.view bank.now).sizes (k + 1) ≢ None)) }
+    ensures none { IfNone result ((k : ℕ) → k < members → but ≢ Some k → (B.view bank.now).sizes (k + 1) ≢ None) }
+{
+    for member in 0..members {
+        if but != Some(member) && bank.size(member + 1).is_none() {
+            return Some(member);
+        }
+    }
+    None
+}
+
+/// The first member that is out: the recorded lost one, or else the lowest absent one.
+fn first_out<B: Bank>(bank: &B, g: &Geometry, head: &Head) -> Option<u8>
+    requires head { IsHead g.now head.now }
+    ensures { IsFirstOut g.now head.now.lost (B.view bank.now) result }
+{
+    match head.lost {
+        None => lowest_absent(bank, g.members, None),
+        Some(member) => Some(member),
+    }
+}
+
+/// The member that is out, if one is. A second one is refused.
+fn find_lost<B: Bank>(bank: &B, g: &Geometry, head: &Head) -> Result<Option<u8>, MountFault>
+    requires head { IsHead g.now head.now }
+    ensures ok { IfOk result (λ lost. FindsLost g.now head.now.lost lost (B.view bank.now)) }
+    ensures refused { IfErr result (λ why. IsTrue (B.view bank.now).tells
+        → HasRecords g.now head.now (B.view bank.now).now.disks → Refuses (B.view bank.now) why) }
+    ensures cause { IfErr result (λ why. MountFails why (B.view bank.now) (B.view bank.now)) }
+{
+    let out = first_out(bank, g, head);
+    let Some(first) = out else {
+        return Ok(None);
+    };
+    match lowest_absent(bank, g.members, out) {
+        None => Ok(out),
+        Some(second) => Err(MountFault::TooManyLost { first, second }),
+    }
+}
+
+/// Whether the bytes are the header of the member.
+fn is_header(bytes: &[u8; 16], id: u64, member: u8) -> bool
+    ensures { IsTrue result ↔ (bytes.now ≡ member_header id member) }
+{
+    match read_member(bytes) {
+        Some((other, m)) => other == id && m == member,
+        None => false,
+    }
+}
+
+/// Syncs the disk of a member, and reads whether its header is the member's own.
+fn has_header<B: Bank>(bank: &mut B, g: &Geometry, member: u8) -> Result<bool, Failed>
+    requires member { member < 16 }
+    requires size { (B.view bank.old).sizes (member + 1) ≡ Some (member_size g.now) }
+    ensures own { IfOk result (λ is. IsTrue (B.view bank.old).tells
+        → (IsTrue is ↔ IsMember g.now (B.view bank.old).now.disks member)) }
+    ensures stable { OnOk result (IsStable (B.view bank.new) (member + 1)) }
+    ensures reads { OnlyReads (B.view bank.old) (B.view bank.new) }
+    ensures cause { OnErr result
+        (Rose ((B.view bank.old).faults (member + 1)) ((B.view bank.new).faults (member + 1))) }
+{
+    let mut bytes = [0; 16];
+    settle(bank, member + 1, &mut bytes)?;
+    Ok(is_header(&bytes, g.id, member))
+}
+
+/// Checks that the disk of a member is its own.
+fn check_member<B: Bank>(bank: &mut B, g: &Geometry, member: u8) -> Result<(), MountFault>
+    requires member { member < 16 }
+    ensures ok { OnOk result (ReadsMember g.now member (B.view bank.old) (B.view bank.new)) }
+    ensures reads { OnlyReads (B.view bank.old) (B.view bank.new) }
+    ensures wrong { IfErr result (λ why. IsTrue (B.view bank.old).tells → (h : Head)
+        → ((IsMember g.now (B.view bank.old).now.disks member → ⊥) → IsWrong g.now h (B.view bank.old).now.disks member)
+        → HasMembers g.now h (B.view bank.old).now.disks → Refuses (B.view bank.old) why) }
+    ensures cause { IfErr result (λ why. MountFails why (B.view bank.old) (B.view bank.new)) }
+{
+    if bank.size(member + 1) != Some(member_len(g)) {
+        return Err(MountFault::WrongMember { member });
+    }
+    match has_header(bank, g, member) {
+        Ok(true) => Ok(()),
+        Ok(false) => Err(MountFault::WrongMember { member }),
+        Err(_) => Err(MountFault::MemberFault {
+            first: member,
+            second: member,
+        }),
+    }
+}
+
+/// Checks that the disk of each member is its own, but for the lost one's.
+fn check_members<B: Bank>(bank: &mut B, g: &Geometry, lost: Option<u8>) -> Result<(), MountFault>
+    ensures ok { OnOk result (ReadsMembers g.now lost g.now.members (B.view bank.old) (B.view bank.new)) }
+    ensures reads { OnlyReads (B.view bank.old) (B.view bank.new) }
+    ensures refused { IfErr result (λ why. IsTrue (B.view bank.old).tells → (h : Head)
+        → IsOnlyOut g.now h.lost lost (B.view bank.old).now.disks
+        → HasMembers g.now h (B.view bank.old).now.disks → Refuses (B.view bank.old) why) }
+    ensures cause { IfErr result (λ why. MountFails why (B.view bank.old) (B.view bank.new)) }
+{
+    for member in 0..g.members {
+        if lost != Some(member) {
+            check_member(bank, g, member)?;
+        }
+    }
+    Ok(())
+}
+
+/// How many rows of a member that is recorded lost count: those before, or none where its disk isn't its own or fails.
+fn rows_of<B: Bank>(bank: &mut B, g: &Geometry, member: u8, rebuilt: u32) -> u32
+    requires member { member < 16 }
+    ensures rows { KeepsRows g.now member rebuilt result (B.view bank.old) (B.view bank.new) }
+    ensures reads { OnlyReads (B.view bank.old) (B.view bank.new) }
+{
+    if bank.size(member + 1) != Some(member_len(g)) {
+        return 0;
+    }
+    match has_header(bank, g, member) {
+        Ok(true) => rebuilt,
+        _ => 0,
+    }
+}
+
+/// How many rows of the lost member count. A newly lost one has none.
+fn rebuilt_rows<B: Bank>(bank: &mut B, g: &Geometry, head: &Head) -> u32
+    requires head { IsHead g.now head.now }
+    ensures none { head.now.lost ≡ None → result ≡ 0 }
+    ensures some { (m : ℕ) → head.now.lost ≡ Some m
+        → KeepsRows g.now m head.now.rebuilt result (B.view bank.old) (B.view bank.new) }
+    ensures reads { OnlyReads (B.view bank.old) (B.view bank.new) }
+{
+    match head.lost {
+        None => 0,
+        Some(member) => rows_of(bank, g, member, head.rebuilt),
+    }
+}
+
+/// Looks at the members' disks: the head with the member that is out, and with how many of its rows count.
+pub(super) fn find_members<B: Bank>(
+    bank: &mut B,
+    g: &Geometry,
+    head: &Head,
+) -> Result<Head, MountFault>
+    requires head { IsHead g.now head.now }
+    ensures ok { IfOk result (λ next. FindsMembers g.now head.now next (B.view bank.old) (B.view bank.new)) }
+    ensures reads { OnlyReads (B.view bank.old) (B.view bank.new) }
+    ensures refused { IfErr result (λ why. IsTrue (B.view bank.old).tells
+        → HasRecords g.now head.now (B.view bank.old).now.disks → Refuses (B.view bank.old) why) }
+    ensures cause { IfErr result (λ why. MountFails why (B.view bank.old) (B.view bank.new)) }
+{
+    let lost = find_lost(bank, g, head)?;
+    check_members(bank, g, lost)?;
+    let rebuilt = rebuilt_rows(bank, g, head);
+    Ok(Head {
+        lost,
+        rebuilt,
+        ..*head
+    })
+}
