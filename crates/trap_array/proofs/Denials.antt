@@ -39,6 +39,7 @@ module _ {T : Type 0} (a : Mounted) (block : ℕ) (reasons : Reasons) (v : View)
     no_block = ((λ is. beyond), (λ above. refl));
     stopped = ((λ is. absurd (cc is)), (λ both. absurd (omega (arith, both.0, beyond))));
     untouched = λ either. untouched_none v;
+    at_once = λ why is. untouched_none v;
     refused = λ why other free. ((λ is. absurd (other (cc is))), (λ all. absurd (omega (arith, all.0, beyond))));
     full = λ is. absurd (cc is);
     log = λ is. absurd (cc is);
@@ -52,6 +53,7 @@ module _ {T : Type 0} (a : Mounted) (block : ℕ) (reasons : Reasons) (v : View)
     no_block = ((λ is. absurd (cc is)), (λ above. absurd (omega (arith, inside, above))));
     stopped = ((λ is. (inside, stopped)), (λ both. refl));
     untouched = λ either. untouched_none v;
+    at_once = λ why is. untouched_none v;
     refused = λ why other free. ((λ is. absurd (cc is)), (λ all. absurd (going all.1)));
     full = λ is. absurd (cc is);
     log = λ is. absurd (cc is);
@@ -70,11 +72,12 @@ error_meets {T = T} P result e holds is = subst (λ (r : Result T Denied). IfErr
 module _ (a : Mounted) (time block : ℕ) (result : Result ℕ Denied) (v w : View) (inside : block < volume a.g) (going : a.is_stopped ≡ false)
     (cause : IfErr result (Denies a v w)) where
   pub denied_write : ((why : Refusal) → why ≢ Full → (result ≡ Err (Refused why)) ↔ (early_refusal a.head time ≡ Some why))
-      → (result ≡ Err (Refused Full) → IsFull a.g a.head (greatest_record a.g.block)) → DeniedBy a block (of_write a time) result v w
-  denied_write refused full = record {
+      → (result ≡ Err (Refused Full) → IsFull a.g a.head (greatest_record a.g.block)) → ((why : Refusal) → early_refusal a.head time ≡ Some why → Untouched v w) → DeniedBy a block (of_write a time) result v w
+  denied_write refused full at_once = record {
     no_block = ((λ is. absurd (error_meets (Denies a v w) result (Refused NoBlock) cause is refl)), (λ above. absurd (omega (arith, inside, above))));
     stopped = ((λ is. absurd (error_meets (Denies a v w) result Stopped cause is)), (λ both. absurd (not_both both.1)));
     untouched = λ either. absurd (⊎_elim (λ above. omega (arith, inside, above)) (λ stopped. not_both stopped) either);
+    at_once = at_once;
     refused = λ why other free. ((λ is. (inside, going, (refused why free).0 is)), (λ all. (refused why free).1 all.2));
     full = full;
     log = λ is. error_meets (Denies a v w) result LogFault cause is;
@@ -96,11 +99,12 @@ member_of a v w first second fails = record {
 
 module _ {T : Type 0} (a : Mounted) (block : ℕ) (own : Option Refusal) (result : Result T Denied) (v w : View) (inside : block < volume a.g) (going : a.is_stopped ≡ false)
     (cause : IfErr result (DeniesInstant a v w)) where
-  pub denied_reading : ((why : Refusal) → (result ≡ Err (Refused why)) ↔ (own ≡ Some why)) → (own ≡ Some Full → ⊥) → DeniedBy a block (of_reading a own) result v w
-  denied_reading refused not_full = record {
+  pub denied_reading : ((why : Refusal) → (result ≡ Err (Refused why)) ↔ (own ≡ Some why)) → (own ≡ Some Full → ⊥) → ((why : Refusal) → own ≡ Some why → Untouched v w) → DeniedBy a block (of_reading a own) result v w
+  denied_reading refused not_full at_once = record {
     no_block = ((λ is. absurd (error_meets (DeniesInstant a v w) result (Refused NoBlock) cause is refl)), (λ above. absurd (omega (arith, inside, above))));
     stopped = ((λ is. absurd (error_meets (DeniesInstant a v w) result Stopped cause is)), (λ both. absurd (not_both both.1)));
     untouched = λ either. absurd (⊎_elim (λ above. omega (arith, inside, above)) (λ stopped. not_both stopped) either);
+    at_once = at_once;
     refused = λ why other free. ((λ is. (inside, going, (refused why).0 is)), (λ all. (refused why).1 all.2));
     full = λ is. not_full ((refused Full).0 is);
     log = λ is. error_meets (DeniesInstant a v w) result LogFault cause is;

@@ -44,12 +44,14 @@ of_number a seq = of_reading a (number_refused a.index seq)
 abbrev pub of_time : Mounted → ℕ → Reasons
 of_time a time = of_reading a (time_refused a.index time)
 
--- A block that isn't there is refused first, and then a stopped array denies it: neither makes a call of the bank. Then the
--- array's own numbers refuse it, whatever the bank tells. Where a disk failed, its count rose.
+-- A block that isn't there is refused first, and then a stopped array denies it. Then the array's own
+-- numbers refuse it, whatever the bank tells. None of these makes a call of the bank. Where a disk
+-- failed, its count rose.
 pub record DeniedBy {T : Type 0} (a : Mounted) (block : ℕ) (reasons : Reasons) (result : Result T Denied) (old new : View) : Type 0 where
   pub no_block : (result ≡ Err (Refused NoBlock)) ↔ (volume a.g ≤ block)
   pub stopped : (result ≡ Err Stopped) ↔ ((block < volume a.g) × (a.is_stopped ≡ true))
   pub untouched : (volume a.g ≤ block) ⊎ (a.is_stopped ≡ true) → Untouched old new
+  pub at_once : (why : Refusal) → reasons.own ≡ Some why → Untouched old new
   pub refused : (why : Refusal) → why ≢ NoBlock → why ≢ Full
       → (result ≡ Err (Refused why)) ↔ ((block < volume a.g) × (a.is_stopped ≡ false) × (reasons.own ≡ Some why))
   pub full : result ≡ Err (Refused Full) → reasons.tight

@@ -7,7 +7,8 @@ use Rattle.trap_array.specs.NextHead.{committed, drained_to}
 use Rattle.trap_array.specs.declared.fault.Denied.{Denied}
 use Rattle.trap_array.specs.declared.fault.Denied.TheVariants.{Refused, LogFault, MemberFault, Damaged, Stopped}
 
--- nothing that was committed is dropped or moved: the window begins where it began, and the numbers and offsets only grow
+-- nothing that was committed is dropped or moved: the window begins where it began, and the numbers
+-- and offsets only grow
 pub record Grows (h t : Head) : Type 0 where
   pub first : t.first ≡ h.first
   pub base_time : t.base_time ≡ h.base_time
@@ -16,7 +17,8 @@ pub record Grows (h t : Head) : Type 0 where
   pub last : h.last ≤ t.last
   pub drained : h.drained ≤ t.drained
 
--- There was room for one entry more, with the next number. Its record stands right behind the others.
+-- There was room for one entry more, with the next number. Its record stands right behind the
+-- others.
 pub record HasOneMore (g : Geometry) (h t : Head) (time seq : ℕ) : Type 0 where
   pub number : seq ≡ h.last + 1
   -- the record's length

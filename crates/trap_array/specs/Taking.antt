@@ -15,9 +15,10 @@ use Rattle.trap_array.specs.declared.fault.Denied.{Denied}
 abbrev pub after_write : Mounted → ℕ → ℕ → List ℕ → State → State
 after_write a time block bytes s = (step a.g).next s (Write time block bytes)
 
--- What a write did: its answer is the model's reply to the state that the array stood for, and after it the array stands for
--- the next state. Stopped at any moment, the disks hold the one or the other, and no byte changed that such a write may not touch. Its head and the number of its pending writes
--- are those that follow from the answer.
+-- What a write did: its answer is the model's reply to the state that the array stood for, and
+-- after it the array stands for the next state. Stopped at any moment, the disks hold the one or
+-- the other, and no byte changed that such a write may not touch. Its head and the number of its
+-- pending writes are those that follow from the answer.
 pub record TakesStep (a b : Mounted) (time block : ℕ) (bytes : List ℕ) (result : Result ℕ Denied) (old new : View) : Type 0 where
   pub reply : IsTrue old.tells → (s : State) → Always old (StandsFor a s)
       → WriteReplies result ((step a.g).reply s (Write time block bytes))

@@ -2,7 +2,8 @@
 use Rattle.std.specs.Prelude.{◌≡◌, ◌↔◌, ℕ}
 use Rattle.trap_bank.specs.Disks.{Contents, View}
 
--- All that a contract sees of the bank is as it was: sizes, contents, counts of faults, its moment, and what a crash may leave.
+-- All that a contract sees of the bank is as it was: sizes, contents, counts of faults, its moment,
+-- and what a crash may leave.
 pub record Untouched (old new : View) : Type 0 where
   pub tells : new.tells ≡ old.tells
   pub sizes : (e : ℕ) → new.sizes e ≡ old.sizes e

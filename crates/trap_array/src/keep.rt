@@ -18,6 +18,7 @@ ghost use Rattle.trap_array.specs.NextHead.{drained_to, entry_for};
 ghost use Rattle.trap_array.specs.Owed.{left_pending, owed, pending_writes, reply_of_write};
 ghost use Rattle.trap_array.specs.Ready.{CanCommit, CanDrain};
 ghost use Rattle.trap_array.specs.Turning.{IsFaultOf, IsFull, Turns, early_refusal};
+ghost use Rattle.trap_array.specs.Untouched.{Untouched};
 ghost use Rattle.trap_array.specs.declared.fault.Denied.TheVariants.{Refused};
 
 use crate::Denied;
@@ -52,6 +53,8 @@ impl Log {
             → (result ≡ Err (Refused why)) ↔ (early_refusal self.old.head time ≡ Some why) }
         ensures full { result ≡ Err (Refused Full)
             → IsFull self.old.g self.old.head (greatest_record self.old.g.block) }
+        ensures at_once { (why : Refusal) → early_refusal self.old.head time ≡ Some why
+            → Untouched (B.view bank.old) (B.view bank.new) }
     {
         if let Some(why) = self.refusal(time) {
             return Err(Denied::Refused(why));

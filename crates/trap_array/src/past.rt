@@ -16,6 +16,7 @@ ghost use Rattle.trap_array.specs.Causes.{DeniedBy, of_number, of_time};
 ghost use Rattle.trap_array.specs.Instants.{CanLookBack, DeniesInstant, HasBadRecord, number_refused, time_refused};
 ghost use Rattle.trap_array.specs.Log.{AreFor};
 ghost use Rattle.trap_array.specs.Sources.{CallsAtMost, reads_back};
+ghost use Rattle.trap_array.specs.Untouched.{Untouched};
 ghost use Rattle.trap_array.specs.declared.fault.Denied.TheVariants as Denied;
 
 use crate::log::Log;
@@ -131,6 +132,8 @@ impl Log {
         ensures room { AreFor self.now.g.block room.new }
         ensures cause { IfErr result (DeniesInstant (going self.now) (B.view bank.old) (B.view bank.new)) }
         ensures refused { (why : Refusal) → (result ≡ Err (Denied.Refused why)) ↔ (number_refused self.now.index seq ≡ Some why) }
+        ensures at_once { (why : Refusal) → number_refused self.now.index seq ≡ Some why
+            → Untouched (B.view bank.old) (B.view bank.new) }
         ensures calls { CallsAtMost (reads_back self.now.g self.now.head.lost self.now.index block seq)
             (B.view bank.old) (B.view bank.new) }
         ensures any_moment { OnlyReads (B.view bank.old) (B.view bank.new) }
@@ -168,6 +171,8 @@ impl Log {
         ensures room { AreFor self.now.g.block room.new }
         ensures cause { IfErr result (DeniesInstant (going self.now) (B.view bank.old) (B.view bank.new)) }
         ensures refused { (why : Refusal) → (result ≡ Err (Denied.Refused why)) ↔ (time_refused self.now.index time ≡ Some why) }
+        ensures at_once { (why : Refusal) → time_refused self.now.index time ≡ Some why
+            → Untouched (B.view bank.old) (B.view bank.new) }
         ensures calls { (seq : ℕ) → IsLastBy self.now.index time seq → CallsAtMost
             (reads_back self.now.g self.now.head.lost self.now.index block seq) (B.view bank.old) (B.view bank.new) }
         ensures any_moment { OnlyReads (B.view bank.old) (B.view bank.new) }

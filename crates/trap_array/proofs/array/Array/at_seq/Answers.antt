@@ -42,4 +42,4 @@ returns-clause-causes g c =
     let S : Bool → Type 0 = λ (stopped : Bool). DeniedBy (mounted log stopped) c.args.block (of_number (mounted log stopped) c.args.seq) result old new in
     subst P c.self.view_is
     (subst S (sym going_)
-    (denied_reading (going log) c.args.block (number_refused log.index c.args.seq) result old new inside refl c.read_at-answer.ensures.cause c.read_at-answer.ensures.refused (number_not_full log.index c.args.seq)))
+    (denied_reading (going log) c.args.block (number_refused log.index c.args.seq) result old new inside refl c.read_at-answer.ensures.cause c.read_at-answer.ensures.refused (number_not_full log.index c.args.seq) c.read_at-answer.ensures.at_once))

@@ -42,4 +42,4 @@ returns-clause-causes g c =
     let S : Bool → Type 0 = λ (stopped : Bool). DeniedBy (mounted log stopped) c.args.block (of_time (mounted log stopped) c.args.time) result old new in
     subst P c.self.view_is
     (subst S (sym going_)
-    (denied_reading (going log) c.args.block (time_refused log.index c.args.time) result old new inside refl c.read_by-answer.ensures.cause c.read_by-answer.ensures.refused (time_not_full log.index c.args.time)))
+    (denied_reading (going log) c.args.block (time_refused log.index c.args.time) result old new inside refl c.read_by-answer.ensures.cause c.read_by-answer.ensures.refused (time_not_full log.index c.args.time) c.read_by-answer.ensures.at_once))

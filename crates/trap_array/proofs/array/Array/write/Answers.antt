@@ -75,4 +75,4 @@ returns-clause-causes g c =
     let S : Bool → Type 0 = λ (stopped : Bool). DeniedBy (mounted log stopped) c.args.block (of_write (mounted log stopped) c.args.time) result old new in
     subst P c.self.view_is
     (subst S (sym going_)
-    (denied_write (going log) c.args.time c.args.block result old new inside refl c.keep-result.ensures.turns.cause c.keep-result.ensures.refused c.keep-result.ensures.full))
+    (denied_write (going log) c.args.time c.args.block result old new inside refl c.keep-result.ensures.turns.cause c.keep-result.ensures.refused c.keep-result.ensures.full c.keep-result.ensures.at_once))

@@ -6,6 +6,7 @@ use Rattle.trap_array.specs.declared.fault.Denied.{Denied}
 use Rattle.trap_array.specs.Areas.{Touches, InWrite}
 use Rattle.trap_array.specs.Calls.{going}
 use Rattle.trap_array.proofs.AreaSteps.{touches_none, drain_within, since_touches, drain_beside}
+use Rattle.trap_array.proofs.Denials.{untouched_none}
 use Rattle.trap_array.proofs.KeepSteps.{next_of, reply_of, room_failed, early_none, early_turns}
 use Rattle.trap_array.proofs.TurnSteps.{turns_after}
 use Rattle.trap_array.proofs.log.Log.keep.Goals as goal
@@ -59,3 +60,16 @@ pub returns-clause-touches : goal.returns-clause-touches
 returns-clause-touches g c =
     since_touches (going c.args.self.now) (going c.make_room.new.self) c.args.block _ c.make_room.ensures.goes_on.g c.in_ok-make_room.ensures.head c.in_ok-make_room.ensures.stage
     (g.B.Bank.view c.args.bank.now) (g.B.Bank.view c.make_room.new.bank) (g.B.Bank.view c.keep_in_room.new.bank) c.make_room.ensures.touches c.keep_in_room.ensures.touches
+
+pub returns-in-Some-clause-at_once : goal.returns-in-Some-clause-at_once
+returns-in-Some-clause-at_once g c why some = untouched_none (g.B.Bank.view c.args.bank.now)
+
+pub returns-in_err-make_room-clause-at_once : goal.returns-in_err-make_room-clause-at_once
+returns-in_err-make_room-clause-at_once g c why some =
+    let none : early_refusal c.args.self.now.head c.args.time ≡ None = search rules in
+    absurd (cc (none, some))
+
+pub returns-clause-at_once : goal.returns-clause-at_once
+returns-clause-at_once g c why some =
+    let none : early_refusal c.args.self.now.head c.args.time ≡ None = search rules in
+    absurd (cc (none, some))

@@ -11,6 +11,7 @@ use Rattle.trap_array.specs.Log.{Log}
 use Rattle.trap_array.specs.NextHead.{entry_for}
 use Rattle.trap_array.specs.Turning.{Turns}
 use Rattle.trap_array.specs.declared.fault.Denied.{Denied}
+use Rattle.trap_array.specs.declared.fault.Denied.TheVariants.{LogFault}
 use Rattle.trap_array.specs.Areas.{Touches, InWrite}
 use Rattle.trap_array.proofs.AreaSteps.{write_touches, commit_within, commit_beside, drain_beside}
 use Rattle.trap_array.proofs.Beside.{both_stay}
@@ -52,6 +53,19 @@ returns-in_err-drain-clause-touches g c =
     (g.B.Bank.view c.args.bank.now) (g.B.Bank.view c.commit.new.bank) (g.B.Bank.view c.drain.new.bank) c.commit.ensures.touches c.drain.ensures.touches
 
 -- ---- the write is kept
+pub returns-in_err-commit-clause-turns : goal.returns-in_err-commit-clause-turns
+returns-in_err-commit-clause-turns g c =
+    let old = g.B.Bank.view c.args.bank.now in
+    let mid = g.B.Bank.view c.commit.new.bank in
+    let here = c.args.self.now in
+    let next : State → State = λ (s : State). added s (entry_for c.args.time c.args.block c.args.bytes.now) in
+    let replies : State → Reply = λ (s : State). Kept (last s + 1) in
+    let is : Err LogFault ≡ c.from_residual.result = search rules in
+    let P : Result ℕ Denied → Type 0 = λ (r : Result ℕ Denied). Turns here c.commit.new.self next replies r old mid in
+    subst P is
+    (turns_failed here c.commit.new.self next replies LogFault old mid c.in_err-commit.ensures.cause c.commit.ensures.goes_on c.commit.ensures.sizes
+    (commit_beside (going here) old mid c.commit.ensures.touches) c.commit.ensures.any_moment)
+
 pub returns-in_err-commit-clause-touches : goal.returns-in_err-commit-clause-touches
 returns-in_err-commit-clause-touches g c =
     commit_within (going c.args.self.now) c.args.block (g.B.Bank.view c.args.bank.now) (g.B.Bank.view c.commit.new.bank) c.commit.ensures.touches
