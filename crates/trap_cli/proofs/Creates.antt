@@ -25,7 +25,8 @@ use Rattle.trap_cli.specs.Cause.{CreateFails}
 use Rattle.trap_cli.specs.Stops.{CreateStopped, IsUnfinished}
 use Rattle.trap_cli.specs.Crash.{IsFaultFront, CreateLeaves, Leaves, LeavesBefore}
 use Rattle.trap_array.specs.Beside.{StaysFrom}
-use Rattle.trap_cli.specs.Run.{Works, TouchesBelow}
+use Rattle.trap_cli.specs.Run.{Works, TouchesBelow, LeavesOthers}
+use Rattle.trap_cli.proofs.Saying.{took_none}
 use Rattle.trap_cli.proofs.Heads.{members_same, members_absent}
 use Rattle.trap_cli.proofs.Lines.{not_created}
 
@@ -92,11 +93,14 @@ module _ (asked : Asked) (a : View) (lawful : IsLawful a) where
   broken_works field from is = record {
     cause = is;
     first = (λ other broken. let both : Some field ≡ Some other = sym is ∙ broken in cc, λ g d kept numbers low. let both : None ≡ Some field = sym kept ∙ is in absurd (cc both));
-    refused = λ refused. record { sizes = λ e. refl; contents = λ told. refl };
+    refused = λ refused. record { sizes = λ e. refl; disks = λ told. refl };
     stops = λ told. refl;
     touches = record { tells = refl; sizes = λ e beyond. refl; faults = λ e. omega arith; port_faults = omega arith };
     others = λ told e beyond. refl;
+    beside = λ e is. record { size = refl; bytes = λ told. refl };
     unread = λ other. refl;
+    took = took_none from;
+    silent = λ is told. refl;
     members = members_same a a (λ told. refl);
     steps = refused_steps a from (BadGeometry field) (nothing_done a (Quiet Same) (Quiet Same) (λ x was. record { disks = refl; said = refl }));
   }
@@ -114,7 +118,7 @@ module _ (asked : Asked) (a : View) (lawful : IsLawful a) where
         λ h e kept also other. ap (λ (d : ℕ). NotCreated (Exists d))
             (lowest_same g a d e low (subst (λ (g : Geometry). IsLowest g a e) (numbers_same asked h g also numbers) other)),
       );
-      refused = λ refused. record { sizes = untouched.sizes; contents = untouched.same };
+      refused = λ refused. record { sizes = untouched.sizes; disks = λ told. ap (λ (c : Contents). c.disks) (untouched.same told) };
       stops = untouched.same;
       touches = record {
         tells = untouched.moves.tells;
@@ -123,7 +127,10 @@ module _ (asked : Asked) (a : View) (lawful : IsLawful a) where
         port_faults = untouched.moves.port_faults;
       };
       others = λ told e beyond. ap (λ (c : Contents). c.disks e) (untouched.same told);
+      beside = λ e is. record { size = untouched.sizes e; bytes = λ told. ap (λ (c : Contents). c.disks e) (untouched.same told) };
       unread = λ other. refl;
+      took = took_none from;
+      silent = λ is told. ap (λ (c : Contents). c.said) (untouched.same told);
       members = members_same a b (λ told. ap (λ (c : Contents). c.disks) (untouched.same told));
       steps = refused_steps b from (NotCreated (Exists d)) untouched.moves;
     }
@@ -180,7 +187,10 @@ module _ (asked : Asked) (a : View) (lawful : IsLawful a) where
         });
         touches = touched moves.tells moves.faults moves.port_faults;
         others = λ told e beyond. others told e (omega (arith, g.within.members_most, beyond));
+        beside = λ e is. record { size = sizes e (is g numbers); bytes = λ told. others told e (is g numbers) };
         unread = λ other. refl;
+        took = took_none from;
+        silent = λ is told. (contents none told).said;
         members = members_absent a b (λ told. lawful.sized told 0 ∙ none 0 (omega arith));
         steps = weaken a b (Quiet (Creates g)) (Quiet (Creates g)) (Leaves (command_create asked) a from) (LeavesBefore (last_line (NotCreated why)) (command_create asked) a from) moves
             (λ x y was step. record { part = []; said = step.said ∙ sym (append-nil x.said); leaves = making [] x y (Done, [], refl) step.disks })
@@ -218,6 +228,12 @@ module _ (asked : Asked) (a : View) (lawful : IsLawful a) where
         others_end : StaysFrom 17 a c
         others_end told e beyond = ap (λ (disks : Disks). disks e) (says.disks (told_mid told)) ∙ others told e (omega (arith, g.within.members_most, beyond))
 
+        beside_end : LeavesOthers (command_create asked) a c
+        beside_end e is = record {
+          size = says.sizes e ∙ sizes e (is g numbers);
+          bytes = λ told. ap (λ (disks : Disks). disks e) (says.disks (told_mid told)) ∙ others told e (is g numbers);
+        }
+
         created_steps : (line : List ℕ) → Steps a c (Leaves (command_create asked) a from) (LeavesBefore line (command_create asked) a from)
         created_steps line = then_ a b c (Quiet (Creates g)) (Quiet (HasCreated g)) (SpokePart (created_line asked.id)) (SpokePart (created_line asked.id))
             (Leaves (command_create asked) a from) (LeavesBefore line (command_create asked) a from) moves (say_steps result b c (created_line asked.id) says)
@@ -247,7 +263,10 @@ module _ (asked : Asked) (a : View) (lawful : IsLawful a) where
           };
           touches = touched_end;
           others = others_end;
+          beside = beside_end;
           unread = λ other. refl;
+          took = took_none from;
+          silent = λ is told. absurd (cc is);
           members = members_absent a c (λ told. lawful.sized told 0 ∙ none 0 (omega arith));
           steps = created_steps [];
         }
@@ -268,7 +287,10 @@ module _ (asked : Asked) (a : View) (lawful : IsLawful a) where
               };
           touches = touched_end;
           others = others_end;
+          beside = beside_end;
           unread = λ other. refl;
+          took = took_none from;
+          silent = λ is told. absurd (cc is);
           members = members_absent a c (λ told. lawful.sized told 0 ∙ none 0 (omega arith));
           steps = created_steps [];
         }
@@ -290,7 +312,7 @@ uncreated_works asked g a b from result LogFault lawful kept numbers is exists u
     failed_works asked a lawful kept g numbers b from no_low sizes others contents LogFault refl fails (moves (none_there g a no_low))
 uncreated_works asked g a b from result (MemberFault first second) lawful kept numbers is exists untouched fails sizes others contents moves =
     let no_low : (d : ℕ) → IsLowest g a d → ⊥ = λ d low. let both : Err (MemberFault first second) ≡ Err (Exists d) = sym is ∙ (exists d).1 low in cc in
-    failed_works asked a lawful kept g numbers b from no_low sizes others contents (MemberFault first second) refl (fails.0, fails.2) (moves (none_there g a no_low))
+    failed_works asked a lawful kept g numbers b from no_low sizes others contents (MemberFault first second) refl (fails.1, (fails.0, fails.2)) (moves (none_there g a no_low))
 
 -- an array that was made had none of its disks there
 pub none_before : {T : Type 0} (g : Geometry) (a : View) (result : Result T CreateFault) (value : T) → result ≡ Ok value

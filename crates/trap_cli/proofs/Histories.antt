@@ -1,5 +1,5 @@
 -- All but the last line of `history`.
-use Rattle.std.proofs.Common.{◌≡◌, ◌≢◌, inl, inr, ⊎_elim, ℕ, ◌≤◌, List, [], ◌∷◌, ◌++◌, Result, Ok, Err, true, false, IsTrue, refl, sym, ap, subst, ◌∙◌, append-nil, arith}
+use Rattle.std.proofs.Common.{◌≡◌, ◌≢◌, inl, inr, ⊎_elim, ℕ, ◌≤◌, List, [], ◌∷◌, ◌++◌, Some, Result, Ok, Err, true, false, IsTrue, refl, sym, ap, subst, ◌∙◌, append-nil, arith}
 use Rattle.trap_bank.specs.Disks.{Contents, Disks, View, Quiet}
 use Rattle.trap_bank.specs.Faults.{Rose}
 use Rattle.trap_bank.specs.Calls.{MayLeave}
@@ -11,7 +11,7 @@ use Rattle.trap_model.specs.declared.numbers.Geometry.{Geometry}
 use Rattle.trap_model.specs.declared.history.State.{State}
 use Rattle.trap_array.specs.Holding.{Holds, HoldsBy}
 use Rattle.trap_array.specs.Calls.{Mounted, StandsFor}
-use Rattle.trap_array.specs.Mounting.{Mounts, SameHead, Refuses, MountFails, FoundLost, HasFound, IsNoLog, is_refusal}
+use Rattle.trap_array.specs.Mounting.{Mounts, SameHead, Refuses, MountFails, FoundLost, WritesHead, HasFound, IsNoLog, is_refusal}
 use Rattle.trap_mount.specs.declared.fault.MountFault.{MountFault}
 use Rattle.trap_mount.specs.declared.fault.MountFault.TheVariants.{NotAnArray}
 use Rattle.trap_cli.specs.declared.outcome.Ended.{Ended}
@@ -20,17 +20,19 @@ use Rattle.trap_cli.specs.Command.{command_history}
 use Rattle.trap_cli.specs.Ended.{last_line}
 use Rattle.trap_cli.specs.History.{history_text}
 use Rattle.trap_cli.specs.Listing.{KeepsDisks, Lists, HasListed}
-use Rattle.trap_cli.specs.Cause.{IsMountable}
-use Rattle.trap_cli.specs.Crash.{IsFaultFront, HistoryLeaves, LeftSaid, Leaves, LeavesBefore}
+use Rattle.trap_cli.specs.Cause.{IsMountable, WantsMemory, ShowsSizes}
+use Rattle.trap_cli.specs.Crash.{IsFaultFront, HoldsSince, HistoryLeaves, LeftSaid, Leaves, LeavesBefore}
 use Rattle.trap_array.specs.Beside.{StaysFrom}
-use Rattle.trap_cli.specs.Run.{Works, TouchesBelow, MembersStay}
+use Rattle.trap_cli.specs.Run.{Works, TouchesBelow, LeavesOthers, MembersStay}
+use Rattle.trap_cli.proofs.Saying.{took_none}
 use Rattle.trap_cli.proofs.Saying.{rose_since}
-use Rattle.trap_cli.proofs.Heads.{same_head_holds, mounted_holds, keeps_found}
+use Rattle.trap_cli.proofs.Heads.{same_head_holds, mounted_holds, keeps_found, found_out, Mounting, mounting_moves}
+use Rattle.trap_cli.proofs.Stopping.{LostOn}
 use Rattle.trap_cli.proofs.Crashing.{no_front}
 
 module _ (g : Geometry) (s : State) (old : View) where
   -- while the array is mounted
-  pub mount_lists : Holds g s old.now.disks → (p : List ℕ) → IsFaultFront p → (x y : Contents) → MayLeave old x → Mounts old x.disks y.disks → HistoryLeaves g s old p y.disks
+  pub mount_lists : Holds g s old.now.disks → (p : List ℕ) → IsFaultFront p → (x y : Contents) → MayLeave old x → Mounting old x.disks y.disks → HistoryLeaves g s old p y.disks
   mount_lists holds p front x y was (inl same) = inl (front, record { entry = x.disks; left = was.torn.disks; same = inl same })
   mount_lists holds p front x y was (inr (inl head)) = inl (front, record { entry = x.disks; left = was.torn.disks; same = inr head })
   mount_lists holds p front x y was (inr (inr still)) = inr (inl front, still g s holds)
@@ -42,7 +44,7 @@ module _ (g : Geometry) (s : State) (old : View) where
       (record { told = told; torn = record { disks = beside.left; said = refl } }) in
       ⊎_elim (λ (same : disks ≡ beside.entry). subst (λ (disks : Disks). Holds g s disks) (sym same) entry)
       (λ (same : SameHead beside.entry disks). same_head_holds g s beside.entry disks same entry) beside.same
-  crash_lists always told p disks (inr (front, holds)) = holds
+  crash_lists always told p disks (inr (front, holds)) = record { head = holds.head; by = holds.by }
 
 -- some first part was said, whatever was answered
 some_listed : {T E : Type 0} (a : Mounted) (result : Result T E) (x y : Contents) → HasListed a result x y → Lists a x y
@@ -58,9 +60,9 @@ empty_front [] rest line none is = refl
 empty_front (byte ∷ front) rest line none is = absurd (cc)
 
 -- The array could not be mounted.
-unlisted_steps : (a b : View) (from : Stream) (why : MountFault) → Moves a b (Mounts a) (Mounts a)
+unlisted_steps : (a b : View) (from : Stream) (why : MountFault) → Moves a b (Mounting a) (Mounting a)
     → Steps a b (Leaves command_history a from) (LeavesBefore (last_line (NotMounted why)) command_history a from)
-unlisted_steps a b from why moves = weaken a b (Quiet (Mounts a)) (Quiet (Mounts a)) (Leaves command_history a from)
+unlisted_steps a b from why moves = weaken a b (Quiet (Mounting a)) (Quiet (Mounting a)) (Leaves command_history a from)
     (LeavesBefore (last_line (NotMounted why)) command_history a from) moves
     (λ x y was step g s told holds. record {
       part = [];
@@ -74,27 +76,34 @@ unlisted_steps a b from why moves = weaken a b (Quiet (Mounts a)) (Quiet (Mounts
     })
 
 -- what the lines leave, over a state that the array stands for
-lists_leave : (a : View) (array : Mounted) (g : Geometry) (s : State) (x y z : Contents) → y.said ≡ x.said → array.g ≡ g → StandsFor array s y.disks
+lists_leave : (a : View) (array : Mounted) (g : Geometry) (s : State) (x y z : Contents) → y.said ≡ x.said → array.g ≡ g → StandsFor array s y.disks → LostOn g a array.head
     → Lists array y z → LeftSaid (HistoryLeaves g s a) x.said z
-lists_leave a array g s x y z quiet is stands listed =
+lists_leave a array g s x y z quiet is stands lost listed =
     let says = listed.says s y.disks stands in
     record {
       part = says.part;
       said = says.said ∙ ap (λ (l : List ℕ). l ++ says.part) quiet;
       leaves = inr (
         inr (says.rest, says.whole),
-        subst (λ (g : Geometry). Holds g s z.disks) is
-            (subst (λ (disks : Disks). Holds array.g s disks) (sym listed.disks) (record { head = array.head; by = stands.by })),
+        record {
+          head = array.head;
+          by = subst (λ (g : Geometry). HoldsBy g array.head s z.disks) is
+              (subst (λ (disks : Disks). HoldsBy array.g array.head s disks) (sym listed.disks) stands.by);
+          entry = a.now.disks;
+          left = record { sizes = λ e. refl; bytes = λ e i outside. refl };
+          lost = lost;
+        },
       );
     }
 
 -- The lines are said over the mounted array.
 listed_steps : {T E : Type 0} (a b c : View) (from : Stream) (ended : Ended) (array : Mounted) (result : Result T E) → last_line ended ≡ []
     → ((g : Geometry) (s : State) → IsTrue a.tells → Holds g s a.now.disks → (array.g ≡ g) × Always b (StandsFor array s))
-    → Moves a b (Mounts a) (Mounts a)
+    → ((g : Geometry) (s : State) → IsTrue a.tells → Holds g s a.now.disks → LostOn g a array.head)
+    → Moves a b (Mounting a) (Mounting a)
     → Steps b c (Lists array) (HasListed array result)
     → Steps a c (Leaves command_history a from) (LeavesBefore (last_line ended) command_history a from)
-listed_steps a b c from ended array result silent stands mounted listed = then_ a b c (Quiet (Mounts a)) (Quiet (Mounts a))
+listed_steps a b c from ended array result silent stands lost mounted listed = then_ a b c (Quiet (Mounting a)) (Quiet (Mounting a))
     (Lists array) (HasListed array result) (Leaves command_history a from) (LeavesBefore (last_line ended) command_history a from) mounted listed
     (λ x y was step g s told holds. record {
       part = [];
@@ -103,10 +112,10 @@ listed_steps a b c from ended array result silent stands mounted listed = then_ 
     })
     (λ x y z was step mid lists g s told holds.
     let known = stands g s told holds in
-    lists_leave a array g s x y z step.said known.0 (known.1 y mid) lists)
+    lists_leave a array g s x y z step.said known.0 (known.1 y mid) (lost g s told holds) lists)
     (λ x y z was step mid lists front rest is g s told holds.
     let known = stands g s told holds in
-    let left = lists_leave a array g s x y z step.said known.0 (known.1 y mid) (some_listed array result y z lists) in
+    let left = lists_leave a array g s x y z step.said known.0 (known.1 y mid) (lost g s told holds) (some_listed array result y z lists) in
     let none = empty_front front rest (last_line ended) silent is in
     record {
       part = left.part;
@@ -117,16 +126,17 @@ listed_steps a b c from ended array result silent stands mounted listed = then_ 
 module _ (a b : View) (from : Stream) (mounted : Moves a b (Mounts a) (Mounts a)) (sizes : (e : ℕ) → b.sizes e ≡ a.sizes e)
     (contents : IsTrue a.tells → Quiet (Mounts a) a.now b.now)
     (others : IsTrue a.tells → (e : ℕ) → e ≢ 0 → b.now.disks e ≡ a.now.disks e)
+    (writes : WritesHead a b)
     (lost : (g : Geometry) (h k : Head) (s t : State) → IsTrue a.tells → HoldsBy g h s a.now.disks → HoldsBy g k t b.now.disks → FoundLost g h k a b) where
   -- The array could not be mounted.
-  pub unlisted_works : (why : MountFault) → (IsNoLog (a.sizes 0) → why ≡ NotAnArray) → (IsTrue a.tells → Refuses a why) → MountFails why a b
+  pub unlisted_works : (why : MountFault) → (IsNoLog (a.sizes 0) → why ≡ NotAnArray) → (IsTrue a.tells → Refuses a why) → MountFails why a b → WantsMemory why a b → ShowsSizes why a
       → (is_refusal why ≡ true → IsTrue a.tells → b.now ≡ a.now)
       → ((g : Geometry) (s : State) → IsTrue a.tells → Holds g s a.now.disks → is_refusal why ≡ false)
       → Works command_history (NotMounted why) a b from from
-  unlisted_works why no_log refuses fails unwritten held = record {
-    cause = (refuses, fails);
+  unlisted_works why no_log refuses fails wants shows unwritten held = record {
+    cause = (refuses, fails, wants, shows);
     first = λ none. ap NotMounted (no_log none);
-    refused = λ is. record { sizes = sizes; contents = unwritten is };
+    refused = λ is. record { sizes = sizes; disks = λ told. ap (λ (c : Contents). c.disks) (unwritten is told) };
     stops = λ g s told holds. (
       held g s told holds,
       record {
@@ -141,9 +151,12 @@ module _ (a b : View) (from : Stream) (mounted : Moves a b (Mounts a) (Mounts a)
       port_faults = mounted.port_faults;
     };
     others = λ told e beyond. others told e (λ zero. absurd (omega (arith, beyond, zero)));
+    beside = λ e is. record { size = sizes e; bytes = λ told. others told e is.0 };
     unread = λ other. refl;
+    took = took_none from;
+    silent = λ is told. (contents told).said;
     members = λ g s t h k told was is. keeps_found g h k a b b (lost g h k s t told was is) (λ e. omega arith);
-    steps = unlisted_steps a b from why mounted;
+    steps = unlisted_steps a b from why (mounting_moves a b mounted writes.lost);
   }
 
   module _ (c : View) (array : Mounted)
@@ -152,11 +165,20 @@ module _ (a b : View) (from : Stream) (mounted : Moves a b (Mounts a) (Mounts a)
     told_mid : IsTrue a.tells → IsTrue b.tells
     told_mid told = subst IsTrue (sym mounted.tells) told
 
+    was_out : (g : Geometry) (s : State) → IsTrue a.tells → Holds g s a.now.disks → LostOn g a array.head
+    was_out g s told holds = found_out g s a b array lost told (told_mid told) (stands g s told holds)
+
     mountable : IsMountable a
     mountable told = let passed = found.passed told in (array.g, record { h = passed.0; members = passed.1; own = passed.3 })
 
     others_now : StaysFrom 17 a c
     others_now told e beyond = ap (λ (disks : Disks). disks e) (keeps.disks (told_mid told)) ∙ others told e (λ zero. absurd (omega (arith, beyond, zero)))
+
+    beside_now : LeavesOthers command_history a c
+    beside_now e is = record {
+      size = keeps.sizes e ∙ sizes e;
+      bytes = λ told. ap (λ (disks : Disks). disks e) (keeps.disks (told_mid told)) ∙ others told e is.0;
+    }
 
     members_now : ((e : ℕ) → b.faults e ≤ c.faults e) → MembersStay a c
     members_now later g s t h k told was is =
@@ -195,9 +217,12 @@ module _ (a b : View) (from : Stream) (mounted : Moves a b (Mounts a) (Mounts a)
           };
       touches = touched {T = T} {E = E} (Ok value) listed;
       others = others_now;
+      beside = beside_now;
       unread = λ other. refl;
+      took = took_none from;
+      silent = λ is told. absurd (cc is);
       members = members_now listed.faults;
-      steps = listed_steps {T = T} {E = E} a b c from Done array (Ok value) refl stands mounted listed;
+      steps = listed_steps {T = T} {E = E} a b c from Done array (Ok value) refl stands was_out (mounting_moves a b mounted writes.lost) listed;
     }
 
     -- The port failed in the lines.
@@ -221,7 +246,10 @@ module _ (a b : View) (from : Stream) (mounted : Moves a b (Mounts a) (Mounts a)
           };
       touches = touched {T = T} {E = E} (Err e) listed;
       others = others_now;
+      beside = beside_now;
       unread = λ other. refl;
+      took = took_none from;
+      silent = λ is told. absurd (cc is);
       members = members_now listed.faults;
-      steps = listed_steps {T = T} {E = E} a b c from Port array (Err e) refl stands mounted listed;
+      steps = listed_steps {T = T} {E = E} a b c from Port array (Err e) refl stands was_out (mounting_moves a b mounted writes.lost) listed;
     }

@@ -10,3 +10,5 @@ pub mod Histories
 pub mod Sessions
 pub mod Creates
 pub mod Running
+pub mod Completing
+pub mod Gone

@@ -7,6 +7,7 @@ use Rattle.trap_bank.specs.Calls.{MayLeave, IsLawful}
 use Rattle.trap_bank.specs.Stream.{Stream}
 use Rattle.trap_bank.proofs.Moves.{nothing_done}
 use Rattle.trap_array.specs.Holding.{HoldsBy}
+use Rattle.trap_array.specs.Instants.{HasBadRecord}
 use Rattle.trap_array.specs.Mounting.{MountFails}
 use Rattle.trap_mount.specs.declared.fault.CreateFault.TheVariants as creating
 use Rattle.trap_mount.specs.declared.fault.MountFault.{MountFault}
@@ -20,13 +21,15 @@ use Rattle.trap_cli.specs.declared.outcome.Ended.{Ended}
 use Rattle.trap_cli.specs.declared.outcome.Ended.TheVariants.{Done, Usage, BadGeometry, NotCreated, NotMounted, Stopped, Port, Memory}
 use Rattle.trap_cli.specs.Command.{IsCommand}
 use Rattle.trap_cli.specs.Ended.{status_of, last_line, is_refused}
-use Rattle.trap_cli.specs.Cause.{CauseOf, SessionCause, HistoryCause, CreateCause, StoppedBy}
+use Rattle.trap_cli.specs.Listing.{KeepsDisks}
+use Rattle.trap_cli.specs.Cause.{WantsMemory, CauseOf, SessionCause, HistoryCause, CreateCause, StoppedBy}
 use Rattle.trap_cli.specs.Stops.{StopsBefore}
 use Rattle.trap_cli.specs.Crash.{LeftBy, Leaves, LeavesBefore}
 use Rattle.trap_array.specs.Beside.{StaysFrom}
-use Rattle.trap_cli.specs.Run.{Works, Runs, Ends, Spoken, Refuses, TouchesBelow, MembersStay}
+use Rattle.trap_cli.specs.Run.{Works, Runs, Ends, Spoken, TouchesBelow, LeavesOthers, MembersStay}
 use Rattle.trap_cli.proofs.Heads.{members_same}
 use Rattle.trap_cli.proofs.Words.{one_command}
+use Rattle.trap_cli.proofs.Saying.{took_none}
 use Rattle.trap_cli.proofs.Saying.{rose_later, last_since, run_leaves}
 use Rattle.trap_cli.proofs.Crashing.{no_front, mount_leaves}
 use Rattle.trap_cli.proofs.Creates.{entry_creates}
@@ -44,50 +47,67 @@ mount_later (mounting.MemberFault first second) old mid new later fails =
     (fails.0, fails.1, rose_later (old.faults (second + 1)) (mid.faults (second + 1)) (new.faults (second + 1)) fails.2 (later (second + 1)))
 mount_later mounting.OutOfMemory old mid new later fails = tt
 
-stopped_later : (why : SessionFault) (old mid new : View) (from to : Stream) → ((e : ℕ) → mid.faults e ≤ new.faults e) → mid.port_faults ≤ new.port_faults
+wants_later : (why : MountFault) (old mid new : View) → ((e : ℕ) → mid.faults e ≤ new.faults e) → WantsMemory why old mid → WantsMemory why old new
+wants_later why old mid new later wants g h s told by log members = wants g h s told by
+    (λ rose. log (rose_later (old.faults 0) (mid.faults 0) (new.faults 0) rose (later 0)))
+    (λ m inside rose. members m inside (rose_later (old.faults (m + 1)) (mid.faults (m + 1)) (new.faults (m + 1)) rose (later (m + 1))))
+
+stopped_later : (why : SessionFault) (old mid new : View) (from to : Stream) → ((e : ℕ) → mid.faults e ≤ new.faults e) → mid.port_faults ≤ new.port_faults → (IsTrue old.tells → new.now.disks ≡ mid.now.disks)
     → StoppedBy why old mid from to → StoppedBy why old new from to
-stopped_later (serving.Array (denied.Refused why)) old mid new from to later port by = absurd by
-stopped_later (serving.Array denied.LogFault) old mid new from to later port by = rose_later (old.faults 0) (mid.faults 0) (new.faults 0) by (later 0)
-stopped_later (serving.Array (denied.MemberFault first second)) old mid new from to later port by =
-    (by.0, rose_later (old.faults (second + 1)) (mid.faults (second + 1)) (new.faults (second + 1)) by.1 (later (second + 1)))
-stopped_later (serving.Array (denied.Damaged offset)) old mid new from to later port by = by
-stopped_later (serving.Array denied.Stopped) old mid new from to later port by = absurd by
-stopped_later serving.ReadFault old mid new from to later port by = by
-stopped_later serving.WriteFault old mid new from to later port by = rose_later old.port_faults mid.port_faults new.port_faults by port
-stopped_later serving.TooLong old mid new from to later port by = by
+stopped_later (serving.Array (denied.Refused why)) old mid new from to later port same by = absurd by
+stopped_later (serving.Array denied.LogFault) old mid new from to later port same by = rose_later (old.faults 0) (mid.faults 0) (new.faults 0) by (later 0)
+stopped_later (serving.Array (denied.MemberFault first second)) old mid new from to later port same by =
+    record {
+      same = by.same;
+      inside = by.inside;
+      rose = rose_later (old.faults (second + 1)) (mid.faults (second + 1)) (new.faults (second + 1)) by.rose (later (second + 1));
+      there = by.there;
+      of = by.of;
+      held = by.held;
+    }
+stopped_later (serving.Array (denied.Damaged offset)) old mid new from to later port same by = (
+  by.0,
+  λ told.
+      let named = by.1 told in
+      (named.0, named.1, named.2, subst (λ (disks : Disks). HasBadRecord named.0 named.1 disks offset) (sym (same told)) named.3),
+)
+stopped_later (serving.Array denied.Stopped) old mid new from to later port same by = absurd by
+stopped_later serving.ReadFault old mid new from to later port same by = by
+stopped_later serving.WriteFault old mid new from to later port same by = rose_later old.port_faults mid.port_faults new.port_faults by port
+stopped_later serving.TooLong old mid new from to later port same by = by
 
 cause_later : (command : Option Command) (ended : Ended) (old mid new : View) (from to : Stream)
-    → ((e : ℕ) → mid.faults e ≤ new.faults e) → mid.port_faults ≤ new.port_faults
+    → ((e : ℕ) → mid.faults e ≤ new.faults e) → mid.port_faults ≤ new.port_faults → (IsTrue old.tells → new.now.disks ≡ mid.now.disks)
     → CauseOf command ended old mid from to → CauseOf command ended old new from to
-cause_later None ended old mid new from to later port by = by
-cause_later (Some Session) Done old mid new from to later port by = by
-cause_later (Some Session) Usage old mid new from to later port by = by
-cause_later (Some Session) (BadGeometry field) old mid new from to later port by = by
-cause_later (Some Session) (NotCreated why) old mid new from to later port by = by
-cause_later (Some Session) (NotMounted why) old mid new from to later port by = (by.0, mount_later why old mid new later by.1)
-cause_later (Some Session) (Stopped why) old mid new from to later port by = (by.0, stopped_later why old mid new from to later port by.1)
-cause_later (Some Session) Port old mid new from to later port by = by
-cause_later (Some Session) Memory old mid new from to later port by = by
-cause_later (Some History) Done old mid new from to later port by = by
-cause_later (Some History) Usage old mid new from to later port by = by
-cause_later (Some History) (BadGeometry field) old mid new from to later port by = by
-cause_later (Some History) (NotCreated why) old mid new from to later port by = by
-cause_later (Some History) (NotMounted why) old mid new from to later port by = (by.0, mount_later why old mid new later by.1)
-cause_later (Some History) (Stopped why) old mid new from to later port by = by
-cause_later (Some History) Port old mid new from to later port by = (by.0, rose_later old.port_faults mid.port_faults new.port_faults by.1 port)
-cause_later (Some History) Memory old mid new from to later port by = by
-cause_later (Some (Create asked)) Done old mid new from to later port by = by
-cause_later (Some (Create asked)) Usage old mid new from to later port by = by
-cause_later (Some (Create asked)) (BadGeometry field) old mid new from to later port by = by
-cause_later (Some (Create asked)) (NotCreated (creating.Exists disk)) old mid new from to later port by = by
-cause_later (Some (Create asked)) (NotCreated creating.LogFault) old mid new from to later port by =
+cause_later None ended old mid new from to later port same by = by
+cause_later (Some Session) Done old mid new from to later port same by = by
+cause_later (Some Session) Usage old mid new from to later port same by = by
+cause_later (Some Session) (BadGeometry field) old mid new from to later port same by = by
+cause_later (Some Session) (NotCreated why) old mid new from to later port same by = by
+cause_later (Some Session) (NotMounted why) old mid new from to later port same by = (by.0, mount_later why old mid new later by.1, wants_later why old mid new later by.2, by.3)
+cause_later (Some Session) (Stopped why) old mid new from to later port same by = (by.0, stopped_later why old mid new from to later port same by.1)
+cause_later (Some Session) Port old mid new from to later port same by = by
+cause_later (Some Session) Memory old mid new from to later port same by = by
+cause_later (Some History) Done old mid new from to later port same by = by
+cause_later (Some History) Usage old mid new from to later port same by = by
+cause_later (Some History) (BadGeometry field) old mid new from to later port same by = by
+cause_later (Some History) (NotCreated why) old mid new from to later port same by = by
+cause_later (Some History) (NotMounted why) old mid new from to later port same by = (by.0, mount_later why old mid new later by.1, wants_later why old mid new later by.2, by.3)
+cause_later (Some History) (Stopped why) old mid new from to later port same by = by
+cause_later (Some History) Port old mid new from to later port same by = (by.0, rose_later old.port_faults mid.port_faults new.port_faults by.1 port)
+cause_later (Some History) Memory old mid new from to later port same by = by
+cause_later (Some (Create asked)) Done old mid new from to later port same by = by
+cause_later (Some (Create asked)) Usage old mid new from to later port same by = by
+cause_later (Some (Create asked)) (BadGeometry field) old mid new from to later port same by = by
+cause_later (Some (Create asked)) (NotCreated (creating.Exists disk)) old mid new from to later port same by = by
+cause_later (Some (Create asked)) (NotCreated creating.LogFault) old mid new from to later port same by =
     (by.0, by.1, rose_later (old.faults 0) (mid.faults 0) (new.faults 0) by.2 (later 0))
-cause_later (Some (Create asked)) (NotCreated (creating.MemberFault first second)) old mid new from to later port by =
-    (by.0, by.1, (by.2.0, rose_later (old.faults (second + 1)) (mid.faults (second + 1)) (new.faults (second + 1)) by.2.1 (later (second + 1))))
-cause_later (Some (Create asked)) (NotMounted why) old mid new from to later port by = by
-cause_later (Some (Create asked)) (Stopped why) old mid new from to later port by = by
-cause_later (Some (Create asked)) Port old mid new from to later port by = rose_later old.port_faults mid.port_faults new.port_faults by port
-cause_later (Some (Create asked)) Memory old mid new from to later port by = by
+cause_later (Some (Create asked)) (NotCreated (creating.MemberFault first second)) old mid new from to later port same by =
+    (by.0, by.1, (by.2.0, (by.2.1.0, rose_later (old.faults (second + 1)) (mid.faults (second + 1)) (new.faults (second + 1)) by.2.1.1 (later (second + 1)))))
+cause_later (Some (Create asked)) (NotMounted why) old mid new from to later port same by = by
+cause_later (Some (Create asked)) (Stopped why) old mid new from to later port same by = by
+cause_later (Some (Create asked)) Port old mid new from to later port same by = rose_later old.port_faults mid.port_faults new.port_faults by port
+cause_later (Some (Create asked)) Memory old mid new from to later port same by = by
 
 -- status 2 is that of one ending alone
 not_two : (ended : Ended) → (ended ≡ Usage → ⊥) → status_of ended ≡ 2 → ⊥
@@ -155,11 +175,14 @@ pub no_command : (a : View) (from : Stream) → Works None Usage a a from from
 no_command a from = record {
   cause = refl;
   first = tt;
-  refused = λ is. record { sizes = λ e. refl; contents = λ told. refl };
+  refused = λ is. record { sizes = λ e. refl; disks = λ told. refl };
   stops = λ told. refl;
   touches = record { tells = refl; sizes = λ e beyond. refl; faults = λ e. omega arith; port_faults = omega arith };
   others = λ told e beyond. refl;
+  beside = λ e is. record { size = refl; bytes = λ told. refl };
   unread = λ other. refl;
+  took = took_none from;
+  silent = λ is told. refl;
   members = members_same a a (λ told. refl);
   steps = nothing_done a (Leaves None a from) (LeavesBefore (last_line Usage) None a from)
       (λ x was front rest is. record { part = front; said = refl; leaves = ((Usage, rest, is), was.torn.disks) });
@@ -190,14 +213,10 @@ module _ (command : Option Command) (ended : Ended) (old mid new : View) (from t
     last = last_since old mid new works.touches.port_faults (spoken.last (told_mid told));
   }
 
-  refuses : is_refused ended ≡ true → Refuses (last_line ended) old new
+  refuses : is_refused ended ≡ true → KeepsDisks old new
   refuses is = record {
     sizes = λ e. spoken.sizes e ∙ (works.refused is).sizes e;
-    disks = λ told. spoken.disks (told_mid told) ∙ ap (λ (c : Contents). c.disks) ((works.refused is).contents told);
-    says = λ told.
-        let same = ap (λ (c : Contents). c.said) ((works.refused is).contents told) in
-        let last = last_since old mid new works.touches.port_faults (spoken.last (told_mid told)) in
-        record { part = last.part; rest = last.rest; whole = last.whole; said = last.said ∙ ap (λ (l : List ℕ). l ++ last.part) same; port = last.port };
+    disks = λ told. spoken.disks (told_mid told) ∙ (works.refused is).disks told;
   }
 
   pub run_members : MembersStay old new
@@ -207,10 +226,14 @@ module _ (command : Option Command) (ended : Ended) (old mid new : View) (from t
   run_runs status is = record {
     ended = ended;
     number = is;
-    cause = cause_later command ended old mid new from to spoken.steps.faults spoken.steps.port_faults works.cause;
+    cause = cause_later command ended old mid new from to spoken.steps.faults spoken.steps.port_faults (λ told. spoken.disks (told_mid told)) works.cause;
     first = works.first;
     refused = refuses;
     unread = works.unread;
+    took = works.took;
+    silent = λ is told.
+        let last = last_since old mid new works.touches.port_faults (spoken.last (told_mid told)) in
+        record { part = last.part; rest = last.rest; whole = last.whole; said = last.said ∙ ap (λ (l : List ℕ). l ++ last.part) (works.silent is told); port = last.port };
     told = ends;
   }
 
@@ -224,6 +247,12 @@ module _ (command : Option Command) (ended : Ended) (old mid new : View) (from t
 
   pub run_others : StaysFrom 17 old new
   run_others told e beyond = ap (λ (disks : Disks). disks e) (spoken.disks (told_mid told)) ∙ works.others told e beyond
+
+  pub run_beside : LeavesOthers command old new
+  run_beside e is = record {
+    size = spoken.sizes e ∙ (works.beside e is).size;
+    bytes = λ told. ap (λ (disks : Disks). disks e) (spoken.disks (told_mid told)) ∙ (works.beside e is).bytes told;
+  }
 
   pub run_crash : IsLawful old → (w : Contents) → new.left old.moment w → LeftBy command old from old.now.said w
   run_crash lawful = run_leaves command old mid new from (last_line ended) lawful (at_entry command old from lawful) works.steps spoken.steps

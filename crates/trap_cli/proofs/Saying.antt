@@ -1,11 +1,13 @@
 -- What the last line does.
-use Rattle.std.proofs.Common.{◌≡◌, ◌⊎◌, inl, inr, ℕ, ◌≤◌, List, [], ◌++◌, Option, Result, Ok, Err, IsTrue, refl, sym, ap₂, subst, append-nil, arith}
+use Rattle.std.proofs.Common.{◌≡◌, ◌⊎◌, inl, inr, ℕ, ◌≤◌, List, [], ◌++◌, Option, Some, None, Result, Ok, Err, IsTrue, refl, sym, ap₂, subst, append-nil, arith}
+use Rattle.std.specs.Io.KnownBytes.{Consumes}
 use Rattle.trap_bank.specs.Faults.{Rose}
 use Rattle.trap_bank.specs.Disks.{Contents, Disks, View}
 use Rattle.trap_bank.specs.Calls.{Says, MayLeave, IsLawful}
 use Rattle.trap_bank.specs.Steps.{Steps, SpokePart}
 use Rattle.trap_bank.specs.Stream.{Stream}
 use Rattle.trap_bank.proofs.Moves.{say_steps, nothing_done, then_, since_entry}
+use Rattle.trap_session.specs.Serving.{Took}
 use Rattle.trap_cli.specs.declared.command.Command.{Command}
 use Rattle.trap_cli.specs.Crash.{LeftBy, Leaves, LeavesBefore}
 use Rattle.trap_cli.specs.Run.{SaysLast, Spoken}
@@ -80,3 +82,11 @@ run_leaves command a b c from line lawful at_entry worked spoke w left =
         (λ x y was some. some)
         (λ x y z was before mid spoke. said_part x y z before spoke)
         (λ x y z was before mid spoke. said_part x y z before spoke)
+
+-- nothing was taken
+pub took_none : (s : Stream) → Took s s
+took_none s = record { bytes = []; taken = same s.left; given = omega arith; most = omega arith }
+  where
+    same : (left : Option (List ℕ)) → Consumes left left []
+    same None = tt
+    same (Some rest) = refl

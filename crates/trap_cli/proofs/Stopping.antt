@@ -1,21 +1,23 @@
 -- How a session has stopped, by other ways in which disks hold states.
-use Rattle.std.proofs.Common.{◌≡◌, inl, inr, ⊎_elim, ℕ, List, ◌++◌, ap, subst, ◌∙◌}
-use Rattle.trap_bank.specs.Disks.{Contents, Disks}
+use Rattle.std.proofs.Common.{◌≡◌, inl, inr, ⊎_elim, ℕ, List, ◌++◌, Some, refl, sym, ap, subst, ◌∙◌}
+use Rattle.trap_bank.specs.Disks.{Contents, Disks, View}
 use Rattle.trap_bank.specs.Stream.{Stream}
+use Rattle.trap_format.specs.declared.head.Head.{Head}
 use Rattle.trap_model.specs.ArrayStep.{step}
 use Rattle.trap_model.specs.declared.numbers.Geometry.{Geometry}
 use Rattle.trap_model.specs.declared.history.State.{State}
 use Rattle.trap_script.specs.Lines.{lines}
 use Rattle.trap_script.specs.Walk.{first_texts, all_texts}
-use Rattle.trap_array.specs.Holding.{Holds}
+use Rattle.trap_array.specs.Holding.{Holds, HoldsBy}
 use Rattle.trap_array.specs.Calls.{Mounted, HoldsLike}
 use Rattle.trap_session.specs.declared.outcome.SessionFault.TheVariants as serving
-use Rattle.trap_session.specs.Store.{array_store}
+use Rattle.trap_session.specs.Store.{Store, array_store}
 use Rattle.trap_session.proofs.Arrays.{comes_also}
 use Rattle.trap_session.specs.Serving.{StopsAfter, StopsTorn}
 use Rattle.trap_cli.specs.declared.outcome.Ended.{Ended}
 use Rattle.trap_cli.specs.declared.outcome.Ended.TheVariants.{Done, Usage, BadGeometry, NotCreated, NotMounted, Stopped, Port, Memory}
 use Rattle.trap_cli.specs.Stops.{store_of, held_store, SessionStops}
+use Rattle.trap_cli.specs.Crash.{WasOut, HoldsSince}
 
 module _ (g : Geometry) (has also : Disks → State → Type 0) (f : (disks : Disks) (t : State) → has disks t → also disks t)
     (s : State) (input : List ℕ) (x x' y : Contents) (same : x.said ≡ x'.said) where
@@ -67,3 +69,28 @@ stops_held array g ended s input x x' y from to is same stops =
     subst (λ (g : Geometry). SessionStops (held_store g) ended s input x' y from to) is
     (stops_by array.g (λ disks t. HoldsLike array.g array.head t disks) (λ disks t. Holds array.g t disks)
     (λ disks t like. record { head = like.head; by = like.by }) s input x x' y same ended from to stops)
+
+-- a member that this head calls lost was out on entry
+abbrev pub LostOn : Geometry → View → Head → Type 0
+LostOn g old k = (h : Head) (s : State) → HoldsBy g h s old.now.disks → (m : ℕ) → k.lost ≡ Some m → WasOut h old m
+
+-- the states of an array on disks that hold them, by a head that calls no member lost but one that was out on entry
+abbrev pub since_store : Geometry → View → Store State
+since_store g old = store_of g (λ disks t. HoldsSince g old disks t)
+
+pub since_like : (g : Geometry) (old : View) (h : Head) (disks : Disks) (t : State) → LostOn g old h → HoldsLike g h t disks → HoldsSince g old disks t
+since_like g old h disks t lost like = record {
+  head = like.head;
+  by = like.by;
+  entry = old.now.disks;
+  left = record { sizes = λ e. refl; bytes = λ e i outside. refl };
+  lost = λ k s was m is. lost k s was m (sym like.lost ∙ is);
+}
+
+pub stops_since : (array : Mounted) (g : Geometry) (old : View) (ended : Ended) (s : State) (input : List ℕ) (x x' y : Contents) (from to : Stream) → array.g ≡ g
+    → LostOn g old array.head → x.said ≡ x'.said → SessionStops (array_store array) ended s input x y from to
+    → SessionStops (since_store g old) ended s input x' y from to
+stops_since array g old ended s input x x' y from to is lost same stops =
+    stops_by g (λ disks t. HoldsLike g array.head t disks) (λ disks t. HoldsSince g old disks t)
+    (λ disks t like. since_like g old array.head disks t lost like) s input x x' y same ended from to
+    (subst (λ (g : Geometry). SessionStops (store_of g (λ disks t. HoldsLike g array.head t disks)) ended s input x y from to) is stops)

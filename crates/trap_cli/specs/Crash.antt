@@ -1,5 +1,5 @@
 -- What a crash at any moment of a run leaves.
-use Rattle.std.specs.Prelude.{◌≡◌, ◌⊎◌, ℕ, ◌+◌, List, ◌++◌, Option, Some, None, IsTrue}
+use Rattle.std.specs.Prelude.{◌≡◌, ◌⊎◌, ℕ, ◌+◌, ◌<◌, List, ◌++◌, Option, Some, None, IsTrue}
 use Rattle.trap_bank.specs.Disks.{Contents, Disks, View, Differs}
 use Rattle.trap_bank.specs.Stream.{Stream}
 use Rattle.trap_model.specs.Given.{given}
@@ -8,11 +8,13 @@ use Rattle.trap_model.specs.State.{fresh}
 use Rattle.trap_model.specs.declared.asked.Asked.{Asked}
 use Rattle.trap_model.specs.declared.numbers.Geometry.{Geometry}
 use Rattle.trap_model.specs.declared.history.State.{State}
+use Rattle.trap_format.specs.declared.head.Head.{Head}
 use Rattle.trap_format.specs.Checked.{first_broken, HasNumbers}
 use Rattle.trap_format.specs.declared.limits.Field.{Field}
 use Rattle.trap_script.specs.Lines.{lines}
 use Rattle.trap_script.specs.Walk.{state_after, reply_texts}
-use Rattle.trap_array.specs.Holding.{Holds}
+use Rattle.trap_array.specs.Holding.{Holds, HoldsBy}
+use Rattle.trap_array.specs.Gone.{IsRemoved}
 use Rattle.trap_array.specs.Creating.{IsLowest, NoneIsThere, Creates}
 use Rattle.trap_array.specs.Mounting.{SameHead}
 use Rattle.trap_cli.specs.Ended.{last_line, created_line}
@@ -40,9 +42,22 @@ pub record LeftBesideHead (old : View) (disks : Disks) : Type 0 where
 abbrev pub replies_given : Geometry → State → List ℕ → List ℕ → ℕ
 replies_given g s input p = given (reply_texts (step g) s (lines g.block input)) p
 
--- the disks hold the state after so many lines
-abbrev pub HoldsAfter : Geometry → State → List ℕ → ℕ → Disks → Type 0
-HoldsAfter g s input j disks = Holds g (state_after (step g) s (lines g.block input) j) disks
+-- the member was out on entry: this head called it lost, or its disk was absent
+abbrev pub WasOut : Head → View → ℕ → Type 0
+WasOut h old m = (h.lost ≡ Some m) ⊎ (old.sizes (m + 1) ≡ None)
+
+-- The disks hold the state by a head that calls no member lost but one that was out on entry: called lost by the head
+-- that a crash then might have left, or absent.
+pub record HoldsSince (g : Geometry) (old : View) (disks : Disks) (t : State) : Type 0 where
+  pub head : Head
+  pub by : HoldsBy g head t disks
+  pub entry : Disks
+  pub left : LeftOnEntry old entry
+  pub lost : (h : Head) (s : State) → HoldsBy g h s entry → (m : ℕ) → head.lost ≡ Some m → WasOut h old m
+
+-- so they hold the state after so many lines
+abbrev pub HoldsAfter : Geometry → State → View → List ℕ → ℕ → Disks → Type 0
+HoldsAfter g s old input j disks = HoldsSince g old disks (state_after (step g) s (lines g.block input) j)
 
 -- Where these bytes were said: a crash on entry might have left the disks, perhaps beside the head's slot, and no more
 -- than a front of a fault line was said; or the disks hold the state after the lines whose replies were given, or after
@@ -50,7 +65,8 @@ HoldsAfter g s input j disks = Holds g (state_after (step g) s (lines g.block in
 abbrev pub SessionLeaves : Geometry → State → List ℕ → View → List ℕ → Disks → Type 0
 SessionLeaves g s input old p disks =
     (IsFaultFront p × LeftBesideHead old disks)
-    ⊎ (HoldsAfter g s input (replies_given g s input p) disks ⊎ HoldsAfter g s input (replies_given g s input p + 1) disks)
+    ⊎ (HoldsAfter g s old input (replies_given g s input p) disks
+    ⊎ HoldsAfter g s old input (replies_given g s input p + 1) disks)
 
 -- a first part of the history's lines
 abbrev pub IsHistoryFront : State → List ℕ → Type 0
@@ -60,7 +76,7 @@ IsHistoryFront s p = (rest : List ℕ) × (p ++ rest ≡ history_text s)
 -- than a front of a fault line was said; or the disks hold the state, and such a front was said or one of its history.
 abbrev pub HistoryLeaves : Geometry → State → View → List ℕ → Disks → Type 0
 HistoryLeaves g s old p disks =
-    (IsFaultFront p × LeftBesideHead old disks) ⊎ ((IsFaultFront p ⊎ IsHistoryFront s p) × Holds g s disks)
+    (IsFaultFront p × LeftBesideHead old disks) ⊎ ((IsFaultFront p ⊎ IsHistoryFront s p) × HoldsSince g old disks s)
 
 -- Where these bytes were said: no disk changed where a number breaks its limit, or a disk of the array was there.
 -- Otherwise disk 0 is no log, or the disks hold the new array, and so they do where the whole line was said.
@@ -94,3 +110,12 @@ Leaves command old from x y = LeftBy command old from x.said y
 abbrev pub LeavesBefore : List ℕ → Option Command → View → Stream → Contents → Contents → Type 0
 LeavesBefore line command old from x y = (front rest : List ℕ) → front ++ rest ≡ line
     → LeftBy command old from x.said (record { disks = y.disks; said = y.said ++ front })
+
+-- as many lines as there were replies given, or one more
+abbrev pub IsGivenOrNext : Geometry → State → List ℕ → List ℕ → ℕ → Type 0
+IsGivenOrNext g s input p j = (j ≡ replies_given g s input p) ⊎ (j ≡ replies_given g s input p + 1)
+
+-- the disk of one member is gone, and no other member's is absent
+pub record OneGone (g : Geometry) (m : ℕ) (left gone : Disks) : Type 0 where
+  pub removed : IsRemoved m left gone
+  pub others : (k : ℕ) → k < g.members → left (k + 1) ≡ None → k ≡ m

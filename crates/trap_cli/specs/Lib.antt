@@ -8,3 +8,4 @@ pub mod Cause
 pub mod Stops
 pub mod Crash
 pub mod Run
+pub mod Completes

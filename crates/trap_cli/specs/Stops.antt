@@ -16,7 +16,7 @@ use Rattle.trap_array.specs.Creating.{Creates}
 use Rattle.trap_array.specs.Mounting.{is_refusal}
 use Rattle.trap_mount.specs.declared.fault.CreateFault.{CreateFault}
 use Rattle.trap_mount.specs.declared.fault.CreateFault.TheVariants as creating
-use Rattle.trap_session.specs.Store.{Store, array_store}
+use Rattle.trap_session.specs.Store.{Store, array_store, NamesBad}
 use Rattle.trap_session.specs.Serving.{StopsDone, StopsAfter, StopsAs, StopsBy, TookQuit}
 use Rattle.trap_cli.specs.Ended.{created_line}
 use Rattle.trap_cli.specs.History.{history_text}
@@ -139,3 +139,8 @@ EndsBy a (NotMounted why) old new from to = ⊥
 EndsBy a (Stopped why) old new from to = StopsBy a (Err why) old new from to
 EndsBy a Port old new from to = ⊥
 EndsBy a Memory old new from to = Unit {0}
+
+-- the record that a mounted session found damaged, by what the array knows at its end
+abbrev pub NamesEnd : Mounted → Ended → View → Type 0
+NamesEnd a (Stopped why) new = (b : Mounted) × (b.g ≡ a.g) × NamesBad b why new
+NamesEnd a ended new = Unit {0}

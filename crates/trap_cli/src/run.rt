@@ -7,7 +7,8 @@ ghost use Rattle.trap_cli.specs.declared.command.Command.{Command};
 ghost use Rattle.trap_cli.specs.Ended.{last_line};
 ghost use Rattle.trap_cli.specs.Crash.{LeftBy};
 ghost use Rattle.trap_array.specs.Beside.{StaysFrom};
-ghost use Rattle.trap_cli.specs.Run.{Spoken, Works, TouchesBelow, MembersStay, Runs};
+ghost use Rattle.trap_cli.specs.Completes.{Completes};
+ghost use Rattle.trap_cli.specs.Run.{Spoken, Works, TouchesBelow, LeavesOthers, MembersStay, Runs};
 
 use crate::command::{Command, read_command};
 use crate::creating::run_create;
@@ -82,10 +83,18 @@ pub fn run<B: Bank, S: Source, T: Turns>(
     ensures usage { (result ≡ 2) ↔ IsCommand None words.now }
     ensures touches { TouchesBelow 17 (B.view bank.old) (B.view bank.new) }
     ensures others { StaysFrom 17 (B.view bank.old) (B.view bank.new) }
+
+    // No disk is made or changed but those of the array, whose header stands on disk 0, or which is made.
+    ensures beside { (command : Option Command) → IsCommand command words.now
+        → LeavesOthers command (B.view bank.old) (B.view bank.new) }
     ensures turns { _turns.new ≡ _turns.old }
 
     // A member that wasn't recorded lost on entry is so only where its disk was absent.
     ensures members { MembersStay (B.view bank.old) (B.view bank.new) }
+
+    // Over disks that hold a state, the command is done where nothing fails, unless there is no memory.
+    ensures completes { (command : Option Command) → IsCommand command words.now → Completes result command
+        (B.view bank.old) (B.view bank.new) (S.stream source.old) (S.stream source.new) }
 
     // What a crash at any moment of the run leaves.
     ensures any_moment { (command : Option Command) → IsCommand command words.now

@@ -4,9 +4,9 @@ ghost use Rattle.std.specs.Prelude.{◌≡◌, ◌+◌, ◌^◌, ◌<◌, ◌≤
 ghost use Rattle.trap_bank.specs.Steps.{Steps};
 ghost use Rattle.trap_array.specs.Beside.{StaysFrom};
 ghost use Rattle.trap_array.specs.Calls.{IsReady};
-ghost use Rattle.trap_session.specs.Serving.{Serves, HoldsStill};
+ghost use Rattle.trap_session.specs.Serving.{Serves, HoldsStill, Took};
 ghost use Rattle.trap_cli.specs.Command.{command_session};
-ghost use Rattle.trap_cli.specs.Stops.{HasEnded, EndsBy};
+ghost use Rattle.trap_cli.specs.Stops.{HasEnded, EndsBy, NamesEnd};
 ghost use Rattle.trap_cli.specs.Run.{Works};
 
 use crate::outcome::Ended;
@@ -45,6 +45,10 @@ fn answer_lines<B: Bank, S: Source>(
     ensures sizes { (e : ℕ) → (B.view bank.new).sizes e ≡ (B.view bank.old).sizes e }
     ensures others { StaysFrom (array.g.members + 1) (B.view bank.old) (B.view bank.new) }
     ensures held { HoldsStill array (B.view bank.old) (B.view bank.new) }
+    ensures took { Took (S.stream source.old) (S.stream source.new) }
+    ensures bad { NamesEnd array result (B.view bank.new) }
+    ensures idle { result ≡ Ended.Memory → ((B.view bank.new).now ≡ (B.view bank.old).now)
+        × (S.stream source.new ≡ S.stream source.old) }
 {
     let g = array.geometry();
     let Ok(session) = Session::new(alloc, &g) else {

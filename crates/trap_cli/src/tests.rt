@@ -3,6 +3,7 @@
 ghost use Rattle.std.specs.Prelude.{◌≡◌, ◌+◌, ◌≤◌, ℕ, length, IsTrue};
 ghost use Rattle.trap_bank.specs.Calls.{Fits};
 
+mod ends;
 mod instants;
 mod listing;
 mod stops;

@@ -15,7 +15,7 @@ use Rattle.trap_script.specs.Lines.{goes_on}
 use Rattle.trap_model.specs.declared.request.Reply.TheVariants.{Kept, Is, At, Span, No, Silent}
 use Rattle.trap_script.specs.Replies.{reply_words, reply_text}
 use Rattle.trap_script.proofs.WalkLemmas.{length-replies, first_texts-next}
-use Rattle.trap_script.specs.Walk.{state_after, replies, reply_texts, first_texts}
+use Rattle.trap_script.specs.Walk.{state_after, replies, reply_texts, first_texts, AreSaid}
 
 -- a list begins with its front
 begins : (text rest : List ℕ) → starts_with nat_eq (text ++ rest) text ≡ true
@@ -153,3 +153,43 @@ given_or_next m lines s all j x rest front behind more at is =
           ∙ ap (given (reply_texts m s all)) (sym (first_texts-next m s all j x rest at))
           ∙ given_replies m lines s all (j + 1) more (omega (arith, below_end all j x rest at)))
     ]
+
+-- the texts that are given begin the bytes
+pub given_said : (texts : List (List ℕ)) (bytes : List ℕ) → AreSaid (given texts bytes) texts bytes
+given_said [] bytes = (bytes, refl)
+given_said (text ∷ texts) bytes =
+    first_said (starts_with nat_eq bytes text) text texts bytes
+    (starts_is Decides-eqb bytes text (starts_with nat_eq bytes text) refl).0 (given_said texts (drop (length text) bytes))
+  where
+    first_said : (b : Bool) (text : List ℕ) (texts : List (List ℕ)) (bytes : List ℕ)
+        → (b ≡ true → bytes ≡ text ++ drop (length text) bytes)
+        → AreSaid (given texts (drop (length text) bytes)) texts (drop (length text) bytes)
+        → AreSaid (cond b (suc (given texts (drop (length text) bytes))) 0) (text ∷ texts) bytes
+    first_said true text texts bytes begin behind = (
+      behind.0,
+      begin refl ∙ ap (λ l. text ++ l) behind.1
+          ∙ sym (append_assoc text (joined (take (given texts (drop (length text) bytes)) texts)) behind.0),
+    )
+    first_said false text texts bytes begin behind = (bytes, refl)
+
+-- there are so many
+pub given_within : (texts : List (List ℕ)) (bytes : List ℕ) → given texts bytes ≤ length texts
+given_within [] bytes = omega arith
+given_within (text ∷ texts) bytes =
+    one_more (starts_with nat_eq bytes text) (given texts (drop (length text) bytes)) (length texts)
+    (given_within texts (drop (length text) bytes))
+  where
+    one_more : (b : Bool) (k n : ℕ) → k ≤ n → cond b (suc k) 0 ≤ suc n
+    one_more true k n within = omega (arith, within)
+    one_more false k n within = omega arith
+
+-- and no greater number of them begins the bytes
+pub given_greatest : (texts : List (List ℕ)) (j : ℕ) (bytes : List ℕ) → j ≤ length texts → AreSaid j texts bytes → j ≤ given texts bytes
+given_greatest texts zero bytes within said = omega arith
+given_greatest [] (suc j) bytes within said = absurd (omega (arith, within))
+given_greatest (text ∷ texts) (suc j) bytes within said =
+    let more = joined (take j texts) ++ said.0 in
+    let whole : bytes ≡ text ++ more = said.1 ∙ append_assoc text (joined (take j texts)) said.0 in
+    let count : given (text ∷ texts) bytes ≡ suc (given texts more) = ap (given (text ∷ texts)) whole ∙ given-said text texts more in
+    let others : j ≤ given texts more = given_greatest texts j more (omega (arith, within)) (said.0, refl) in
+    omega (arith, count, others)

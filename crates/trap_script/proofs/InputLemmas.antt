@@ -12,7 +12,7 @@ use Rattle.trap_model.specs.declared.request.Request.{Request}
 use Rattle.trap_script.specs.Lines.{is_line_feed, request_of, goes_on, HasNoFeed, line_feeds, without_empty_last, lines_of, lines}
 use Rattle.trap_script.proofs.LineLemmas.{HasFirst, has_first}
 
-true_or_false : (b : Bool) → (b ≡ true) ⊎ (b ≡ false)
+pub true_or_false : (b : Bool) → (b ≡ true) ⊎ (b ≡ false)
 true_or_false true = inl refl
 true_or_false false = inr refl
 

@@ -37,6 +37,10 @@ first_texts m s requests j = flat_map (λ text. text) (take j (reply_texts m s r
 abbrev pub all_texts : {S : Type 0} → Machine S → S → List Request → List ℕ
 all_texts m s requests = flat_map (λ text. text) (reply_texts m s requests)
 
+-- the first j of these texts, one after the other, begin the bytes
+abbrev pub AreSaid : ℕ → List (List ℕ) → List ℕ → Type 0
+AreSaid j texts bytes = (rest : List ℕ) × (bytes ≡ flat_map (λ text. text) (take j texts) ++ rest)
+
 -- Below, a store holds states, and bytes are said on a port: the list of all that was said before,
 -- and of all that is said now.
 

@@ -8,7 +8,7 @@ ghost use Rattle.trap_model.specs.declared.request.Reply.TheVariants.{Silent};
 ghost use Rattle.trap_script.specs.Lines.{goes_on, lines};
 ghost use Rattle.trap_script.specs.Numbers.{number_of};
 ghost use Rattle.trap_script.specs.Replies.{reply_text};
-ghost use Rattle.trap_script.specs.Walk.{states, state_after, replies, reply_texts, first_texts};
+ghost use Rattle.trap_script.specs.Walk.{states, state_after, replies, reply_texts, first_texts, AreSaid};
 
 /// A text is a number exactly where it is the number's decimal text, and the number is below 2^64.
 pub fn numbers()
@@ -36,4 +36,12 @@ pub fn given_replies<S>()
         (rest : List Request) (front : List ℕ) → drop j requests ≡ next ∷ rest
         → length front < length (reply_text (m.reply (state_after m s requests j) next))
         → given (reply_texts m s requests) (first_texts m s requests j ++ front) ≡ j }
+{}
+
+/// How many texts are given, once these bytes are said: so many of them begin the bytes, and no greater number does.
+pub fn given()
+    ensures said { (texts : List (List ℕ)) (bytes : List ℕ) → AreSaid (given texts bytes) texts bytes }
+    ensures within { (texts : List (List ℕ)) (bytes : List ℕ) → given texts bytes ≤ length texts }
+    ensures greatest { (texts : List (List ℕ)) (bytes : List ℕ) (j : ℕ) → j ≤ length texts
+        → AreSaid j texts bytes → j ≤ given texts bytes }
 {}

@@ -2,7 +2,7 @@
 use Rattle.std.proofs.Common.{◌≡◌, ◌↔◌, inl, inr, ℕ, ◌+◌, ◌<◌, ◌≤◌, Option, List, ◌++◌, length, take, Some, None, Bool, true, false, ◌||◌, IsTrue, Result, Ok, Err, OnOk, OnErr, IfOk, IfErr, IsErr, IsErrAnd, refl, sym, ap, subst, ◌∙◌, arith}
 use Rattle.std.proofs.Math.Seq.{take-append_seam}
 use Rattle.trap_bank.specs.Disks.{Contents, Disks, View, Quiet}
-use Rattle.trap_bank.specs.Calls.{MayLeave, Says}
+use Rattle.trap_bank.specs.Calls.{MayLeave, IsLawful, Says}
 use Rattle.trap_bank.specs.Faults.{Rose}
 use Rattle.trap_bank.specs.Steps.{Steps, Moves, Same, Spoke, SpokePart, Always}
 use Rattle.trap_bank.proofs.Moves.{say_steps, said_steps, then_, weaken, nothing_done, always_same, no_moves, read_is_left}
@@ -28,7 +28,7 @@ use Rattle.trap_array.proofs.Beside.{stays_none, stays_same, stays_then}
 use Rattle.trap_array.proofs.Sizes.{sizes_still}
 use Rattle.trap_session.specs.Store.{Store, array_store, ComesWith, Replied, CutShort, Struck, StandsForNone, HasRisen, NamesBad}
 use Rattle.trap_session.specs.Denying.{EndsSession}
-use Rattle.trap_session.specs.Answers.{Answers, HasAnswered, StandsOn, AsksBlock, AnswersLine}
+use Rattle.trap_session.specs.Answers.{Answers, HasAnswered, StandsOn, AsksBlock, stops_array, is_stopping, UnlessStopped, UnlessFailed, SaidInOneCall, Speaks, AnswersLine}
 use Rattle.trap_session.specs.declared.outcome.Next.{Next}
 use Rattle.trap_session.specs.declared.outcome.Next.TheVariants.{More, Quit}
 use Rattle.trap_session.specs.declared.outcome.SessionFault.{SessionFault}
@@ -137,17 +137,78 @@ port_only : (result : Result Next SessionFault) {denied : Denied} → IfErr resu
 port_only (Ok next) port is = cc is
 port_only (Err fault) port is = cc (port, is)
 
+-- where only disks were worked on, nothing was said
+pub quiet_moves : (v u : View) (during after : Disks → Disks → Type 0) → Moves v u during after → IsTrue v.tells → u.now.said ≡ v.now.said
+quiet_moves v u during after moves told =
+    let came = moves.now u.now (read_is_left u (subst IsTrue (sym moves.tells) told)) in
+    came.by.said ∙ came.was.torn.said
+
+-- a reply in one call
+said_once : (v u w : View) → u.tells ≡ v.tells → (IsTrue v.tells → u.now.said ≡ v.now.said) → SaidInOneCall u w → SaidInOneCall v w
+said_once v u w tells quiet once told by_one =
+    let since = once (subst IsTrue (sym tells) told) by_one in
+    record { before = since.before; last_call = since.last_call; entry = since.entry; left = since.left; said = since.said ∙ quiet told }
+
+speaks_reply : (result : Result Next SessionFault) (v w : View) → SaidInOneCall v w → IfOk result (λ next. next ≡ More) → IfErr result (λ fault. fault ≡ WriteFault)
+    → Speaks result v w
+speaks_reply (Ok More) v w once ok err = once
+speaks_reply (Ok Quit) v w once ok err = absurd (cc ok)
+speaks_reply (Err (Array denied)) v w once ok err = absurd (cc err)
+speaks_reply (Err ReadFault) v w once ok err = absurd (cc err)
+speaks_reply (Err WriteFault) v w once ok err = once
+speaks_reply (Err TooLong) v w once ok err = absurd (cc err)
+
+-- the port stops no array
+not_stopping : (result : Result Next SessionFault) → IfErr result (λ fault. fault ≡ WriteFault) → is_stopping result ≡ false
+not_stopping (Ok next) err = refl
+not_stopping (Err fault) err = ap stops_array err
+
+or_false : (b : Bool) → b ≡ (b || false)
+or_false true = refl
+or_false false = refl
+
+-- what is so is so unless a disk failed
+unless_stopped : {P : Type 0} (fault : SessionFault) → P → UnlessStopped fault P
+unless_stopped (Array (Refused why)) p = p
+unless_stopped (Array LogFault) p = tt
+unless_stopped (Array (MemberFault first second)) p = tt
+unless_stopped (Array (Damaged offset)) p = p
+unless_stopped (Array Stopped) p = tt
+unless_stopped ReadFault p = p
+unless_stopped WriteFault p = p
+unless_stopped TooLong p = p
+
+pub unless_failed : {T P : Type 0} (result : Result T SessionFault) → P → UnlessFailed result P
+unless_failed (Ok value) p = p
+unless_failed (Err fault) p = unless_stopped fault p
+
+unless_stopped_also : {P Q : Type 0} (fault : SessionFault) → (P → Q) → UnlessStopped fault P → UnlessStopped fault Q
+unless_stopped_also (Array (Refused why)) also p = also p
+unless_stopped_also (Array LogFault) also p = tt
+unless_stopped_also (Array (MemberFault first second)) also p = tt
+unless_stopped_also (Array (Damaged offset)) also p = also p
+unless_stopped_also (Array Stopped) also p = tt
+unless_stopped_also ReadFault also p = also p
+unless_stopped_also WriteFault also p = also p
+unless_stopped_also TooLong also p = also p
+
+-- and what follows from it
+pub unless_also : {T P Q : Type 0} (result : Result T SessionFault) → (P → Q) → UnlessFailed result P → UnlessFailed result Q
+unless_also (Ok value) also p = also p
+unless_also (Err fault) also p = unless_stopped_also fault also p
+
 -- One line whose reply is said: all that is owed of it.
 pub line_replied : (a b : Mounted) (v u w : View) (asked : Request) (reply : Reply) (result : Result Next SessionFault)
     → (IsTrue v.tells → (s : State) → Always v (StandsFor a s) → (step a.g).reply s asked ≡ reply)
     → Steps v u (Answers a v asked) (HasDone a v asked) → StandsOn a b asked v u
-    → ((e : ℕ) → u.sizes e ≡ v.sizes e) → StaysFrom (a.g.members + 1) v u → IsReady b u → b.is_stopped ≡ a.is_stopped → GoesOn a b
-    → Says (reply_text reply) result u w → IfOk result (λ next. next ≡ More) → IfErr result (λ fault. fault ≡ WriteFault) → (AsksBlock a.g asked → a.is_stopped ≡ true → ⊥)
+    → ((e : ℕ) → u.sizes e ≡ v.sizes e) → StaysFrom (a.g.members + 1) v u → IsReady b u → b.is_stopped ≡ a.is_stopped → GoesOn a b → (IsTrue v.tells → u.now.said ≡ v.now.said)
+    → Says (reply_text reply) result u w → SaidInOneCall u w → IfOk result (λ next. next ≡ More) → IfErr result (λ fault. fault ≡ WriteFault) → (AsksBlock a.g asked → a.is_stopped ≡ true → ⊥)
     → AnswersLine a b result asked v w
-line_replied a b v u w asked reply result is done stands sizes others ready alike goes_on call ok err asks = record {
+line_replied a b v u w asked reply result is done stands sizes others ready alike goes_on quiet call once ok err asks = record {
   steps = reply_behind a v u w asked reply result is done call ok err;
-  stands = always_ok result (λ s was. always_said u w result (reply_text reply) (StandsFor b ((step a.g).next s asked)) call (stands s was));
-  stopped = always_ok result alike;
+  stands = unless_failed result (λ s was. always_said u w result (reply_text reply) (StandsFor b ((step a.g).next s asked)) call (stands s was));
+  stopped = alike ∙ or_false a.is_stopped ∙ ap (λ (stops : Bool). a.is_stopped || stops) (sym (not_stopping result err));
+  speaks = speaks_reply result v w (said_once v u w done.tells quiet once) ok err;
   denied = (λ is. absurd (port_only result err is), λ both. absurd (asks both.0 both.1));
   ready = ready_as b u w call.sizes (λ has. always_said u w result (reply_text reply) has call) ready;
   goes_on = goes_on;
@@ -156,10 +217,6 @@ line_replied a b v u w asked reply result is done stands sizes others ready alik
   sizes = λ e. call.sizes e ∙ sizes e;
   others = stays_then (a.g.members + 1) v u w done.tells others (stays_said (a.g.members + 1) u w call.disks);
 }
-  where
-    always_ok : {T E P : Type 0} (r : Result T E) → P → OnOk r P
-    always_ok (Ok value) p = p
-    always_ok (Err fault) p = tt
 
 -- the array as it stood holds the state by its own head
 pub holds_own : (a : Mounted) (s : State) (disks : Disks) → StandsFor a s disks → HoldsLike a.g a.head s disks
@@ -249,15 +306,37 @@ by_still g s time block = stays (refusal g s (By time block)) s
 same_denied : {first second : Denied} → ◌≡◌ {A = Result Next SessionFault} (Err (Array first)) (Err (Array second)) → first ≡ second
 same_denied is = cc is
 
+-- a record is damaged only where the array stood for no state
+stands_struck : (a b : Mounted) (v u : View) (asked : Request) (denied : Denied) → u.tells ≡ v.tells → HasRisen a (Array denied) v u
+    → UnlessStopped (Array denied) (StandsOn a b asked v u)
+stands_struck a b v u asked (Refused why) tells risen = absurd risen
+stands_struck a b v u asked LogFault tells risen = tt
+stands_struck a b v u asked (MemberFault first second) tells risen = tt
+stands_struck a b v u asked (Damaged offset) tells risen = λ s stands c left. absurd (risen (subst IsTrue tells left.told) s stands)
+stands_struck a b v u asked Stopped tells risen = tt
+
+-- what stops the array in its own call
+denied_stops : (T : Type 0) (denied : Denied) → is_fault {T = T} (Err denied) ≡ stops_array (Array denied)
+denied_stops T (Refused why) = refl
+denied_stops T LogFault = refl
+denied_stops T (MemberFault first second) = refl
+denied_stops T (Damaged offset) = refl
+denied_stops T Stopped = refl
+
+pub stops_as : {T : Type 0} (call : Result T Denied) (denied : Denied) → call ≡ Err denied → is_fault call ≡ stops_array (Array denied)
+stops_as {T} call denied is = ap (λ (r : Result T Denied). is_fault r) is ∙ denied_stops T denied
+
 -- One line in which a disk failed.
 pub line_struck : (a b : Mounted) (v u : View) (asked : Request) (denied : Denied)
     → Steps v u (Answers a v asked) (HasAnswered a v (Err (Array denied)) asked)
+    → b.is_stopped ≡ (a.is_stopped || stops_array (Array denied)) → (IsTrue v.tells → u.now.said ≡ v.now.said)
     → ((e : ℕ) → u.sizes e ≡ v.sizes e) → StaysFrom (a.g.members + 1) v u → IsReady b u → GoesOn a b → HasRisen a (Array denied) v u → NamesBad b (Array denied) u → (denied ≡ Stopped) ↔ (AsksBlock a.g asked × (a.is_stopped ≡ true))
     → AnswersLine a b (Err (Array denied)) asked v u
-line_struck a b v u asked denied steps sizes others ready goes risen names exact = record {
+line_struck a b v u asked denied steps stopped quiet sizes others ready goes risen names exact = record {
   steps = steps;
-  stands = tt;
-  stopped = tt;
+  stands = stands_struck a b v u asked denied steps.tells risen;
+  stopped = stopped;
+  speaks = quiet;
   denied = (λ is. exact.0 (same_denied is), λ both. ap (λ why. Err (Array why)) (exact.1 both));
   ready = ready;
   goes_on = goes;
@@ -277,21 +356,24 @@ pub write_replied : (a b : Mounted) (v u w : View) (time block : ℕ) (bytes fre
     → (IsTrue v.tells → (s : State) → Always v (StandsFor a s) → (step a.g).reply s (Write time block bytes) ≡ reply)
     → Moves v u (MayTurn a v (λ s. (step a.g).next s (Write time block bytes))) (HasTurned a b v (λ s. (step a.g).next s (Write time block bytes)))
     → ((e : ℕ) → u.sizes e ≡ v.sizes e) → StaysFrom (a.g.members + 1) v u → IsReady b u → b.is_stopped ≡ a.is_stopped → GoesOn a b
-    → Says (reply_text reply) result u w → IfOk result (λ next. next ≡ More) → IfErr result (λ fault. fault ≡ WriteFault) → (block < volume a.g → a.is_stopped ≡ true → ⊥)
+    → Says (reply_text reply) result u w → SaidInOneCall u w → IfOk result (λ next. next ≡ More) → IfErr result (λ fault. fault ≡ WriteFault) → (block < volume a.g → a.is_stopped ≡ true → ⊥)
     → AnswersLine a b result (Write time block fresh) v w
-write_replied a b v u w time block bytes fresh same reply result is moves sizes others ready alike goes call ok err asks =
+write_replied a b v u w time block bytes fresh same reply result is moves sizes others ready alike goes call once ok err asks =
     subst (λ l. AnswersLine a b result (Write time block l) v w) same
     (line_replied a b v u w (Write time block bytes) reply result is (turned_done a v u (Write time block bytes) refl b goes moves)
-    (turned_stands a v u (Write time block bytes) refl b moves) sizes others ready alike goes call ok err asks)
+    (turned_stands a v u (Write time block bytes) refl b moves) sizes others ready alike goes
+    (quiet_moves v u (MayTurn a v (λ s. (step a.g).next s (Write time block bytes))) (HasTurned a b v (λ s. (step a.g).next s (Write time block bytes))) moves) call once ok err asks)
 
 -- a write in which a disk failed
 pub write_struck : (a b : Mounted) (v u : View) (time block : ℕ) (bytes fresh : List ℕ) → bytes ≡ fresh → (denied : Denied)
     → Moves v u (MayTurn a v (λ s. (step a.g).next s (Write time block bytes))) (MayTurn a v (λ s. (step a.g).next s (Write time block bytes)))
+    → b.is_stopped ≡ (a.is_stopped || stops_array (Array denied))
     → ((e : ℕ) → u.sizes e ≡ v.sizes e) → StaysFrom (a.g.members + 1) v u → IsReady b u → GoesOn a b → HasRisen a (Array denied) v u → ((offset : ℕ) → denied ≡ Damaged offset → ⊥) → (denied ≡ Stopped) ↔ ((block < volume a.g) × (a.is_stopped ≡ true))
     → AnswersLine a b (Err (Array denied)) (Write time block fresh) v u
-write_struck a b v u time block bytes fresh same denied moves sizes others ready goes risen never exact =
+write_struck a b v u time block bytes fresh same denied moves stopped sizes others ready goes risen never exact =
     subst (λ l. AnswersLine a b (Err (Array denied)) (Write time block l) v u) same
-    (line_struck a b v u (Write time block bytes) denied (turned_struck a v u (Write time block bytes) refl denied risen moves) sizes others ready goes risen (names_none b u denied never) exact)
+    (line_struck a b v u (Write time block bytes) denied (turned_struck a v u (Write time block bytes) refl denied risen moves) stopped
+    (quiet_moves v u (MayTurn a v (λ s. (step a.g).next s (Write time block bytes))) (MayTurn a v (λ s. (step a.g).next s (Write time block bytes))) moves) sizes others ready goes risen (names_none b u denied never) exact)
 
 -- a call that changes nothing of the array but perhaps whether it is stopped
 pub same_goes : (a b : Mounted) (stopped : Bool) → b ≡ record a { is_stopped = stopped } → GoesOn a b
@@ -302,19 +384,20 @@ pub same_replied : (a b : Mounted) (v u w : View) (asked : Request) → goes_on 
     → (stopped : Bool) → b ≡ record a { is_stopped = stopped } → stopped ≡ a.is_stopped → (reply : Reply) (result : Result Next SessionFault)
     → (IsTrue v.tells → (s : State) → Always v (StandsFor a s) → (step a.g).reply s asked ≡ reply)
     → Moves v u Same Same → ((e : ℕ) → u.sizes e ≡ v.sizes e) → (IsTrue v.tells → u.now ≡ v.now) → IsReady b u
-    → Says (reply_text reply) result u w → IfOk result (λ next. next ≡ More) → IfErr result (λ fault. fault ≡ WriteFault) → (AsksBlock a.g asked → a.is_stopped ≡ true → ⊥)
+    → Says (reply_text reply) result u w → SaidInOneCall u w → IfOk result (λ next. next ≡ More) → IfErr result (λ fault. fault ≡ WriteFault) → (AsksBlock a.g asked → a.is_stopped ≡ true → ⊥)
     → AnswersLine a b result asked v w
-same_replied a b v u w asked more still stopped same is_same reply result is moves sizes alike ready call ok err asks =
+same_replied a b v u w asked more still stopped same is_same reply result is moves sizes alike ready call once ok err asks =
     line_replied a b v u w asked reply result is (same_done a v u asked more moves still) (same_stands a v u asked more moves b stopped same still)
-    sizes (stays_same (a.g.members + 1) v u alike) ready (ap (λ (m : Mounted). m.is_stopped) same ∙ is_same) (same_goes a b stopped same) call ok err asks
+    sizes (stays_same (a.g.members + 1) v u alike) ready (ap (λ (m : Mounted). m.is_stopped) same ∙ is_same) (same_goes a b stopped same) (λ told. ap (λ (c : Contents). c.said) (alike told)) call once ok err asks
 
 -- a request that changes no state, in which the array failed
-pub same_failed : (a b : Mounted) (v u : View) (asked : Request) → goes_on asked ≡ true → (stopped : Bool) → b ≡ record a { is_stopped = stopped } → (denied : Denied)
+pub same_failed : (a b : Mounted) (v u : View) (asked : Request) → goes_on asked ≡ true → (stopped : Bool) → b ≡ record a { is_stopped = stopped } → (denied : Denied) → stopped ≡ (a.is_stopped || stops_array (Array denied))
     → Moves v u Same Same → ((e : ℕ) → u.sizes e ≡ v.sizes e) → (IsTrue v.tells → u.now ≡ v.now) → IsReady b u → HasRisen a (Array denied) v u
     → ((offset : ℕ) → denied ≡ Damaged offset → IsTrue v.tells → HasBadRecord a.g a.index v.now.disks offset) → (denied ≡ Stopped) ↔ (AsksBlock a.g asked × (a.is_stopped ≡ true))
     → AnswersLine a b (Err (Array denied)) asked v u
-same_failed a b v u asked more stopped same denied moves sizes alike ready risen bad exact =
-    line_struck a b v u asked denied (same_struck a v u asked more moves denied risen) sizes (stays_same (a.g.members + 1) v u alike) ready (same_goes a b stopped same) risen
+same_failed a b v u asked more stopped same denied stops moves sizes alike ready risen bad exact =
+    line_struck a b v u asked denied (same_struck a v u asked more moves denied risen)
+    (ap (λ (m : Mounted). m.is_stopped) same ∙ stops) (λ told. ap (λ (c : Contents). c.said) (alike told)) sizes (stays_same (a.g.members + 1) v u alike) ready (same_goes a b stopped same) risen
     (names_same a b v u stopped same moves.tells alike denied bad) exact
 
 -- no call at all
@@ -326,7 +409,8 @@ pub line_quits : (a : Mounted) (v : View) → IsReady a v → AnswersLine a a (O
 line_quits a v ready = record {
   steps = nothing_done v (Answers a v Q) (HasAnswered a v (Ok Quit) Q) (λ x was s stands. record { ends = refl; said = refl; holds = holds_own a s x.disks (stands x was) });
   stands = λ s stands. stands;
-  stopped = refl;
+  stopped = or_false a.is_stopped;
+  speaks = λ told. refl;
   denied = (λ is. cc is, λ both. absurd both.0);
   ready = ready;
   goes_on = record { g = refl; lost = refl; rebuilt = refl };
@@ -369,19 +453,19 @@ shown as_reply reply filled bytes is says = says ∙ ap as_reply (sym is)
 
 -- The line has no form.
 pub bad_replied : (a : Mounted) (v w : View) (result : Result Next SessionFault) → IsReady a v
-    → Says (reply_text (No NoLine)) result v w → IfOk result (λ next. next ≡ More) → IfErr result (λ fault. fault ≡ WriteFault)
+    → Says (reply_text (No NoLine)) result v w → SaidInOneCall v w → IfOk result (λ next. next ≡ More) → IfErr result (λ fault. fault ≡ WriteFault)
     → AnswersLine a a result Bad v w
-bad_replied a v w result ready call ok err = same_replied a a v v w Bad refl (λ s. refl) a.is_stopped refl refl (No NoLine) result
-    (λ told s stands. refl) (no_call v) (λ e. refl) (λ told. refl) ready call ok err (λ asks stopped. asks)
+bad_replied a v w result ready call once ok err = same_replied a a v v w Bad refl (λ s. refl) a.is_stopped refl refl (No NoLine) result
+    (λ told s stands. refl) (no_call v) (λ e. refl) (λ told. refl) ready call once ok err (λ asks stopped. asks)
 
 -- The line asks for the numbers of the history.
 pub info_replied : (a : Mounted) (v w : View) (first last base_time last_time : ℕ) (result : Result Next SessionFault) → IsReady a v
     → ((s : State) (disks : Disks) → StandsFor a s disks → (step a.g).reply s Info ≡ Span first last base_time last_time)
-    → Says (reply_text (Span first last base_time last_time)) result v w → IfOk result (λ next. next ≡ More) → IfErr result (λ fault. fault ≡ WriteFault)
+    → Says (reply_text (Span first last base_time last_time)) result v w → SaidInOneCall v w → IfOk result (λ next. next ≡ More) → IfErr result (λ fault. fault ≡ WriteFault)
     → AnswersLine a a result Info v w
-info_replied a v w first last base_time last_time result ready span call ok err =
+info_replied a v w first last base_time last_time result ready span call once ok err =
     same_replied a a v v w Info refl (λ s. refl) a.is_stopped refl refl (Span first last base_time last_time) result
-    (λ told s stands. span s v.now.disks (stands v.now (read_is_left v told))) (no_call v) (λ e. refl) (λ told. refl) ready call ok err (λ asks stopped. asks)
+    (λ told s stands. span s v.now.disks (stands v.now (read_is_left v told))) (no_call v) (λ e. refl) (λ told. refl) ready call once ok err (λ asks stopped. asks)
 
 -- an array that isn't stopped doesn't say that it is
 pub not_both : (b : Bool) → b ≡ false → b ≡ true → ⊥
@@ -420,3 +504,13 @@ refused_not_denied call why is exact p q = cc (is, exact.1 (p, q))
 -- what the array denied is what is handed on
 pub denied_as : {T : Type 0} {P : Type 0} (call : Result T Denied) (denied : Denied) → call ≡ Err denied → (call ≡ Err Stopped) ↔ P → (denied ≡ Stopped) ↔ P
 denied_as call denied is exact = (λ same. exact.0 (is ∙ ap Err same), λ p. cc (is, exact.1 p))
+
+-- the reply is said by one call
+pub one_say : {T E : Type 0} (piece : List ℕ) (result : Result T E) (u w : View) → IsLawful u → Says piece result u w → SaidInOneCall u w
+one_say piece result u w lawful call told by_one = record {
+  before = u.moment;
+  last_call = call.goes.by_one told (subst IsTrue call.goes.way by_one);
+  entry = u.now;
+  left = call.time.keeps u.moment u.now (omega arith) (lawful.counts_now u.moment told (omega arith));
+  said = refl;
+}

@@ -1,5 +1,6 @@
 -- The loop over lines, over a mounted array: how its run of calls begins, goes on and stops.
-use Rattle.std.proofs.Common.{◌≡◌, ℕ, ◌<◌, List, [], ◌∷◌, ◌++◌, length, drop, Some, Result, Ok, Err, OnOk, IfErr, IsTrue, false, refl, sym, subst}
+use Rattle.std.proofs.Common.{◌≡◌, ⊎_elim, ℕ, ◌+◌, ◌<◌, ◌≤◌, Bool, true, ◌||◌, List, [], ◌∷◌, ◌++◌, length, drop, Some, Result, Ok, Err, IfErr, IsTrue, false, refl, sym, ap, subst, ◌∙◌, arith}
+use Rattle.std.specs.Io.KnownBytes.{IsAtEnd}
 use Rattle.trap_bank.specs.Disks.{Contents, View}
 use Rattle.trap_bank.specs.Calls.{MayLeave}
 use Rattle.trap_bank.specs.Steps.{Steps, Always}
@@ -8,20 +9,27 @@ use Rattle.trap_bank.proofs.Moves.{then_, weaken, nothing_done, read_is_left}
 use Rattle.trap_model.specs.ArrayStep.{step}
 use Rattle.trap_model.specs.declared.numbers.Geometry.{Geometry}
 use Rattle.trap_model.specs.declared.history.State.{State}
-use Rattle.trap_script.specs.Lines.{lines, line_feeds, request_of, HasNoFeed}
+use Rattle.trap_model.specs.declared.request.Request.{Request}
+use Rattle.trap_script.specs.Lines.{lines, line_feeds, request_of, goes_on, HasNoFeed}
 use Rattle.trap_script.specs.Walk.{state_after}
-use Rattle.trap_array.specs.Calls.{Mounted, StandsFor, GoesOn}
+use Rattle.trap_script.proofs.WalkLemmas.{state_after-next}
+use Rattle.trap_script.proofs.InputLemmas.{true_or_false}
+use Rattle.trap_script.proofs.GivenLemmas.{below_end}
+use Rattle.trap_array.specs.Calls.{Mounted, StandsFor, IsReady, GoesOn}
 use Rattle.trap_array.specs.declared.fault.Denied.TheVariants.{Refused, LogFault, MemberFault, Damaged, Stopped}
 use Rattle.trap_session.specs.Store.{array_store, Answering, Served, StandsForNone, HasRisen}
-use Rattle.trap_session.specs.Answers.{Answers, HasAnswered, AnswersLine}
-use Rattle.trap_session.specs.Serving.{Serves, HasStopped, StopsAs, StopsBy, StopsAtPort, HoldsStill}
+use Rattle.trap_session.specs.Answers.{Answers, HasAnswered, StandsOn, is_stopping, UnlessFailed, AnswersLine}
+use Rattle.trap_session.specs.Serving.{Serves, HasStopped, StopsAs, StopsBy, StopsAtPort, HoldsStill, Took}
+use Rattle.trap_session.specs.Leaving.{StandsAfter, HasServed}
 use Rattle.trap_session.specs.declared.outcome.Next.{Next}
 use Rattle.trap_session.specs.declared.outcome.Next.TheVariants.{More, Quit}
 use Rattle.trap_session.specs.declared.outcome.Ended.{Ended}
+use Rattle.trap_session.specs.declared.outcome.Ended.TheVariants as ended
 use Rattle.trap_session.specs.declared.outcome.SessionFault.{SessionFault}
 use Rattle.trap_session.specs.declared.outcome.SessionFault.TheVariants.{Array, ReadFault, WriteFault, TooLong}
 use Rattle.trap_session.proofs.Walking.{Walked, walk_start}
-use Rattle.trap_session.proofs.Replying.{holds_own, holds_on, not_both}
+use Rattle.trap_session.proofs.Replying.{holds_own, holds_on, not_both, unless_failed, unless_also}
+use Rattle.trap_session.proofs.Quits.{quit_stays}
 use Rattle.trap_session.proofs.Arrays.{array_answers, array_torn, answering_first, served_first, served_some, risen_first, goes_then}
 use Rattle.trap_session.proofs.Stopping.{part_line, more_line, more_state, quit_line, fault_line, part_last, done_last, fault_last}
 
@@ -38,10 +46,6 @@ Walks a v from passed turn old now = (s : State) → Always v (StandsFor a s) �
 -- whatever state the array stood for on entry, it stands for the turned one
 abbrev pub Turns : Mounted → Mounted → View → View → (State → State) → Type 0
 Turns a b v w turn = (s : State) → Always v (StandsFor a s) → Always w (StandsFor b (turn s))
-
--- what an Ok says
-pub on_ok : {T E P : Type 0} {r : Result T E} {v : T} → r ≡ Ok v → OnOk r P → P
-on_ok {P = P} is holds = subst (λ r. OnOk r P) is holds
 
 module _ (a : Mounted) (v : View) (from : Stream) where
   pub run_begins : Steps v v (Serves a v from) (Walks a v from [] (λ s. s))
@@ -60,6 +64,28 @@ module _ (a : Mounted) (v : View) (from : Stream) where
     -- so far the disks hold a state
     pub held_so_far : HoldsStill a v w
     held_so_far told s stands = (turn s, holds_on a b (turn s) w.now.disks goes (turns s stands w.now (read_is_left w (told_now told))))
+
+    -- and the array stands for a state
+    stands_so_far : IsTrue v.tells → (s : State) → Always v (StandsFor a s) → StandsAfter a b s w from
+    stands_so_far told s stands = record {
+      state = turn s;
+      stands = turns s stands;
+      after = λ input known.
+          let walks = (steps.now w.now (read_is_left w (told_now told))).by s stands input known in
+          (line_feeds passed, walks.walked.answered.within, sym walks.state_);
+    }
+
+    -- what the session leaves where no other line was answered
+    pub served_so_far : (result : Result Ended SessionFault) (to : Stream) → b.is_stopped ≡ false → IsReady b w → is_stopping result ≡ false → Took from to
+        → (result ≡ Ok ended.Input → IsAtEnd to.left) → HasServed a b result v w from to
+    served_so_far result to going ready none took all = record {
+      goes_on = goes;
+      stopped = going ∙ sym none;
+      ready = ready;
+      stands = unless_failed result stands_so_far;
+      took = took;
+      all = all;
+    }
 
     -- it stops without another call
     pub run_ends : (result : Result Ended SessionFault) (to : Stream)
@@ -93,6 +119,62 @@ module _ (a : Mounted) (v : View) (from : Stream) where
       held_behind told s stands =
           let came = asked_first.steps.now u.now (read_is_left u (subst IsTrue (sym asked_first.steps.tells) (told_now told))) in
           served_some a next (turn s) (request_of a.g.block line) came.origin u.now (served_now s stands came.origin u.now came.by)
+
+      -- the array behind it
+      module _ (ahead : (s : State) (input : List ℕ) → from.left ≡ Some input → (x y : Contents) → Walked (array_store a) s input passed x y
+          → goes_on (request_of a.g.block line) ≡ true → (rest : List Request) × (drop (line_feeds passed) (lines a.g.block input) ≡ request_of a.g.block line ∷ rest)) where
+        stands_behind : StandsOn b c (request_of a.g.block line) w u → IsTrue v.tells → (s : State) → Always v (StandsFor a s) → StandsAfter a c s u from
+        stands_behind on told s stands = record {
+          state = (step a.g).next (turn s) (request_of a.g.block line);
+          stands = subst (λ (g : Geometry). Always u (StandsFor c ((step g).next (turn s) (request_of a.g.block line)))) goes.g (on (turn s) (turns s stands));
+          after = λ input known.
+              let came = steps.now w.now (read_is_left w (told_now told)) in
+              let walks = came.by s stands input known in
+              after_next input walks.walked.answered.within walks.state_
+              (λ more. ahead s input known came.origin w.now walks.walked more);
+        }
+          where
+            after_next : (input : List ℕ) → line_feeds passed ≤ length (lines a.g.block input)
+                → state_after (step a.g) s (lines a.g.block input) (line_feeds passed) ≡ turn s
+                → (goes_on (request_of a.g.block line) ≡ true → (rest : List Request) × (drop (line_feeds passed) (lines a.g.block input) ≡ request_of a.g.block line ∷ rest))
+                → (j : ℕ) × (j ≤ length (lines a.g.block input)) × ((step a.g).next (turn s) (request_of a.g.block line) ≡ state_after (step a.g) s (lines a.g.block input) j)
+            after_next input within same next = ⊎_elim
+                (λ (more : goes_on (request_of a.g.block line) ≡ true).
+                let at = next more in
+                let below = below_end (lines a.g.block input) (line_feeds passed) (request_of a.g.block line) at.0 at.1 in
+                (
+                  line_feeds passed + 1,
+                  omega (arith, below),
+                  ap (λ (t : State). (step a.g).next t (request_of a.g.block line)) (sym same)
+                      ∙ sym (state_after-next (step a.g) s (lines a.g.block input) (line_feeds passed) (request_of a.g.block line) at.0 at.1),
+                ))
+                (λ (quit : goes_on (request_of a.g.block line) ≡ false).
+                (line_feeds passed, within, quit_stays a.g (turn s) (request_of a.g.block line) quit ∙ sym same))
+                (true_or_false (goes_on (request_of a.g.block line)))
+
+        stands_unless : UnlessFailed next (IsTrue v.tells → (s : State) → Always v (StandsFor a s) → StandsAfter a c s u from)
+        stands_unless = unless_also next stands_behind asked_first.stands
+
+        pub served_fault : (to : Stream) (fault : SessionFault) → next ≡ Err fault → b.is_stopped ≡ false → Took from to → HasServed a c (Err fault) v u from to
+        served_fault to fault is going took = record {
+          goes_on = goes_further;
+          stopped = answers.stopped ∙ ap (λ (was : Bool). was || is_stopping next) going ∙ ap is_stopping is;
+          ready = answers.ready;
+          stands = subst (λ (r : Result Next SessionFault). UnlessFailed r (IsTrue v.tells → (s : State) → Always v (StandsFor a s) → StandsAfter a c s u from)) is stands_unless;
+          took = took;
+          all = λ none. absurd (cc none);
+        }
+
+        pub served_ok : (to : Stream) (at_end : Ended) (way : Next) → next ≡ Ok way → b.is_stopped ≡ false → Took from to
+            → (◌≡◌ {A = Result Ended SessionFault} (Ok at_end) (Ok ended.Input) → IsAtEnd to.left) → HasServed a c (Ok at_end) v u from to
+        served_ok to at_end way is going took all = record {
+          goes_on = goes_further;
+          stopped = answers.stopped ∙ ap (λ (was : Bool). was || is_stopping next) going ∙ ap is_stopping is;
+          ready = answers.ready;
+          stands = subst (λ (r : Result Next SessionFault). UnlessFailed r (IsTrue v.tells → (s : State) → Always v (StandsFor a s) → StandsAfter a c s u from)) is stands_unless;
+          took = took;
+          all = all;
+        }
 
       -- after another line, whatever it does
       after_line : (After : Contents → Contents → Type 0)
@@ -132,7 +214,7 @@ module _ (a : Mounted) (v : View) (from : Stream) where
 
         pub line_turns : next ≡ Ok More → Turns a c v u (λ s. (step a.g).next (turn s) (request_of a.g.block line))
         line_turns is s stands = subst (λ (g : Geometry). Always u (StandsFor c ((step g).next (turn s) (request_of a.g.block line)))) goes.g
-            (on_ok is asked_first.stands (turn s) (turns s stands))
+            (subst (λ (r : Result Next SessionFault). UnlessFailed r (StandsOn b c (request_of a.g.block line) w u)) is asked_first.stands (turn s) (turns s stands))
 
         pub line_quit : (to : Stream) (ended : Ended) → next ≡ Ok Quit → Steps v u (Serves a v from) (HasStopped a v (Ok ended) from to)
         line_quit to ended is = after_line (HasStopped a v (Ok ended) from to) line_part (stopped (Ok ended) to (λ s input known x y z walks served.

@@ -1,9 +1,9 @@
 -- How a walk over lines goes on and stops, over any store whose machine replies to every request but `Q`.
-use Rattle.std.proofs.Common.{◌≡◌, ◌⊎◌, inr, ℕ, ◌-◌, ◌<◌, ◌≤◌, List, [], ◌∷◌, ◌++◌, length, take, drop, Option, Some, None, true, false, Result, Ok, Err, refl, sym, ap, subst, ◌∙◌, append_assoc, length-append, length-take, length-drop, arith}
+use Rattle.std.proofs.Common.{◌≡◌, ◌⊎◌, inl, inr, ℕ, ◌+◌, ◌-◌, ◌<◌, ◌≤◌, ◌↔◌, Bool, List, [], ◌∷◌, ◌++◌, length, take, drop, Option, Some, None, true, false, Result, Ok, Err, refl, sym, ap, subst, ◌∙◌, append_assoc, length-append, length-take, length-drop, arith}
 use Rattle.std.specs.Io.KnownBytes.{Consumes, IsAtEnd, prepend_known}
 use Rattle.std.proofs.KnownBytes.{prepend_known-nil, Consumes-trans}
 use Rattle.std.proofs.Math.Seq.{take-append_seam}
-use Rattle.trap_bank.specs.Disks.{Contents, Disks}
+use Rattle.trap_bank.specs.Disks.{Contents, Disks, View}
 use Rattle.trap_bank.specs.Stream.{Stream}
 use Rattle.trap_model.specs.declared.request.Request.{Request}
 use Rattle.trap_script.specs.Lines.{lines, line_feeds, request_of, goes_on, HasNoFeed}
@@ -12,14 +12,15 @@ use Rattle.trap_script.proofs.WalkLemmas.{state_after-next}
 use Rattle.trap_script.proofs.InputLemmas.{lines-quit, lines-last_quit, line_feeds-front, line_feeds-line, passed_from, next_passed}
 use Rattle.trap_script.proofs.GivenLemmas.{AnswersByLines}
 use Rattle.trap_lines.specs.declared.reader.LineReader.{LineReader}
-use Rattle.trap_lines.specs.Reader.{pending, to_come, taken, Passes}
+use Rattle.trap_lines.specs.Reader.{pending, to_come, taken, Passes, IsEnd}
 use Rattle.trap_lines.proofs.Passing.{passes_trans}
 use Rattle.trap_session.specs.declared.outcome.Next.{Next}
 use Rattle.trap_session.specs.declared.outcome.Next.TheVariants.{More, Quit}
 use Rattle.trap_session.specs.declared.outcome.SessionFault.{SessionFault}
 use Rattle.trap_session.specs.declared.outcome.SessionFault.TheVariants.{Array, ReadFault, WriteFault, TooLong}
 use Rattle.trap_session.specs.Store.{Store, Served, Struck, Answering}
-use Rattle.trap_session.specs.Serving.{StopsAs, StopsDone, StopsAfter, StopsReading, StopsAtPort, StopsTorn, AreWholeLines, TookQuit, bytes_taken}
+use Rattle.trap_array.specs.Calls.{Mounted}
+use Rattle.trap_session.specs.Serving.{StopsAs, StopsBy, StopsDone, StopsAfter, StopsReading, StopsAtPort, StopsTorn, AreWholeLines, Took, TookQuit, ended_by, bytes_taken}
 use Rattle.trap_session.proofs.Arrays.{comes_also}
 use Rattle.trap_session.proofs.Walking.{Walked, next_line, next_last, walk_on, stops_done, stops_last, stops_torn, stops_at_port, stops_part, last_here}
 
@@ -151,42 +152,96 @@ stops_end store st input passed old now walked here =
 pub one_more_line : (passed line : List ℕ) → AreWholeLines (passed ++ (line ++ 10 ∷ []))
 one_more_line passed line = inr (passed ++ line, sym (append_assoc passed line (10 ∷ [])))
 
+-- a reader that had taken nothing took these bytes and those that are pending
+module _ (r0 r' : LineReader) (s0 s' : Stream) (passed : List ℕ) (none0 : pending r0 ≡ []) (untaken : taken r0 ≡ 0)
+    (inside : r'.end ≤ length r'.chunk.items) (passes : Passes passed r0 r' s0 s') where
+  taken_bytes : Consumes s0.left s'.left (passed ++ pending r')
+  taken_bytes =
+      let start : Consumes s0.left (to_come r' s') passed =
+      subst (λ o. Consumes o (to_come r' s') passed) (ap (λ l. prepend_known l s0.left) none0 ∙ prepend_known-nil s0.left) passes.bytes in
+      Consumes-trans s0.left (to_come r' s') s'.left passed (pending r') start (consumes_pending s'.left (pending r'))
+    where
+      consumes_pending : (left : Option (List ℕ)) (bytes : List ℕ) → Consumes (prepend_known bytes left) left bytes
+      consumes_pending None bytes = tt
+      consumes_pending (Some rest) bytes = refl
+
+  bytes_long : length (passed ++ pending r') ≡ taken r'
+  bytes_long =
+      let used = passes.used in
+      omega (
+        arith,
+        used,
+        untaken,
+        inside,
+        length-append passed (pending r'),
+        length-take (r'.end - r'.at) (drop r'.at r'.chunk.items),
+        length-drop r'.at r'.chunk.items,
+      )
+
+  bytes_given : s'.given ≡ s0.given + length (passed ++ pending r')
+  bytes_given = let given = passes.given in let long = bytes_long in omega (arith, given, long, untaken)
+
+  pub took_some : Took s0 s'
+  took_some = record {
+    bytes = passed ++ pending r';
+    taken = taken_bytes;
+    given = bytes_given;
+    most = let long = bytes_long in let most = r'.at_most in omega (arith, long, most);
+  }
+
 -- a `Q` was taken
 pub took_quit : (size : ℕ) (r0 r r' : LineReader) (s0 s s' : Stream) (passed line : List ℕ) → pending r0 ≡ [] → taken r0 ≡ 0
     → r'.end ≤ length r'.chunk.items → AreWholeLines passed
     → Passes passed r0 r s0 s → Passes (line ++ 10 ∷ []) r r' s s' → HasNoFeed line → goes_on (request_of size line) ≡ false
     → TookQuit size s0 s'
-took_quit size r0 r r' s0 s s' passed line none0 untaken inside whole before next none quit =
-    let both = passes_trans before next in
-    let bytes = (passed ++ (line ++ 10 ∷ [])) ++ pending r' in
-    let given = both.given in
-    let used = both.used in
-    let start : Consumes s0.left (to_come r' s') (passed ++ (line ++ 10 ∷ [])) =
-    subst (λ o. Consumes o (to_come r' s') (passed ++ (line ++ 10 ∷ []))) (ap (λ l. prepend_known l s0.left) none0 ∙ prepend_known-nil s0.left) both.bytes in
-    record {
-      bytes = bytes;
-      taken = Consumes-trans s0.left (to_come r' s') s'.left (passed ++ (line ++ 10 ∷ [])) (pending r') start (consumes_pending s'.left (pending r'));
-      given = omega (
-        arith,
-        given,
-        used,
-        untaken,
-        inside,
-        length-append (passed ++ (line ++ 10 ∷ [])) (pending r'),
-        length-take (r'.end - r'.at) (drop r'.at r'.chunk.items),
-        length-drop r'.at r'.chunk.items,
-      );
-      has_quit = record {
-        before = passed;
-        line = line;
-        rest = pending r';
-        parts = append_assoc passed (line ++ 10 ∷ []) (pending r') ∙ ap (λ l. passed ++ l) (append_assoc line (10 ∷ []) (pending r'));
-        whole = whole;
-        no_feed = none;
-        quit = quit;
-      };
-    }
+took_quit size r0 r r' s0 s s' passed line none0 untaken inside whole before next none quit = record {
+  bytes = (passed ++ (line ++ 10 ∷ [])) ++ pending r';
+  taken = taken_bytes r0 r' s0 s' (passed ++ (line ++ 10 ∷ [])) none0 untaken inside (passes_trans before next);
+  given = bytes_given r0 r' s0 s' (passed ++ (line ++ 10 ∷ [])) none0 untaken inside (passes_trans before next);
+  has_quit = inl (record {
+    before = passed;
+    line = line;
+    rest = pending r';
+    parts = append_assoc passed (line ++ 10 ∷ []) (pending r') ∙ ap (λ l. passed ++ l) (append_assoc line (10 ∷ []) (pending r'));
+    whole = whole;
+    no_feed = none;
+    quit = quit;
+  });
+}
+
+-- and one without a line feed, at the input's end
+pub took_last_quit : (size : ℕ) (r0 r r' : LineReader) (s0 s s' : Stream) (passed line : List ℕ) → pending r0 ≡ [] → taken r0 ≡ 0
+    → r'.end ≤ length r'.chunk.items → AreWholeLines passed
+    → Passes passed r0 r s0 s → Passes line r r' s s' → IsEnd r' s' → HasNoFeed line → goes_on (request_of size line) ≡ false
+    → TookQuit size s0 s'
+took_last_quit size r0 r r' s0 s s' passed line none0 untaken inside whole before next end none quit = record {
+  bytes = (passed ++ line) ++ pending r';
+  taken = taken_bytes r0 r' s0 s' (passed ++ line) none0 untaken inside (passes_trans before next);
+  given = bytes_given r0 r' s0 s' (passed ++ line) none0 untaken inside (passes_trans before next);
+  has_quit = inr (record {
+    before = passed;
+    line = line;
+    rest = pending r';
+    parts = append_assoc passed line (pending r');
+    whole = whole;
+    no_feed = none;
+    quit = quit;
+    none_left = end.0;
+    ended = end.1;
+  });
+}
+
+-- nothing is left where nothing is to come
+pub none_left : (r : LineReader) (s : Stream) → IsAtEnd (to_come r s) → IsAtEnd s.left
+none_left r s end = behind s.left (pending r) end
   where
-    consumes_pending : (left : Option (List ℕ)) (bytes : List ℕ) → Consumes (prepend_known bytes left) left bytes
-    consumes_pending None bytes = tt
-    consumes_pending (Some rest) bytes = refl
+    behind : (left : Option (List ℕ)) (bytes : List ℕ) → IsAtEnd (prepend_known bytes left) → IsAtEnd left
+    behind None bytes end = tt
+    behind (Some rest) [] end = end
+    behind (Some rest) (byte ∷ bytes) end = absurd (cc end)
+
+-- why a session ended with its last line
+pub ended_last : (a : Mounted) (old new : View) (from to : Stream) (next : Next) (on : Bool) → to.ended ≡ true
+    → (◌≡◌ {A = Result Next SessionFault} (Ok next) (Ok Quit)) ↔ (on ≡ false) → (on ≡ false → TookQuit a.g.block from to) → StopsBy a (Ok (ended_by next)) old new from to
+ended_last a old new from to More on end exact took = end
+ended_last a old new from to Quit on end exact took = took (exact.0 refl)

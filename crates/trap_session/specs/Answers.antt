@@ -1,5 +1,5 @@
 -- What a line does to a mounted array: the state that it stands for is the one after the request, and the reply is said.
-use Rattle.std.specs.Prelude.{◌≡◌, ◌↔◌, ℕ, ◌+◌, ◌<◌, true, Result, Err, OnOk, IfErr}
+use Rattle.std.specs.Prelude.{◌≡◌, ◌↔◌, ℕ, ◌+◌, ◌-◌, ◌^◌, ◌<◌, max, min, true, false, Bool, ◌||◌, IsTrue, Result, Ok, Err, IfErr}
 use Rattle.trap_bank.specs.Disks.{Contents, View}
 use Rattle.trap_bank.specs.Steps.{Steps, Always}
 use Rattle.trap_model.specs.ArrayStep.{step}
@@ -10,11 +10,12 @@ use Rattle.trap_model.specs.declared.request.Request.{Request}
 use Rattle.trap_model.specs.declared.request.Request.TheVariants.{Write, Read, At, By, Info, Keep, Bad, Quit as Q}
 use Rattle.trap_array.specs.Beside.{StaysFrom}
 use Rattle.trap_array.specs.Calls.{Mounted, IsReady, GoesOn, StandsFor}
-use Rattle.trap_array.specs.declared.fault.Denied.TheVariants.{Stopped}
+use Rattle.trap_array.specs.declared.fault.Denied.TheVariants.{Refused, LogFault, MemberFault, Damaged, Stopped}
 use Rattle.trap_session.specs.Store.{array_store, Served, Answering, HasRisen, NamesBad}
 use Rattle.trap_session.specs.declared.outcome.Next.{Next}
+use Rattle.trap_session.specs.declared.outcome.Next.TheVariants.{More, Quit}
 use Rattle.trap_session.specs.declared.outcome.SessionFault.{SessionFault}
-use Rattle.trap_session.specs.declared.outcome.SessionFault.TheVariants.{Array}
+use Rattle.trap_session.specs.declared.outcome.SessionFault.TheVariants.{Array, ReadFault, WriteFault, TooLong}
 
 -- At any moment, whatever state the array stood for on entry: this is what a crash leaves while the line is answered.
 abbrev pub Answers : Mounted → View → Request → Contents → Contents → Type 0
@@ -30,6 +31,60 @@ abbrev pub StandsOn : Mounted → Mounted → Request → View → View → Type
 StandsOn a b asked old new =
     (s : State) → Always old (StandsFor a s) → Always new (StandsFor b ((step a.g).next s asked))
 
+-- the fault of a disk stops the array
+abbrev pub stops_array : SessionFault → Bool
+stops_array (Array (Refused why)) = false
+stops_array (Array LogFault) = true
+stops_array (Array (MemberFault first second)) = true
+stops_array (Array (Damaged offset)) = false
+stops_array (Array Stopped) = false
+stops_array ReadFault = false
+stops_array WriteFault = false
+stops_array TooLong = false
+
+abbrev pub is_stopping : {T : Type 0} → Result T SessionFault → Bool
+is_stopping (Ok value) = false
+is_stopping (Err fault) = stops_array fault
+
+-- the claim, unless the fault is a disk's, or the array was stopped
+abbrev pub UnlessStopped : SessionFault → Type 0 → Type 0
+UnlessStopped (Array (Refused why)) claim = claim
+UnlessStopped (Array LogFault) claim = Unit {0}
+UnlessStopped (Array (MemberFault first second)) claim = Unit {0}
+UnlessStopped (Array (Damaged offset)) claim = claim
+UnlessStopped (Array Stopped) claim = Unit {0}
+UnlessStopped ReadFault claim = claim
+UnlessStopped WriteFault claim = claim
+UnlessStopped TooLong claim = claim
+
+abbrev pub UnlessFailed : {T : Type 0} → Result T SessionFault → Type 0 → Type 0
+UnlessFailed (Ok value) claim = claim
+UnlessFailed (Err fault) claim = UnlessStopped fault claim
+
+-- one call of the bank ago, nothing had been said: a crash then may have left what was said on entry
+pub record SaidSinceLastCall (old new : View) : Type 0 where
+  pub before : ℕ
+  pub last_call : new.moment ≡ max before (min (before + 1) (2 ^ 64 - 1))
+  pub entry : Contents
+  pub left : new.left before entry
+  pub said : entry.said ≡ old.now.said
+
+-- where the bank tells, and each call raises the moment by one: all that was said was said in one call
+abbrev pub SaidInOneCall : View → View → Type 0
+SaidInOneCall old new = IsTrue old.tells → IsTrue new.by_one → SaidSinceLastCall old new
+
+abbrev pub SaidNothing : View → View → Type 0
+SaidNothing old new = IsTrue old.tells → new.now.said ≡ old.now.said
+
+-- A reply is said in one call. Where there is none, nothing is said.
+abbrev pub Speaks : Result Next SessionFault → View → View → Type 0
+Speaks (Ok More) old new = SaidInOneCall old new
+Speaks (Ok Quit) old new = SaidNothing old new
+Speaks (Err (Array denied)) old new = SaidNothing old new
+Speaks (Err ReadFault) old new = SaidNothing old new
+Speaks (Err WriteFault) old new = SaidInOneCall old new
+Speaks (Err TooLong) old new = SaidNothing old new
+
 -- the request is one of a block that the array has
 abbrev pub AsksBlock : Geometry → Request → Type 0
 AsksBlock g (Write time block bytes) = block < volume g
@@ -41,12 +96,14 @@ AsksBlock g Info = ⊥
 AsksBlock g Q = ⊥
 AsksBlock g Bad = ⊥
 
--- One line and its reply, over the array before and after it. A reply comes when the request is committed; after a
--- fault the array may stand for either state. A stopped array answers all but requests of its blocks.
+-- One line and its reply, over the array before and after it. A reply comes when the request is committed, in one call;
+-- after the fault of a disk the array is stopped, and the disks may hold either state. A stopped array answers all but
+-- requests of its blocks.
 pub record AnswersLine (a b : Mounted) (result : Result Next SessionFault) (asked : Request) (old new : View) : Type 0 where
   pub steps : Steps old new (Answers a old asked) (HasAnswered a old result asked)
-  pub stands : OnOk result (StandsOn a b asked old new)
-  pub stopped : OnOk result (b.is_stopped ≡ a.is_stopped)
+  pub stands : UnlessFailed result (StandsOn a b asked old new)
+  pub stopped : b.is_stopped ≡ (a.is_stopped || is_stopping result)
+  pub speaks : Speaks result old new
   pub denied : (result ≡ Err (Array Stopped)) ↔ (AsksBlock a.g asked × (a.is_stopped ≡ true))
   pub ready : IsReady b new
   pub goes_on : GoesOn a b

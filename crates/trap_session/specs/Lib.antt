@@ -3,3 +3,4 @@ pub mod Forms
 pub mod Denying
 pub mod Answers
 pub mod Serving
+pub mod Leaving

@@ -1,17 +1,19 @@
 -- How a session stops, and what a crash leaves while it goes on.
-use Rattle.std.specs.Prelude.{◌≡◌, ◌⊎◌, ℕ, ◌+◌, ◌-◌, ◌^◌, List, [], ◌∷◌, ◌++◌, length, take, drop, Some, true, false, IsTrue, Result, Ok, Err}
-use Rattle.std.specs.Io.KnownBytes.{Consumes}
+use Rattle.std.specs.Prelude.{◌≡◌, ◌⊎◌, ℕ, ◌+◌, ◌-◌, ◌^◌, ◌≤◌, List, [], ◌∷◌, ◌++◌, length, take, drop, All, Some, true, false, IsTrue, Result, Ok, Err}
+use Rattle.std.specs.Io.KnownBytes.{Consumes, IsAtEnd, prepend_known}
 use Rattle.trap_bank.specs.Faults.{Rose}
 use Rattle.trap_bank.specs.Disks.{Contents, View}
 use Rattle.trap_bank.specs.Stream.{Stream}
 use Rattle.trap_model.specs.declared.request.Request.{Request}
-use Rattle.trap_script.specs.Lines.{lines, line_feeds, request_of, goes_on, HasNoFeed}
+use Rattle.trap_script.specs.Lines.{lines, lines_of, line_feeds, request_of, goes_on, HasNoFeed}
 use Rattle.trap_script.specs.Walk.{state_after, first_texts, Answered, AnsweredAll, AnsweredPart}
 use Rattle.trap_bank.specs.Steps.{Always}
 use Rattle.trap_model.specs.declared.history.State.{State}
 use Rattle.trap_array.specs.Calls.{Mounted, StandsFor, HoldsLike}
 use Rattle.trap_array.specs.declared.fault.Denied.TheVariants.{Stopped}
 use Rattle.trap_session.specs.Store.{Store, array_store, ComesWith, HasRisen}
+use Rattle.trap_session.specs.declared.outcome.Next.{Next}
+use Rattle.trap_session.specs.declared.outcome.Next.TheVariants.{More, Quit}
 use Rattle.trap_session.specs.declared.outcome.Ended.{Ended}
 use Rattle.trap_session.specs.declared.outcome.Ended.TheVariants as ended
 use Rattle.trap_session.specs.declared.outcome.SessionFault.{SessionFault}
@@ -72,16 +74,41 @@ pub record HasQuit (size : ℕ) (bytes : List ℕ) : Type 0 where
   pub no_feed : HasNoFeed line
   pub quit : goes_on (request_of size line) ≡ false
 
--- from the source came bytes with a `Q` among their lines
+-- the bytes' last line is a `Q` without a line feed: the input ends after it, as far as the source tells
+pub record EndsInQuit (size : ℕ) (bytes : List ℕ) (to : Stream) : Type 0 where
+  pub before : List ℕ
+  pub line : List ℕ
+  pub rest : List ℕ
+  pub parts : bytes ≡ before ++ (line ++ rest)
+  pub whole : AreWholeLines before
+  pub no_feed : HasNoFeed line
+  pub quit : goes_on (request_of size line) ≡ false
+  pub none_left : IsAtEnd (prepend_known rest to.left)
+  pub ended : to.ended ≡ true
+
+-- from the source came bytes with a `Q` among their lines: a whole line, or the last one, which the input's end ends
 pub record TookQuit (size : ℕ) (from to : Stream) : Type 0 where
   pub bytes : List ℕ
   pub taken : Consumes from.left to.left bytes
   pub given : to.given ≡ from.given + length bytes
-  pub has_quit : HasQuit size bytes
+  pub has_quit : HasQuit size bytes ⊎ EndsInQuit size bytes to
 
--- where the input is known, none of its whole lines is a `Q`
+-- where the input is known, none of its lines is a `Q`
 abbrev pub HadNoQuit : ℕ → Stream → Type 0
-HadNoQuit size from = (input : List ℕ) → from.left ≡ Some input → HasQuit size input → ⊥
+HadNoQuit size from =
+    (input : List ℕ) → from.left ≡ Some input → All (λ line. goes_on (request_of size line) ≡ true) (lines_of input)
+
+-- the next bytes of the source were taken, at most 2^40 of them
+pub record Took (from to : Stream) : Type 0 where
+  pub bytes : List ℕ
+  pub taken : Consumes from.left to.left bytes
+  pub given : to.given ≡ from.given + length bytes
+  pub most : length bytes ≤ 2 ^ 40
+
+-- how a session ends after its last line
+abbrev pub ended_by : Next → Ended
+ended_by More = ended.Input
+ended_by Quit = ended.Quit
 
 -- Why a session stops so. It begins with an array that isn't stopped, and no session goes on behind a fault.
 abbrev pub StopsBy : Mounted → Result Ended SessionFault → View → View → Stream → Stream → Type 0

@@ -16,7 +16,7 @@ pub enum Next {
 pub enum Ended {
     /// A line was `Q`.
     Quit,
-    /// The input ended before one. A last `Q` without a line feed is no such line.
+    /// The input ended before one.
     Input,
 }
 

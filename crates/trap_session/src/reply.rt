@@ -3,6 +3,7 @@
 ghost use Rattle.std.specs.Prelude.{◌≡◌, ◌+◌, ◌*◌, ◌≤◌, length, IfOk, IfErr};
 ghost use Rattle.trap_bank.specs.Calls.{Says};
 ghost use Rattle.trap_script.specs.Replies.{reply_text, reply_from, shown_len};
+ghost use Rattle.trap_session.specs.Answers.{SaidInOneCall};
 ghost use Rattle.trap_session.specs.Denying.{EndsSession};
 
 use crate::{Next, SessionFault};
@@ -19,6 +20,7 @@ pub fn say_answer<B: Bank>(
 ) -> Result<Next, SessionFault>
     requires { 88 + 2 * shown_len answer.now ≤ length out.old }
     ensures says { Says (reply_text (reply_from answer.now)) result (B.view bank.old) (B.view bank.new) }
+    ensures once { SaidInOneCall (B.view bank.old) (B.view bank.new) }
     ensures more { IfOk result (λ next. next ≡ Next.More) }
     ensures port { IfErr result (λ fault. fault ≡ SessionFault.WriteFault) }
 {

@@ -6,13 +6,24 @@ ghost use Rattle.trap_lines.specs.Reader.{pending, taken, room};
 ghost use Rattle.trap_array.specs.Beside.{StaysFrom};
 ghost use Rattle.trap_array.specs.Calls.{IsReady};
 ghost use Rattle.trap_session.specs.Store.{NamesBad};
-ghost use Rattle.trap_session.specs.Serving.{Serves, HasStopped, StopsBy, HadNoQuit, HoldsStill};
+ghost use Rattle.trap_session.specs.Leaving.{HasServed};
+ghost use Rattle.trap_session.specs.Serving.{Serves, HasStopped, StopsBy, HadNoQuit, HoldsStill, ended_by};
 
 use crate::buffers::Buffers;
 use crate::{Ended, Next, SessionFault};
 use trap_array::Array;
 use trap_bank::{Bank, Source};
 use trap_lines::{Found, LineReader, ReadFault};
+
+// A last line without a line feed may be a `Q` too.
+fn ended_by(next: Next) -> Ended
+    ensures { result ≡ ended_by next }
+{
+    match next {
+        Next::More => Ended::Input,
+        Next::Quit => Ended::Quit,
+    }
+}
 
 // Answers line after line, up to a `Q` or the end of the input.
 pub fn serve<B: Bank, S: Source>(
@@ -39,6 +50,8 @@ pub fn serve<B: Bank, S: Source>(
     ensures held { HoldsStill array.old (B.view bank.old) (B.view bank.new) }
     ensures sizes { (e : ℕ) → (B.view bank.new).sizes e ≡ (B.view bank.old).sizes e }
     ensures others { StaysFrom (array.old.g.members + 1) (B.view bank.old) (B.view bank.new) }
+    ensures leaves { HasServed array.old array.new result (B.view bank.old) (B.view bank.new)
+        (S.stream source.old) (S.stream source.new) }
 {
     'lines: loop {
         match reader.next(source) {
@@ -46,9 +59,9 @@ pub fn serve<B: Bank, S: Source>(
             Err(ReadFault::TooLong) => return Err(SessionFault::TooLong),
             Ok(Found::End) => return Ok(Ended::Input),
             Ok(Found::Last { len }) => {
-                // The end of the input ends this line, and the session behind it, whatever the line is.
-                buffers.answer_found(array, bank, reader, len)?;
-                return Ok(Ended::Input);
+                // The end of the input ends this line, and the session after it.
+                let next = buffers.answer_found(array, bank, reader, len)?;
+                return Ok(ended_by(next));
             }
             Ok(Found::Line { len }) => match buffers.answer_found(array, bank, reader, len)? {
                 Next::More => {}

@@ -7,6 +7,7 @@ ghost use Rattle.trap_array.specs.Beside.{StaysFrom};
 ghost use Rattle.trap_array.specs.Calls.{IsReady};
 ghost use Rattle.trap_session.specs.Answers.{AnswersLine};
 ghost use Rattle.trap_session.specs.Store.{NamesBad};
+ghost use Rattle.trap_session.specs.Leaving.{HasServed};
 ghost use Rattle.trap_session.specs.Serving.{Serves, HasStopped, StopsBy, HadNoQuit, HoldsStill};
 
 use crate::buffers::Buffers;
@@ -89,6 +90,8 @@ impl Session {
         ensures held { HoldsStill array.old (B.view bank.old) (B.view bank.new) }
         ensures sizes { (e : ℕ) → (B.view bank.new).sizes e ≡ (B.view bank.old).sizes e }
         ensures others { StaysFrom (array.old.g.members + 1) (B.view bank.old) (B.view bank.new) }
+        ensures leaves { HasServed array.old array.new result (B.view bank.old) (B.view bank.new)
+            (S.stream source.old) (S.stream source.new) }
     {
         let mut buffers = self.buffers;
         let mut reader = self.reader;

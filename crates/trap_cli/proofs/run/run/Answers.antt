@@ -1,9 +1,10 @@
 use Rattle.std.proofs.Common.{Option, subst}
 use Rattle.trap_cli.specs.declared.command.Command.{Command}
 use Rattle.trap_cli.specs.Crash.{LeftBy}
-use Rattle.trap_cli.specs.Run.{Runs}
+use Rattle.trap_cli.specs.Run.{LeavesOthers, Runs}
 use Rattle.trap_cli.proofs.Words.{one_command}
-use Rattle.trap_cli.proofs.Running.{run_runs, run_touches, run_others, run_members, run_crash, usage_exact}
+use Rattle.trap_cli.proofs.Running.{run_runs, run_touches, run_others, run_beside, run_members, run_crash, usage_exact}
+use Rattle.trap_cli.proofs.Completing.{run_completes}
 use Rattle.trap_cli.proofs.run.run.Goals as goal
 
 pub returns-clause-runs : goal.returns-clause-runs
@@ -35,6 +36,22 @@ returns-clause-others g c =
     let stream = g.S.Source.stream in
     run_others c.read_command-command.result c.work-ended.result (view c.args.bank.now) (view c.work-ended.new.bank) (view c.say_last.new.bank) (stream c.args.source.now) (stream c.work-ended.new.source)
     c.work-ended.ensures.works c.say_last.ensures.spoken
+
+pub returns-clause-beside : goal.returns-clause-beside
+returns-clause-beside g c command is =
+    let view = g.B.Bank.view in
+    let stream = g.S.Source.stream in
+    subst (λ (command : Option Command). LeavesOthers command (view c.args.bank.now) (view c.say_last.new.bank))
+    (one_command c.args.words.now c.read_command-command.result command c.read_command-command.ensures is)
+    (run_beside c.read_command-command.result c.work-ended.result (view c.args.bank.now) (view c.work-ended.new.bank) (view c.say_last.new.bank) (stream c.args.source.now) (stream c.work-ended.new.source)
+    c.work-ended.ensures.works c.say_last.ensures.spoken)
+
+pub returns-clause-completes : goal.returns-clause-completes
+returns-clause-completes g c command is =
+    let view = g.B.Bank.view in
+    let stream = g.S.Source.stream in
+    run_completes c.status.result command (view c.args.bank.now) (view c.say_last.new.bank) (stream c.args.source.now) (stream c.work-ended.new.source)
+    (g.met.B.Bank.lawful c.args.bank.now) (returns-clause-runs g c command is)
 
 pub returns-clause-members : goal.returns-clause-members
 returns-clause-members g c =

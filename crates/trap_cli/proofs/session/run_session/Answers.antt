@@ -6,21 +6,23 @@ use Rattle.trap_cli.proofs.session.run_session.Goals as goal
 pub returns-in-Ok : goal.returns-in-Ok
 returns-in-Ok g c = record {
   works = session_works (g.B.Bank.view c.args.bank.now) (g.B.Bank.view c.mount.new.bank) (g.S.Source.stream c.args.source.now)
-      c.mount.ensures.any_moment c.mount.ensures.sizes c.mount.ensures.contents c.mount.ensures.lost c.mount.ensures.others
+      c.mount.ensures.any_moment c.mount.ensures.sizes c.mount.ensures.contents c.mount.ensures.writes c.mount.ensures.lost c.mount.ensures.others
       (g.B.Bank.view c.answer_lines.new.bank) (g.S.Source.stream c.answer_lines.new.source) c.in-Ok.array c.answer_lines.result
       c.in-Ok.ensures.mounted.stands c.in-Ok.ensures.mounted.found c.answer_lines.ensures.steps c.answer_lines.ensures.cause
-      c.answer_lines.ensures.sizes c.answer_lines.ensures.others c.answer_lines.ensures.held
+      c.answer_lines.ensures.sizes c.answer_lines.ensures.others c.answer_lines.ensures.held c.answer_lines.ensures.took c.answer_lines.ensures.idle c.answer_lines.ensures.bad c.in-Ok.ensures.mounted.going c.in-Ok.ensures.mounted.ready
       (λ none. let both : Ok c.in-Ok.array ≡ Err NotAnArray = sym c.in-Ok.is ∙ c.mount.ensures.no_log none in cc);
 }
 
 pub returns-in-Err : goal.returns-in-Err
 returns-in-Err g c = record {
   works = unmounted_works (g.B.Bank.view c.args.bank.now) (g.B.Bank.view c.mount.new.bank) (g.S.Source.stream c.args.source.now)
-      c.mount.ensures.any_moment c.mount.ensures.sizes c.mount.ensures.contents c.mount.ensures.lost c.mount.ensures.others
+      c.mount.ensures.any_moment c.mount.ensures.sizes c.mount.ensures.contents c.mount.ensures.writes c.mount.ensures.lost c.mount.ensures.others
       c.in-Err.why
       (λ none. let both : Err c.in-Err.why ≡ Err NotAnArray = sym c.in-Err.is ∙ c.mount.ensures.no_log none in cc)
       c.in-Err.ensures.ended.refused
       c.in-Err.ensures.ended.cause
+      c.in-Err.ensures.ended.complete
+      c.in-Err.ensures.ended.shown
       c.in-Err.ensures.ended.nothing_written
       c.in-Err.ensures.ended.held;
 }

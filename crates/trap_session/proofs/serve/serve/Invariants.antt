@@ -1,11 +1,11 @@
-use Rattle.std.proofs.Common.{◌≡◌, ℕ, ◌+◌, ◌-◌, ◌^◌, List, Some, false}
+use Rattle.std.proofs.Common.{◌≡◌, ℕ, ◌+◌, ◌-◌, ◌^◌, List, false}
 use Rattle.trap_bank.specs.Steps.{Steps}
 use Rattle.trap_lines.specs.Reader.{Passes, IsOpen}
 use Rattle.trap_model.specs.declared.history.State.{State}
 use Rattle.trap_array.specs.Beside.{StaysFrom}
 use Rattle.trap_array.specs.Calls.{IsReady, GoesOn}
 use Rattle.trap_session.specs.Serving.{Serves, AreWholeLines}
-use Rattle.trap_session.proofs.Quits.{IsAhead}
+use Rattle.trap_session.proofs.Quits.{IsUnquit}
 use Rattle.trap_session.proofs.Running.{Walks, Turns}
 use Rattle.trap_session.proofs.serve.serve.Given as goal
 
@@ -20,7 +20,7 @@ invariant-lines g l =
     (passed : List ℕ) × Passes passed l.fn.reader l.reader from to × AreWholeLines passed × IsOpen l.reader to
     × ((e : ℕ) → v.sizes e ≡ v0.sizes e) × GoesOn l.fn.array l.array × (l.array.is_stopped ≡ false) × IsReady l.array v
     × (l.buffers.g ≡ l.fn.buffers.g)
-    × ((input : List ℕ) → from.left ≡ Some input → IsAhead l.fn.array.g.block input passed)
+    × IsUnquit l.fn.array.g.block passed
     × ((turn : State → State) × Turns l.fn.array l.array v0 v turn × Steps v0 v (Serves l.fn.array v0 from) (Walks l.fn.array v0 from passed turn))
     × StaysFrom (l.fn.array.g.members + 1) v0 v
 

@@ -7,4 +7,4 @@ returns-clause-answers g c =
     let span = c.span-retained.result in
     let said = c.say_answer in
     info_replied c.args.array.now (view c.args.bank.now) (view said.new.bank) span.first span.last span.base_time span.last_time said.result
-    c.requires.ready c.span-retained.ensures.reply said.ensures.says said.ensures.more said.ensures.port
+    c.requires.ready c.span-retained.ensures.reply said.ensures.says said.ensures.once said.ensures.more said.ensures.port

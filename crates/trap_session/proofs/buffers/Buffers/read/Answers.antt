@@ -1,8 +1,8 @@
-use Rattle.std.proofs.Common.{refl, ◌≡◌, ap, ◌∙◌, Err, arith}
+use Rattle.std.proofs.Common.{refl, ◌≡◌, ap, ◌∙◌, Err, arith, Bool, ◌||◌}
 use Rattle.trap_model.specs.ArrayStep.{step}
 use Rattle.trap_model.specs.declared.request.Reply.TheVariants.{Is, No}
 use Rattle.trap_model.specs.declared.request.Request.TheVariants.{Read}
-use Rattle.trap_session.proofs.Replying.{same_replied, same_failed, read_still, still_going, refused_read, refused_going, filled_whole, shown, risen_of, refused_not_denied, denied_as, line_ended}
+use Rattle.trap_session.proofs.Replying.{same_replied, same_failed, read_still, still_going, refused_read, refused_going, filled_whole, shown, risen_of, refused_not_denied, denied_as, line_ended, stops_as}
 use Rattle.trap_session.proofs.buffers.Buffers.read.Goals as goal
 
 pub returns-in-Ok-clause-answers : goal.returns-in-Ok-clause-answers
@@ -13,7 +13,7 @@ returns-in-Ok-clause-answers g c =
     same_replied c.args.array.now c.read.new.self (view c.args.bank.now) (view c.read.new.bank) (view c.say_answer.new.bank) (Read c.args.block) refl
     (λ s. read_still c.args.array.now.g s c.args.block) _ done.same (still_going c.args.array.now.is_stopped _ refl)
     (Is c.as_slice-bytes.result.now) c.say_answer.result (λ told s stands. shown Is ((step c.args.array.now.g).reply s (Read c.args.block)) c.read.new.into c.as_slice-bytes.result.now filled (done.reply told s stands)) done.any_moment.moves done.any_moment.sizes done.any_moment.same done.ready
-    c.say_answer.ensures.says c.say_answer.ensures.more c.say_answer.ensures.port
+    c.say_answer.ensures.says c.say_answer.ensures.once c.say_answer.ensures.more c.say_answer.ensures.port
     (λ asks stopped. cc (done.causes.stopped.1 (asks, stopped)))
 
 pub returns-in_ok-why-in-Err-clause-answers : goal.returns-in_ok-why-in-Err-clause-answers
@@ -26,7 +26,7 @@ returns-in_ok-why-in-Err-clause-answers g c =
     same_replied c.args.array.now c.read.new.self (view c.args.bank.now) (view c.read.new.bank) (view said.new.bank) (Read c.args.block) refl
     (λ s. read_still c.args.array.now.g s c.args.block) _ done.same (refused_going c.args.array.now.is_stopped refused)
     (No why) said.result (refused_read c.args.array.now (view c.args.bank.now) (Read c.args.block) c.read.result c.read.new.into why refused done.reply)
-    done.any_moment.moves done.any_moment.sizes done.any_moment.same done.ready said.ensures.says said.ensures.more said.ensures.port
+    done.any_moment.moves done.any_moment.sizes done.any_moment.same done.ready said.ensures.says said.ensures.once said.ensures.more said.ensures.port
     (refused_not_denied c.read.result why refused done.causes.stopped)
 
 pub returns-in_err-why-in-Err-clause-answers : goal.returns-in_err-why-in-Err-clause-answers
@@ -37,7 +37,7 @@ returns-in_err-why-in-Err-clause-answers g c =
     let ended = c.in_err-why-in-Err.ensures.err in
     line_ended c.args.array.now c.read.new.self (view c.args.bank.now) (view c.read.new.bank) (Read c.args.block) denied c.from_residual.result c.in_err-why-in-Err.field-0.0
     c.from_residual.ensures ended.0
-    (same_failed c.args.array.now c.read.new.self (view c.args.bank.now) (view c.read.new.bank) (Read c.args.block) refl _ done.same denied done.any_moment.moves done.any_moment.sizes done.any_moment.same done.ready
+    (same_failed c.args.array.now c.read.new.self (view c.args.bank.now) (view c.read.new.bank) (Read c.args.block) refl _ done.same denied (ap (λ (stops : Bool). c.args.array.now.is_stopped || stops) (stops_as c.read.result denied c.in-Err.is)) done.any_moment.moves done.any_moment.sizes done.any_moment.same done.ready
     (risen_of c.args.array.now (view c.args.bank.now) (view c.read.new.bank) c.read.result done.causes.log done.causes.member (λ offset is. absurd (done.damaged offset is)) (λ is. (done.causes.stopped.0 is).1)
     denied c.in-Err.is ended.1)
     (λ offset same told. absurd (done.damaged offset (c.in-Err.is ∙ ap Err same)))
