@@ -1,17 +1,17 @@
 -- What a reader takes for one frame, joined to the bytes of that frame.
-use Rattle.std.proofs.Common.{◌≡◌, ◌⊎◌, ℕ, ◌+◌, ◌-◌, ◌≤◌, ◌<◌, ◌^◌, min, List, [], ◌++◌, length, take, drop, slice_range, refl, sym, ◌∙◌, ap, subst, inl, inr, arith, length-append, take-append-drop, take_at, drop_at}
+use Rattle.std.proofs.Common.{◌≡◌, ℕ, ◌+◌, ◌-◌, ◌≤◌, ◌<◌, ◌^◌, List, ◌++◌, length, take, drop, slice_range, refl, sym, ◌∙◌, ap, subst, inl, inr, arith, length-append, take-append-drop}
 use Rattle.std.specs.Prelude.{Ok, Err}
 use Rattle.std.proofs.lemmas.List.{take_all}
 use Rattle.trap_bank.specs.Stream.{Stream}
 use Rattle.trap_model.specs.declared.frame.Frame.{Frame}
 use Rattle.trap_model.specs.ZeroRun.{ZeroRun, IsCode, IsRefused}
-use Rattle.trap_model.specs.Frame.{frame_header, frame_len, code_in, SpellsFrame, BeginsFrame, IsPart, IsCut, IsBadFrame}
+use Rattle.trap_model.specs.Frame.{frame_header, code_in, SpellsFrame, BeginsFrame, IsPart, IsBadFrame}
 use Rattle.trap_model.proofs.ZeroRuns.{IsRefused-not}
 use Rattle.trap_frame.specs.declared.filling.Stop.{Stop}
 use Rattle.trap_frame.specs.declared.filling.Stop.TheVariants.{Source, TooLong}
 use Rattle.trap_frame.specs.declared.found.FrameFault.{FrameFault}
 use Rattle.trap_frame.specs.declared.found.FrameFault.TheVariants as Fault
-use Rattle.trap_frame.specs.Filling.{Took, IsEnd, Stops, Fills}
+use Rattle.trap_frame.specs.Filling.{Took, Stops, Fills}
 use Rattle.trap_frame.specs.Reading.{FindsNone, IsFaultOf}
 use Rattle.trap_frame.proofs.Taking.{took_then}
 

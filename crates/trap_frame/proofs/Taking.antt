@@ -1,5 +1,5 @@
 -- What was taken of a source, piece after piece.
-use Rattle.std.proofs.Common.{◌≡◌, ℕ, zero, ◌+◌, ◌-◌, ◌≤◌, ◌<◌, ◌^◌, ◌==◌, List, [], ◌++◌, length, take, drop, true, refl, sym, ◌∙◌, ap, subst, arith, append-nil, length-append, length-take, length-drop, drop-drop}
+use Rattle.std.proofs.Common.{◌≡◌, ℕ, ◌+◌, ◌≤◌, ◌<◌, ◌^◌, List, [], ◌++◌, length, take, drop, refl, sym, ◌∙◌, ap, subst, arith, append-nil, length-append, length-take, length-drop, drop-drop}
 use Rattle.std.specs.Prelude.{Ok, Err}
 use Rattle.std.proofs.Math.Seq.{take-add}
 use Rattle.std.proofs.lemmas.List.{drop-take, take-take}
@@ -8,7 +8,7 @@ use Rattle.std.specs.Io.KnownBytes.{Consumes}
 use Rattle.trap_bank.specs.Stream.{Stream, Gave, GaveNothing}
 use Rattle.trap_frame.specs.declared.filling.Stop.{Stop}
 use Rattle.trap_frame.specs.declared.filling.Stop.TheVariants.{Source, TooLong}
-use Rattle.trap_frame.specs.Filling.{TakesNone, Took, IsEnd, Fills}
+use Rattle.trap_frame.specs.Filling.{TakesNone, Took, Fills}
 
 pub took_nothing : (used : ℕ) (s : Stream) → used ≤ 2 ^ 40 → Took [] used used s s
 took_nothing used s most = record { left = Consumes-nil s.left; counted = omega arith; given = omega arith; faults = omega arith; most = most }

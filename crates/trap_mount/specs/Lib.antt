@@ -3,6 +3,7 @@ pub mod Memory
 pub mod Mounted
 pub mod Creating
 pub mod OnDisks
+pub mod Refusing
 pub mod Mounting
 pub mod MountEnds
 pub mod MountSteps

@@ -3,7 +3,6 @@
 use super::folder::Folder;
 use std::fs::{File, OpenOptions};
 use std::io::ErrorKind;
-use std::os::fd::AsRawFd;
 use std::os::unix::fs::FileExt;
 use std::rt::Files;
 use std::{fs, io};
@@ -31,9 +30,6 @@ pub fn open_there<R: Files<File = File>>(rt: &R, name: &str) -> io::Result<Optio
 fn open_measured<R: Files<File = File>>(rt: &R, name: &str) -> io::Result<(File, u64)> {
     let file = OpenOptions::new().read(true).write(true).open(rt, name)?;
     let len = file.metadata()?.len();
-    // After a sync that failed the kernel may keep bytes that the disk doesn't have. It is asked to
-    // drop them, and to read from the disk. This is advice, so its answer decides nothing.
-    let _ = libc::posix_fadvise(file.as_raw_fd(), 0, 0, libc::POSIX_FADV_DONTNEED);
     Ok((file, len))
 }
 

@@ -1,4 +1,4 @@
-use Rattle.std.proofs.Common.{◌≡◌, ◌+◌, ◌-◌, ◌++◌, List, ℕ, length, take, drop, arith, ap, sym, ◌∙◌, length-append}
+use Rattle.std.proofs.Common.{◌≡◌, ◌+◌, ◌++◌, ℕ, length, take, drop, arith, ap, ◌∙◌, length-append}
 use Rattle.trap_frame.proofs.Taking.{took_then, took_piece, piece_there, front_same}
 use Rattle.trap_frame.proofs.filling.fill.Goals as goal
 

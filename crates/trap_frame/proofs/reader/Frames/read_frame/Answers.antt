@@ -1,5 +1,5 @@
-use Rattle.std.proofs.Common.{◌≡◌, ◌+◌, ◌++◌, ◌<◌, ◌^◌, List, ℕ, refl, sym, ◌∙◌, ap, subst, arith, take, length, slice_range}
-use Rattle.trap_model.specs.ZeroRun.{ZeroRun, IsRefused}
+use Rattle.std.proofs.Common.{◌+◌, ◌++◌, refl, sym, ◌∙◌, ap, subst, arith, slice_range}
+use Rattle.trap_model.specs.ZeroRun.{IsRefused}
 use Rattle.trap_model.specs.Frame.{BeginsFrame}
 use Rattle.trap_frame.proofs.Joining.{whole_header, no_header, taken_frame, begins_in, code_stops, code_cut, whole_code, code_whole, code_bad}
 use Rattle.trap_frame.proofs.reader.Frames.read_frame.Goals as goal
