@@ -21,10 +21,22 @@ fn header(second: bool) -> Frame {
 #[test]
 fn frames_are_written_byte_for_byte(rt: HostRuntime) {
     let mut out = [0xee; 81];
-    let first = spell(&header(false), &[0, 0, 0, 1, 1, 0, 15, 0, 0], &mut out);
-    assert_eq!(rt; first, 43);
-    let second = spell(&header(true), &[0, 16, 0, 0], &mut out[43..]);
-    assert_eq!(rt; second, 38);
+    let first = Frame {
+        id: 7,
+        seq: 1,
+        time: 100,
+        block: 0,
+        length: 9,
+    };
+    let len = spell(&first, &[0, 0, 0, 1, 1, 0, 15, 0, 0], &mut out);
+    assert_eq!(rt; len, 43);
+    let second = Frame {
+        seq: 2,
+        length: 4,
+        ..first
+    };
+    let len = spell(&second, &[0, 16, 0, 0], &mut out[43..]);
+    assert_eq!(rt; len, 38);
     assert_eq!(rt; out.as_slice(), STREAM.as_slice());
 }
 
