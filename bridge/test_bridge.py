@@ -217,8 +217,9 @@ def test_a_member_that_is_cut_short_stops_serving_or_is_lost():
 def test_a_second_server_is_refused():
     with Served(small(512)) as served:
         served.connect().pwrite(b"\x01" * 512, 0)
-        with Served(None, served.folder) as second:
-            second.socket = os.path.join(served.folder, "second.sock")
+        second = Served(None, served.folder)
+        second.socket = os.path.join(served.folder, "second.sock")
+        with second:
             second.server.wait(timeout=20)
         assert second.server.returncode != 0
         assert served.connect().pread(512, 0) == b"\x01" * 512
