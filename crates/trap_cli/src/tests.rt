@@ -315,11 +315,14 @@ fn a_second_member_fails(rt: HostRuntime) -> Result<(), Fail> {
 
 #[test]
 fn files_are_disks(rt: HostRuntime) -> Result<(), Fail> {
-    let mut bank = FileBank::new(rt.clone()?, rt.alloc())?;
-    assert!(rt; bank.size(0).is_none());
-    assert!(rt; bank.make(0, 70000).is_ok());
-    assert!(rt; bank.size(0) == Some(70000));
-    assert!(rt; bank.write(0, 69998, &[1, 2]).is_ok() && bank.sync(0).is_ok());
+    {
+        // The folder is this bank's alone until the end of the block.
+        let mut bank = FileBank::new(rt.clone()?, rt.alloc())?;
+        assert!(rt; bank.size(0).is_none());
+        assert!(rt; bank.make(0, 70000).is_ok());
+        assert!(rt; bank.size(0) == Some(70000));
+        assert!(rt; bank.write(0, 69998, &[1, 2]).is_ok() && bank.sync(0).is_ok());
+    }
     let mut again = FileBank::new(rt.clone()?, rt.alloc())?;
     assert!(rt; again.size(0) == Some(70000));
     let mut end = [9u8; 4];
