@@ -4,15 +4,15 @@ use Rattle.trap_bank.specs.Disks.{bytes_of, size_of, region}
 use Rattle.trap_bank.specs.Calls.{Fits, Goes, Reads, Writes, Syncs, Says, Makes}
 use Rattle.trap_bank.specs.Counts.{one_more, with_raised}
 use Rattle.trap_bank.specs.Record.{bytes_kept}
-use Rattle.trap_bank.specs.Memory.{Memory, IsSound, disk_at, view_of}
+use Rattle.trap_bank.specs.Memory.{Memory, IsMemoryBank, disk_at, view_of}
 use Rattle.trap_bank.specs.MemorySteps.{IsStruck, IsStruckOn, IsWorn, counted_on}
 use Rattle.trap_bank.proofs.MemoryTime.{recounted, goes, idle, raised, none_falls}
 
 -- a disk with a number
-pub on_disk : (m : Memory) (d : ℕ) → IsSound m → d ≤ 20 → d < length m.disks
+pub on_disk : (m : Memory) (d : ℕ) → IsMemoryBank m → d ≤ 20 → d < length m.disks
 on_disk m d sound le = let all : length m.disks ≡ 21 = sound.kept.disks in omega arith
 
-pub counted : (m : Memory) (d : ℕ) → IsSound m → d ≤ 20 → d < length m.faults
+pub counted : (m : Memory) (d : ℕ) → IsMemoryBank m → d ≤ 20 → d < length m.faults
 counted m d sound le = let all : length m.faults ≡ 21 = sound.kept.faults in omega arith
 
 fits_disk : (disk : Option (List ℕ)) (n end_ : ℕ) → size_of disk ≡ Some n → end_ ≤ n → end_ ≤ length (bytes_of disk)
@@ -23,12 +23,12 @@ pub fits_bytes : (m : Memory) (d end_ : ℕ) → Fits (view_of m) d end_ → end
 fits_bytes m d end_ fits = fits_disk (bytes_kept (disk_at m d)) fits.0 end_ fits.1 fits.2
 
 -- a call that fails and changes counts alone
-fails : {T E : Type 0} (error : E) (m : Memory) (d k s : ℕ) → IsSound m → d ≤ 20 → k ≡ one_more m.moment
+fails : {T E : Type 0} (error : E) (m : Memory) (d k s : ℕ) → IsMemoryBank m → d ≤ 20 → k ≡ one_more m.moment
     → Goes {T = T} (Err error) (view_of m) (view_of (recounted m k (with_raised m.faults d) m.port_faults s))
 fails error m d k s sound le passes = goes (Err error) m (recounted m k (with_raised m.faults d) m.port_faults s) passes
     (λ e. none_falls m.faults d e (counted m d sound le)) (le_refl m.port_faults) tt
 
-pub fails_reading : {T E : Type 0} (error : E) (m : Memory) (d at : ℕ) (before after : List ℕ) (k s : ℕ) → IsSound m → d ≤ 20 → k ≡ one_more m.moment
+pub fails_reading : {T E : Type 0} (error : E) (m : Memory) (d at : ℕ) (before after : List ℕ) (k s : ℕ) → IsMemoryBank m → d ≤ 20 → k ≡ one_more m.moment
     → Reads {T = T} d at before after (Err error) (view_of m) (view_of (recounted m k (with_raised m.faults d) m.port_faults s))
 fails_reading error m d at before after k s sound le passes = record {
   goes = fails error m d k s sound le passes;
@@ -40,7 +40,7 @@ fails_reading error m d at before after k s sound le passes = record {
   bytes = λ told. tt;
 }
 
-pub reads : {T E : Type 0} (value : T) (m : Memory) (d at : ℕ) (before after : List ℕ) → IsSound m → (m.moment ≡ 2 ^ 64 - 1 → ⊥)
+pub reads : {T E : Type 0} (value : T) (m : Memory) (d at : ℕ) (before after : List ℕ) → IsMemoryBank m → (m.moment ≡ 2 ^ 64 - 1 → ⊥)
     → after ≡ region (view_of m).now.disks d at (length before)
     → Reads {E = E} d at before after (Ok value) (view_of m) (view_of (recounted m (one_more m.moment) m.faults m.port_faults m.starved))
 reads value m d at before after sound fresh is =
@@ -55,7 +55,7 @@ reads value m d at before after sound fresh is =
       bytes = λ told. is;
     }
 
-pub fails_writing : {T E : Type 0} (error : E) (m : Memory) (d at : ℕ) (bytes : List ℕ) (k s : ℕ) → IsSound m → d ≤ 20 → k ≡ one_more m.moment
+pub fails_writing : {T E : Type 0} (error : E) (m : Memory) (d at : ℕ) (bytes : List ℕ) (k s : ℕ) → IsMemoryBank m → d ≤ 20 → k ≡ one_more m.moment
     → Writes {T = T} d at bytes (Err error) (view_of m) (view_of (recounted m k (with_raised m.faults d) m.port_faults s))
 fails_writing error m d at bytes k s sound le passes = record {
   goes = fails error m d k s sound le passes;
@@ -67,7 +67,7 @@ fails_writing error m d at bytes k s sound le passes = record {
   unsynced = λ told e i unsynced. inl unsynced;
 }
 
-pub fails_syncing : {T E : Type 0} (error : E) (m : Memory) (d k s : ℕ) → IsSound m → d ≤ 20 → k ≡ one_more m.moment
+pub fails_syncing : {T E : Type 0} (error : E) (m : Memory) (d k s : ℕ) → IsMemoryBank m → d ≤ 20 → k ≡ one_more m.moment
     → Syncs {T = T} d (Err error) (view_of m) (view_of (recounted m k (with_raised m.faults d) m.port_faults s))
 fails_syncing error m d k s sound le passes = record {
   goes = fails error m d k s sound le passes;
@@ -79,7 +79,7 @@ fails_syncing error m d k s sound le passes = record {
   synced = λ told. tt;
 }
 
-pub fails_making : {T E : Type 0} (error : E) (m : Memory) (d len k s : ℕ) → IsSound m → d ≤ 20 → k ≡ one_more m.moment
+pub fails_making : {T E : Type 0} (error : E) (m : Memory) (d len k s : ℕ) → IsMemoryBank m → d ≤ 20 → k ≡ one_more m.moment
     → Makes {T = T} d len (Err error) (view_of m) (view_of (recounted m k (with_raised m.faults d) m.port_faults s))
 fails_making error m d len k s sound le passes = record {
   goes = fails error m d k s sound le passes;
@@ -95,7 +95,7 @@ fails_making error m d len k s sound le passes = record {
   settled = λ told. tt;
 }
 
-pub fails_saying : {T E : Type 0} (error : E) (m : Memory) (piece : List ℕ) (s : ℕ) → IsSound m
+pub fails_saying : {T E : Type 0} (error : E) (m : Memory) (piece : List ℕ) (s : ℕ) → IsMemoryBank m
     → Says {T = T} piece (Err error) (view_of m) (view_of (recounted m (one_more m.moment) m.faults (one_more m.port_faults) s))
 fails_saying error m piece s sound = record {
   goes = goes (Err error) m (recounted m (one_more m.moment) m.faults (one_more m.port_faults) s) refl (λ e. le_refl _) (omega arith) tt;

@@ -7,7 +7,7 @@ use Rattle.trap_bank.specs.Disks.{Disks, Contents, bytes_of, size_of}
 use Rattle.trap_bank.specs.Calls.{MayLeave, LeftMaking, Makes}
 use Rattle.trap_bank.specs.Kept.{Kept, InRanges, zero_disk}
 use Rattle.trap_bank.specs.Record.{still, area_of, bytes_kept, ranges_kept}
-use Rattle.trap_bank.specs.Memory.{Memory, IsSound, disk_at, state_of, view_of}
+use Rattle.trap_bank.specs.Memory.{Memory, IsMemoryBank, disk_at, state_of, view_of}
 use Rattle.trap_bank.proofs.MemoryTime.{changed, goes, recorded}
 use Rattle.trap_bank.proofs.MemoryBack.{set_tells, back_from_make}
 use Rattle.trap_bank.proofs.MemoryCalls.{on_disk}
@@ -79,7 +79,7 @@ left_behind_make m d len c below left =
       };
     }
 
-pub makes : {T E : Type 0} (value : T) (m : Memory) (d len : ℕ) → IsSound m → (m.moment ≡ 2 ^ 64 - 1 → ⊥) → d ≤ 20
+pub makes : {T E : Type 0} (value : T) (m : Memory) (d len : ℕ) → IsMemoryBank m → (m.moment ≡ 2 ^ 64 - 1 → ⊥) → d ≤ 20
     → Makes {E = E} d len (Ok value) (view_of m) (view_of (behind_make m d len))
 makes value m d len sound free le =
     let below : d < length m.disks = on_disk m d sound le in

@@ -6,7 +6,7 @@ use Rattle.trap_bank.specs.Disks.{Contents, Torn, size_of}
 use Rattle.trap_bank.specs.Calls.{MayLeave, LeftSaying, Syncs, Says}
 use Rattle.trap_bank.specs.Kept.{Kept, InRanges}
 use Rattle.trap_bank.specs.Record.{still, area_of, contents_of, bytes_kept, ranges_kept}
-use Rattle.trap_bank.specs.Memory.{Memory, IsSound, disk_at, state_of, view_of, as_shown}
+use Rattle.trap_bank.specs.Memory.{Memory, IsMemoryBank, disk_at, state_of, view_of, as_shown}
 use Rattle.trap_bank.specs.MemorySteps.{option_settled}
 use Rattle.trap_bank.proofs.MemoryTime.{changed, goes, recorded}
 use Rattle.trap_bank.proofs.MemoryBack.{set_tells, not_seen, settled_bytes, back_from_sync, back_from_say}
@@ -44,7 +44,7 @@ left_behind_sync m d c below left =
       };
     }
 
-pub syncs : {T E : Type 0} (value : T) (m : Memory) (d : ℕ) → IsSound m → (m.moment ≡ 2 ^ 64 - 1 → ⊥) → d ≤ 20
+pub syncs : {T E : Type 0} (value : T) (m : Memory) (d : ℕ) → IsMemoryBank m → (m.moment ≡ 2 ^ 64 - 1 → ⊥) → d ≤ 20
     → Syncs {E = E} d (Ok value) (view_of m) (view_of (behind_sync m d))
 syncs value m d sound free le =
     let below : d < length m.disks = on_disk m d sound le in
@@ -75,7 +75,7 @@ left_in_piece : (m : Memory) (piece other : List ℕ) (c : Contents) → other �
 left_in_piece m piece other c is left = subst (λ (xs : List ℕ). LeftSaying xs (view_of m) c) is
     (record { told = refl; disks = left.disks; says = record { part = left.says.part; rest = left.says.rest; whole = left.says.whole; said = left.says.said } })
 
-pub says : {T E : Type 0} (value : T) (m : Memory) (piece : List ℕ) → IsSound m → (m.moment ≡ 2 ^ 64 - 1 → ⊥)
+pub says : {T E : Type 0} (value : T) (m : Memory) (piece : List ℕ) → IsMemoryBank m → (m.moment ≡ 2 ^ 64 - 1 → ⊥)
     → Says {E = E} piece (Ok value) (view_of m) (view_of (behind_piece m piece))
 says value m piece sound free =
     let bound : m.moment < 2 ^ 64 = sound.bound in

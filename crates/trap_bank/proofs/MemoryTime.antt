@@ -5,11 +5,11 @@ use Rattle.trap_bank.specs.declared.record.Change.{Change}
 use Rattle.trap_bank.specs.declared.record.Entry.{Entry}
 use Rattle.trap_bank.specs.Faults.{Rose}
 use Rattle.trap_bank.specs.Disks.{Contents}
-use Rattle.trap_bank.specs.Calls.{Goes, Elapses, MayLeave}
+use Rattle.trap_bank.specs.Calls.{Goes, KeepsLeft, MayLeave}
 use Rattle.trap_bank.specs.Counts.{one_more}
 use Rattle.trap_bank.specs.Kept.{Kept}
 use Rattle.trap_bank.specs.Record.{State, before, still, InCall, InCalls, BeganBefore}
-use Rattle.trap_bank.specs.Memory.{Memory, IsSound, state_of, view_of}
+use Rattle.trap_bank.specs.Memory.{Memory, IsMemoryBank, state_of, view_of}
 
 -- the same bank with other counts
 abbrev pub recounted : Memory → ℕ → List ℕ → ℕ → ℕ → Memory
@@ -45,8 +45,8 @@ goes result m n passes faults port rises = record {
 }
 
 -- where a call changed no more than counts, a crash may have left what it might have left before
-pub idle : (m : Memory) (moment : ℕ) (faults : List ℕ) (port starved : ℕ) (in_call : Contents → Type 0) → IsSound m → m.moment ≤ moment
-    → Elapses (view_of m) (view_of (recounted m moment faults port starved)) in_call
+pub idle : (m : Memory) (moment : ℕ) (faults : List ℕ) (port starved : ℕ) (in_call : Contents → Type 0) → IsMemoryBank m → m.moment ≤ moment
+    → KeepsLeft (view_of m) (view_of (recounted m moment faults port starved)) in_call
 idle m moment faults port starved in_call sound later = record {
   nothing_else = λ t c le left. inl (⊎_elim (λ now. inl now)
       (λ past. inr (⊎_elim
@@ -57,12 +57,12 @@ idle m moment faults port starved in_call sound later = record {
 
 -- a call that is in the record
 pub recorded : (m : Memory) (disks : List (Option Kept)) (said : List ℕ) (change : Change) (faults : List ℕ) (port : ℕ) (in_call : Contents → Type 0)
-    → IsSound m
+    → IsMemoryBank m
     → before (state_of (changed m disks said change faults port)) change ≡ state_of m
     → ((c : Contents) → MayLeave (still (state_of (changed m disks said change faults port))) c → in_call c)
     → ((c : Contents) → InCall (state_of m) (state_of (changed m disks said change faults port)) change c → in_call c)
     → ((c : Contents) → MayLeave (still (state_of m)) c → InCall (state_of m) (state_of (changed m disks said change faults port)) change c)
-    → Elapses (view_of m) (view_of (changed m disks said change faults port)) in_call
+    → KeepsLeft (view_of m) (view_of (changed m disks said change faults port)) in_call
 recorded m disks said change faults port in_call sound back now_is call_is was_is =
     let new : State = state_of (changed m disks said change faults port) in
     record {

@@ -7,7 +7,7 @@ use Rattle.trap_bank.specs.Disks.{Contents, Within, Either, Torn, bytes_of, size
 use Rattle.trap_bank.specs.Calls.{MayLeave, LeftOver, Writes}
 use Rattle.trap_bank.specs.Kept.{Kept, InRanges}
 use Rattle.trap_bank.specs.Record.{still, area_of, contents_of, bytes_kept, ranges_kept}
-use Rattle.trap_bank.specs.Memory.{Memory, IsSound, disk_at, state_of, view_of}
+use Rattle.trap_bank.specs.Memory.{Memory, IsMemoryBank, disk_at, state_of, view_of}
 use Rattle.trap_bank.specs.MemorySteps.{option_written, option_range}
 use Rattle.trap_bank.proofs.Ranges.{length-overlaid, overlaid-outside, overlaid_there, in_split}
 use Rattle.trap_bank.proofs.MemoryTime.{changed, goes, recorded}
@@ -115,7 +115,7 @@ left_before_write m d at n c left = record {
   };
 }
 
-pub writes : {T E : Type 0} (result : Result T E) (m : Memory) (d at : ℕ) (fresh faults : List ℕ) → IsSound m → (m.moment ≡ 2 ^ 64 - 1 → ⊥) → d ≤ 20
+pub writes : {T E : Type 0} (result : Result T E) (m : Memory) (d at : ℕ) (fresh faults : List ℕ) → IsMemoryBank m → (m.moment ≡ 2 ^ 64 - 1 → ⊥) → d ≤ 20
     → at + length fresh ≤ length (bytes_of (bytes_kept (disk_at m d)))
     → OnOk result (m.moment < m.moment + 1) → ((e : ℕ) → get_or m.faults e 0 ≤ get_or faults e 0) → OnErr result (Rose (get_or m.faults d 0) (get_or faults d 0))
     → OnOk result (region (contents_of (state_of (behind_write m d at fresh faults))).disks d at (length fresh) ≡ fresh)

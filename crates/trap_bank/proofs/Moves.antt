@@ -4,7 +4,7 @@ use Rattle.std.proofs.lemmas.Bool.{cases_eq}
 use Rattle.std.proofs.lemmas.Bool.Decides.{nat_tests}
 use Rattle.std.specs.Prelude.{nat_lt}
 use Rattle.trap_bank.specs.Disks.{Contents, View, Disks, Area, Within, Either, Differs, Torn, Quiet, byte, bytes_of, size_of}
-use Rattle.trap_bank.specs.Calls.{LeftOver, MayLeave, LeftMaking, LeftSaying, Fewer, IsLawful, Reads, Writes, Syncs, Says, Makes}
+use Rattle.trap_bank.specs.Calls.{LeftOver, MayLeave, LeftMaking, LeftSaying, NoneUnsynced, IsLawful, Reads, Writes, Syncs, Says, Makes}
 use Rattle.trap_bank.specs.Steps.{From, Steps, Moves, Same, Settled, Spoke, SpokePart, RemadeDisk, MadeDisk, Always}
 use Rattle.trap_bank.proofs.Regions.{disk_apart, same_length, differs_mono, differs_again, differs_same}
 
@@ -239,7 +239,7 @@ within_covers d at n e i within =
     grind (arith, nat_tests)
 
 -- the same contents with no more unsynced positions
-still_left : (old new : View) → new.tells ≡ old.tells → (IsTrue old.tells → new.now ≡ old.now) → (IsTrue old.tells → Fewer old new) → (w : Contents) → MayLeave new w → MayLeave old w
+still_left : (old new : View) → new.tells ≡ old.tells → (IsTrue old.tells → new.now ≡ old.now) → (IsTrue old.tells → NoneUnsynced old new) → (w : Contents) → MayLeave new w → MayLeave old w
 still_left old new tells same fewer w left = record {
   told = told;
   torn = record {

@@ -5,7 +5,7 @@ use Rattle.std.proofs.lemmas.List.{ext_get_or, get_or_append_left, get_or-append
 use Rattle.std.proofs.lemmas.Bool.{cases_lt}
 use Rattle.std.proofs.lemmas.List.Elements.{All-push}
 use Rattle.trap_bank.specs.declared.disk.Range.{Range}
-use Rattle.trap_bank.specs.Kept.{InRanges, AgreeOutside, IsKept, overlaid}
+use Rattle.trap_bank.specs.Kept.{InRanges, AgreeOutside, IsStableBut, overlaid}
 
 -- a position in the first ranges is in all of them
 pub in_more : (ranges : List Range) (range : Range) (i : ℕ) → InRanges ranges i → InRanges (ranges ++ range ∷ []) i
@@ -59,8 +59,8 @@ overlaid-outside old at bytes i fits out =
     (either_side i at)
 
 -- a disk that was written is still well kept
-pub written_is_kept : (bytes stable : List ℕ) (ranges : List Range) (at : ℕ) (fresh : List ℕ) → at + length fresh ≤ length bytes → IsKept bytes stable ranges
-    → IsKept (overlaid bytes at fresh) stable (ranges ++ record { at = at; len = length fresh } ∷ [])
+pub written_is_kept : (bytes stable : List ℕ) (ranges : List Range) (at : ℕ) (fresh : List ℕ) → at + length fresh ≤ length bytes → IsStableBut bytes stable ranges
+    → IsStableBut (overlaid bytes at fresh) stable (ranges ++ record { at = at; len = length fresh } ∷ [])
 written_is_kept bytes stable ranges at fresh fits kept =
     let long : length (overlaid bytes at fresh) ≡ length bytes = length-overlaid bytes at fresh fits in
     let last : Range = record { at = at; len = length fresh } in

@@ -15,10 +15,11 @@ InRanges (range ∷ ranges) i = ((range.at ≤ i) × (i < range.at + range.len))
 
 -- outside of the ranges both have the same bytes
 abbrev pub AgreeOutside : List Range → List ℕ → List ℕ → Type 0
-AgreeOutside ranges one other = (i : ℕ) → (InRanges ranges i → ⊥) → slice_index one i ≡ slice_index other i
+AgreeOutside ranges one other = (i : ℕ) → (InRanges ranges i → ⊥)
+    → slice_index one i ≡ slice_index other i
 
 -- the ranges lie on the disk, and all else is stable
-pub record IsKept (bytes stable : List ℕ) (ranges : List Range) : Type 0 where
+pub record IsStableBut (bytes stable : List ℕ) (ranges : List Range) : Type 0 where
   pub same : length stable ≡ length bytes
   pub inside : All (λ range. range.at + range.len ≤ length bytes) ranges
   pub agree : AgreeOutside ranges stable bytes
@@ -27,7 +28,7 @@ pub record IsKept (bytes stable : List ℕ) (ranges : List Range) : Type 0 where
 abbrev pub overlaid : List ℕ → ℕ → List ℕ → List ℕ
 overlaid old at bytes = take at old ++ (bytes ++ drop (at + length bytes) old)
 
--- so many zero bytes, all stable
+-- that many zero bytes, all stable
 abbrev pub zero_disk : ℕ → Kept
 zero_disk len = record { bytes = replicate len 0; stable = replicate len 0; ranges = [] }
 

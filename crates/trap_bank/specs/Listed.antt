@@ -10,4 +10,5 @@ listed list asked = record { asked = asked; answer = λ k. get_or list k Rest }
 
 -- Rest, Drain, Rest, Rebuild, over and over
 abbrev pub steady : ℕ → Schedule
-steady asked = record { asked = asked; answer = λ k. get_or (Rest ∷ Drain ∷ Rest ∷ Rebuild ∷ []) (k % 4) Rest }
+steady asked =
+    record { asked = asked; answer = λ k. get_or (Rest ∷ Drain ∷ Rest ∷ Rebuild ∷ []) (k % 4) Rest }

@@ -40,7 +40,7 @@ pub record IsMemory (m : Memory) : Type 0 where
   pub spared : length m.spared ≡ 21
 
 -- what holds of every bank in memory
-pub record IsSound (m : Memory) : Type 0 where
+pub record IsMemoryBank (m : Memory) : Type 0 where
   pub kept : IsMemory m
   pub bound : m.moment < 2 ^ 64
 
@@ -48,9 +48,14 @@ abbrev pub disk_at : Memory → ℕ → Option Kept
 disk_at m d = get_or m.disks d None
 
 abbrev pub state_of : Memory → State
-state_of m = record { disks = λ d. bytes_kept (disk_at m d); ranges = λ d. ranges_kept (disk_at m d); said = m.said }
+state_of m = record {
+  disks = λ d. bytes_kept (disk_at m d);
+  ranges = λ d. ranges_kept (disk_at m d);
+  said = m.said;
+}
 
--- What contracts see. Of a moment before the last crash it isn't known what a crash may have left, so it may be anything.
+-- What contracts see. Of a moment before the last crash it isn't known what a crash may have left,
+-- so it may be anything.
 abbrev pub view_of : Memory → View
 view_of m = record {
   tells = true;
@@ -61,7 +66,8 @@ view_of m = record {
   port_faults = m.port_faults;
   moment = m.moment;
   by_one = true;
-  left = λ t c. MayLeave (still (state_of m)) c ⊎ ((t < m.moment) × ((t < m.since) ⊎ InCalls (state_of m) m.past t c));
+  left = λ t c. MayLeave (still (state_of m)) c
+      ⊎ ((t < m.moment) × ((t < m.since) ⊎ InCalls (state_of m) m.past t c));
 }
 
 -- a new bank
@@ -81,8 +87,15 @@ no_disks = record {
 }
 
 -- seen under the bank's own view
-pub as_shown : (m : Memory) (c : Contents) → MayLeave (still (state_of m)) c → MayLeave (view_of m) c
-as_shown m c left = record { told = refl; torn = record { disks = left.torn.disks; said = left.torn.said } }
+pub as_shown : (m : Memory) (c : Contents) → MayLeave (still (state_of m)) c
+    → MayLeave (view_of m) c
+as_shown m c left = record {
+  told = refl;
+  torn = record {
+    disks = left.torn.disks;
+    said = left.torn.said;
+  };
+}
 
 below_itself : (n : ℕ) → n < n → ⊥
 below_itself n lt = lt_irrefl n lt
@@ -91,5 +104,11 @@ pub lawful_view : (m : Memory) → IsLawful (view_of m)
 lawful_view m = record {
   sized = λ told d. refl;
   only_now = λ c left. ⊎_elim (as_shown m c) (λ past. absurd (below_itself m.moment past.0)) left;
-  counts_now = λ t told le. inl (record { told = refl; torn = record { disks = record { sizes = λ e. refl; bytes = λ e i clean. refl }; said = refl } });
+  counts_now = λ t told le. inl (record {
+    told = refl;
+    torn = record {
+      disks = record { sizes = λ e. refl; bytes = λ e i clean. refl };
+      said = refl;
+    };
+  });
 }

@@ -6,7 +6,7 @@ use Rattle.trap_bank.specs.Kept.{Kept, zero_disk, written_disk, settled_disk}
 use Rattle.trap_bank.specs.Record.{ranges_kept}
 use Rattle.trap_bank.specs.Memory.{Memory, disk_at}
 
--- so many calls were made, and the next has no number of 64 bits
+-- that many calls were made, and the next has no number of 64 bits
 abbrev pub IsWorn : Memory → Type 0
 IsWorn m = m.moment ≡ 2 ^ 64 - 1
 
@@ -67,7 +67,10 @@ option_range (Some disk) from to = slice_range disk.bytes from to
 abbrev pub written : Memory → ℕ → ℕ → List ℕ → Memory
 written m d at bytes = record m {
   disks = slice_set m.disks d (option_written (disk_at m d) at bytes);
-  past = record { moment = m.moment; change = Written d at (option_range (disk_at m d) at (at + length bytes)) } ∷ m.past;
+  past = record {
+    moment = m.moment;
+    change = Written d at (option_range (disk_at m d) at (at + length bytes));
+  } ∷ m.past;
   moment = m.moment + 1;
 }
 
@@ -79,7 +82,7 @@ synced m d = record m {
   moment = m.moment + 1;
 }
 
--- the disk got so many zero bytes
+-- the disk got that many zero bytes
 abbrev pub made : Memory → ℕ → ℕ → Memory
 made m d len = record m {
   disks = slice_set m.disks d (Some (zero_disk len));

@@ -30,16 +30,28 @@ abbrev pub option_overlaid : Option (List ℕ) → ℕ → List ℕ → Option (
 option_overlaid None at bytes = None
 option_overlaid (Some old) at bytes = Some (overlaid old at bytes)
 
--- the state before a change, from the one behind it
+-- the state before a change, from the one after it
 abbrev pub before : State → Change → State
-before s (Made d len old) = record { disks = with_disk s.disks d (bytes_kept old); ranges = with_disk s.ranges d (ranges_kept old); said = s.said }
+before s (Made d len old) = record {
+  disks = with_disk s.disks d (bytes_kept old);
+  ranges = with_disk s.ranges d (ranges_kept old);
+  said = s.said;
+}
 before s (Written d at replaced) = record {
   disks = with_disk s.disks d (option_overlaid (s.disks d) at replaced);
   ranges = with_disk s.ranges d (take (length (s.ranges d) - 1) (s.ranges d));
   said = s.said;
 }
-before s (Synced d ranges) = record { disks = s.disks; ranges = with_disk s.ranges d ranges; said = s.said }
-before s (Said len) = record { disks = s.disks; ranges = s.ranges; said = take (length s.said - len) s.said }
+before s (Synced d ranges) = record {
+  disks = s.disks;
+  ranges = with_disk s.ranges d ranges;
+  said = s.said;
+}
+before s (Said len) = record {
+  disks = s.disks;
+  ranges = s.ranges;
+  said = take (length s.said - len) s.said;
+}
 
 abbrev pub area_of : State → Area
 area_of s d i = InRanges (s.ranges d) i
@@ -61,17 +73,20 @@ still s = record {
   left = λ t c. ⊥;
 }
 
--- what a crash inside a call may leave, by the states before and behind it
+-- what a crash inside a call may leave, by the states before and after it
 abbrev pub InCall : State → State → Change → Contents → Type 0
 InCall old new (Made d len disk) c = LeftMaking d len (still old) c
-InCall old new (Written d at replaced) c = LeftOver (Either (area_of old) (Within d at (length replaced))) (still old) c
+InCall old new (Written d at replaced) c =
+    LeftOver (Either (area_of old) (Within d at (length replaced))) (still old) c
 InCall old new (Synced d ranges) c = MayLeave (still old) c
 InCall old new (Said len) c = LeftSaying (drop (length old.said) new.said) (still old) c
 
--- what a crash may have left in one of the calls since t, the newest first, where the state behind them is this
+-- what a crash may have left in one of the calls since t, the newest first, where the state after
+-- them is this
 abbrev pub InCalls : State → List Entry → ℕ → Contents → Type 0
 InCalls s [] t c = ⊥
-InCalls s (e ∷ older) t c = (t ≤ e.moment) × (InCall (before s e.change) s e.change c ⊎ InCalls (before s e.change) older t c)
+InCalls s (e ∷ older) t c = (t ≤ e.moment) × (InCall (before s e.change) s e.change c
+    ⊎ InCalls (before s e.change) older t c)
 
 -- the newest call began before this moment
 abbrev pub BeganBefore : List Entry → ℕ → Type 0

@@ -8,7 +8,7 @@ pub record Schedule : Type 0 where
   pub answer : ℕ → Turn
 
 -- one asking, and its answer
-pub record Answers (given : Turn) (old new : Schedule) : Type 0 where
+pub record AnswersTurn (given : Turn) (old new : Schedule) : Type 0 where
   pub asked : new.asked ≡ old.asked + 1
   pub given_ : given ≡ old.answer old.asked
   pub same : (k : ℕ) → new.answer k ≡ old.answer k

@@ -9,14 +9,15 @@ pub record From (v : View) (step : Contents → Contents → Type 0) (c : Conten
   pub was : MayLeave v origin
   pub by : step origin c
 
--- Each crash during the run leaves what comes by the first relation from what a crash on entry may leave,
--- and each crash now what comes so by the second. No count fell.
+-- Each crash during the run leaves what comes by the first relation from what a crash on entry may
+-- leave, and each crash now what comes so by the second. No count fell.
 pub record Steps (old new : View) (during after : Contents → Contents → Type 0) : Type 0 where
   pub tells : new.tells ≡ old.tells
   pub faults : (e : ℕ) → old.faults e ≤ new.faults e
   pub port_faults : old.port_faults ≤ new.port_faults
   pub later : old.moment ≤ new.moment
-  pub in_run : (t : ℕ) (c : Contents) → t ≤ old.moment → new.left t c → old.left t c ⊎ From old during c
+  pub in_run : (t : ℕ) (c : Contents) → t ≤ old.moment → new.left t c
+      → old.left t c ⊎ From old during c
   pub now : (c : Contents) → MayLeave new c → From old after c
 
 -- the same, where nothing is said
@@ -61,7 +62,8 @@ pub record MadeDisk (d n : ℕ) (old new : Disks) : Type 0 where
   pub others : (e : ℕ) → e ≢ d → new e ≡ old e
   pub disk : new d ≡ Some (replicate n 0)
 
--- The run only read: sizes, what a read gives and what was said are the same, also after a crash at any moment.
+-- The run only read: sizes, what a read gives and what was said are the same, also after a crash at
+-- any moment.
 pub record OnlyReads (old new : View) : Type 0 where
   pub sizes : (e : ℕ) → new.sizes e ≡ old.sizes e
   pub same : IsTrue old.tells → new.now ≡ old.now

@@ -27,6 +27,7 @@ pub record GaveNothing (old new : Stream) : Type 0 where
   pub given : new.given ≡ old.given
   pub ended : new.ended ≡ old.ended
 
--- what a call of `take` does, with the buffer behind it
+-- what a call of `take` does, with the buffer after it
 abbrev pub Takes : {E : Type 0} → Result ℕ E → List ℕ → Stream → Stream → Type 0
-Takes result buf old new = MatchResult result (λ count. Gave (take count buf) count old new) (λ e. GaveNothing old new)
+Takes result buf old new =
+    MatchResult result (λ count. Gave (take count buf) count old new) (λ e. GaveNothing old new)

@@ -12,7 +12,7 @@ use crate::disk::{Disk, Range, copy_ranges};
 use crate::draws::Draws;
 
 impl MemoryBank {
-    /// Makes every call fail after so many more. A later fuse takes the place of an earlier one.
+    /// Makes every call fail after that many more. A later fuse takes the place of an earlier one.
     pub fn fuse(&mut self, calls: u64)
         ensures { self.new
             ≡ record self.old { fuse = Some (min (self.old.moment + calls) (2 ^ 64 - 1)) } }
@@ -31,10 +31,10 @@ impl MemoryBank {
     }
 
     /// Goes on as after a crash. Seed 0 keeps what was written, and seed 1 gives back what the last
-    /// sync of each disk left. Any other seed fills what was written since then, one disk after another
-    /// and one write after another, with bytes that follow from the seed. It ends what `fail_at`,
-    /// `fail_on` and `fuse` have set, takes no memory, and forgets what a crash may have left at earlier
-    /// moments.
+    /// sync of each disk left. Any other seed fills what was written since then, one disk after
+    /// another and one write after another, with bytes that follow from the seed. It ends what
+    /// `fail_at`, `fail_on` and `fuse` have set, takes no memory, and forgets what a crash may have
+    /// left at earlier moments.
     pub fn crash(&mut self, seed: u64)
         ensures { Crashes seed self.old self.new }
     {

@@ -52,13 +52,17 @@ pub(crate) struct Disk {
 }
 
 impl Model for Disk {
-    ghost use Rattle.trap_bank.specs.Kept.{Kept, IsKept};
+    ghost use Rattle.trap_bank.specs.Kept.{Kept, IsStableBut};
 
     ghost Value = { Kept };
 
-    ghost view = { λ disk. record { bytes = disk.bytes.items; stable = disk.stable.items; ranges = disk.ranges } };
+    ghost view = { λ disk. record {
+      bytes = disk.bytes.items;
+      stable = disk.stable.items;
+      ranges = disk.ranges;
+    } };
 
-    ghost invariant = { λ disk. IsKept disk.bytes.items disk.stable.items disk.ranges };
+    ghost invariant = { λ disk. IsStableBut disk.bytes.items disk.stable.items disk.ranges };
 }
 
 impl Disk {

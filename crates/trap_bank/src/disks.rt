@@ -18,8 +18,8 @@ impl From<Failed> for DiskFault {
     }
 }
 
-/// Disks by number, 0 to 20, and a port on which replies are said. One bank holds them all, so that a
-/// crash strikes them at one moment. Offsets and lengths are in bytes.
+/// Disks by number, 0 to 20, and a port on which replies are said. One bank holds them all, so that
+/// a crash strikes them at one moment. Offsets and lengths are in bytes.
 pub trait Bank {
     ghost view: { Self → View };
 
@@ -28,8 +28,8 @@ pub trait Bank {
         requires { d ≤ 20 }
         ensures { result ≡ (view self.now).sizes d };
 
-    /// Gives the disk exactly `len` zero bytes, whatever it was, and makes them stable. After a failure
-    /// the disk is as before, or absent, or has at most `len` bytes, all zero.
+    /// Gives the disk exactly `len` zero bytes, whatever it was, and makes them stable. After a
+    /// failure the disk is as before, or absent, or has at most `len` bytes, all zero.
     fn make(&mut self, d: u8, len: u64) -> Result<(), Failed>
         requires { d ≤ 20 }
         ensures call { Makes d len result (view self.old) (view self.new) };
@@ -40,8 +40,8 @@ pub trait Bank {
         requires room { Fits (view self.old) d (at + length buf.old) }
         ensures call { Reads d at buf.old buf.new result (view self.old) (view self.new) };
 
-    /// Writes the bytes over the disk's. Until a sync, and after a failure, a crash may leave any bytes
-    /// in their range.
+    /// Writes the bytes over the disk's. Until a sync, and after a failure, a crash may leave any
+    /// bytes in their range.
     fn write(&mut self, d: u8, at: u64, bytes: &[u8]) -> Result<(), Failed>
         requires disk { d ≤ 20 }
         requires room { Fits (view self.old) d (at + length bytes.now) }

@@ -11,7 +11,8 @@ use crate::Failed;
 pub trait Source {
     ghost stream: { Self → Stream };
 
-    /// Places the next bytes at the front of `buf`, and answers how many. 0 is the end of the input.
+    /// Places the next bytes at the front of `buf`, and answers how many. 0 is the end of the
+    /// input.
     fn take(&mut self, buf: &mut [u8]) -> Result<usize, Failed>
         requires room { 0 < length buf.old }
         requires below { (stream self.old).given < 2 ^ 63 }

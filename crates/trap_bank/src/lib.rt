@@ -1,4 +1,5 @@
-//! Traits of the outside: disks with a reply port, a source of bytes, and turns for background work.
+//! Traits of the outside: disks with a reply port, a source of bytes, and turns for background
+//! work.
 #![tactic(auto)]
 
 mod chosen;

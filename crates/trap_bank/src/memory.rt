@@ -16,8 +16,8 @@ use std::marker::Model;
 /// How many disks a bank has.
 const DISKS: usize = 21;
 
-/// A bank that tells everything. It keeps a record of its calls, so that what a crash may have left at
-/// an earlier moment stays known.
+/// A bank that tells everything. It keeps a record of its calls, so that what a crash may have left
+/// at an earlier moment stays known.
 #[derive(Drop)]
 pub struct MemoryBank {
     pub(crate) alloc: Global,
@@ -71,16 +71,16 @@ impl MemoryBank {
         })
     }
 
-    /// Makes the call with that number fail, counted from 1 over all calls of `make`, `read`, `write`,
-    /// `sync` and `say`. The last eight such numbers are kept.
+    /// Makes the call with that number fail, counted from 1 over all calls of `make`, `read`,
+    /// `write`, `sync` and `say`. The last eight such numbers are kept.
     pub fn fail_at(&mut self, call: u64)
         ensures { self.new ≡ record self.old { chosen = call ∷ take 7 self.old.chosen } }
     {
         self.chosen.add(call);
     }
 
-    /// Makes each call on the disk fail after so many more on it. A later number for the same disk takes
-    /// the place of the earlier one.
+    /// Makes each call on the disk fail after that many more on it. A later number for the same
+    /// disk takes the place of the earlier one.
     pub fn fail_on(&mut self, d: u8, after: u64)
         requires { d ≤ 20 }
         ensures { self.new ≡ record self.old {

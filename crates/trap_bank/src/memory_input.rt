@@ -81,7 +81,7 @@ impl Source for MemorySource {
     }
 }
 
-/// Places the bytes behind the first `given` at the front of `buf`: as many as there are, as `buf`
+/// Places the bytes after the first `given` at the front of `buf`: as many as there are, as `buf`
 /// has room for and as one call gives.
 fn give(bytes: &[u8], given: u64, piece: usize, buf: &mut [u8]) -> usize
     ensures len { result ≡ min (max piece 1) (min (length buf.old) (length bytes.now - given)) }

@@ -4,7 +4,7 @@ ghost use Rattle.std.specs.Prelude.{◌≡◌, ◌↔◌, ◌+◌, ◌<◌, ◌�
 ghost use Rattle.trap_bank.specs.declared.record.Entry.{Entry};
 ghost use Rattle.trap_bank.specs.Calls.{Fits};
 ghost use Rattle.trap_bank.specs.Disks.{region};
-ghost use Rattle.trap_bank.specs.Memory.{view_of, IsSound};
+ghost use Rattle.trap_bank.specs.Memory.{view_of, IsMemoryBank};
 ghost use Rattle.trap_bank.specs.MemorySteps.{IsWorn, IsStruck, IsStruckOn, IsBurnt, one_less, counted_on, passed, found_no_memory, blamed, port_blamed, written, synced, made, spoken};
 
 use crate::disk::Disk;
@@ -17,7 +17,7 @@ impl MemoryBank {
     /// No further call has a number.
     pub(crate) fn is_worn(&self) -> bool
         ensures worn { IsTrue result ↔ IsWorn self.now }
-        ensures sound { IsSound self.now }
+        ensures sound { IsMemoryBank self.now }
     {
         self.moment == u64::MAX
     }
@@ -25,7 +25,7 @@ impl MemoryBank {
     /// The next call is to fail.
     pub(crate) fn is_struck(&self) -> bool
         ensures struck { IsTrue result ↔ IsStruck self.now }
-        ensures sound { IsSound self.now }
+        ensures sound { IsMemoryBank self.now }
     {
         let calls = self.moment;
         if calls == u64::MAX {
@@ -41,7 +41,7 @@ impl MemoryBank {
     pub(crate) fn is_struck_on(&self, d: u8) -> bool
         requires { d ≤ 20 }
         ensures struck { IsTrue result ↔ IsStruckOn self.now d }
-        ensures sound { IsSound self.now }
+        ensures sound { IsMemoryBank self.now }
     {
         let spent = is_spent(self.spared[d as usize]);
         let struck = self.is_struck();
@@ -181,7 +181,7 @@ fn copy_part(bytes: &[u8], at: usize, buf: &mut [u8])
     buf.copy_from_slice(&bytes[at..at + buf.len()]);
 }
 
-/// Puts a call behind the others, where there is room for it.
+/// Puts a call after the others, where there is room for it.
 fn note(past: &mut Vec<Entry>, moment: u64, change: Change)
     requires { vec_len past.old < vec_capacity past.old }
     ensures { past.new.items ≡ past.old.items ++ record { moment = moment; change = change } ∷ [] }

@@ -5,7 +5,7 @@ use crate::disk::{Bytes, Disk, Ranges};
 /// What a call changed, with what it takes to go back.
 #[derive(Debug, Drop)]
 pub(crate) enum Change {
-    /// A disk was given so many bytes in the place of what was there.
+    /// A disk was given that many bytes in the place of what was there.
     Made {
         d: u8,
         len: u64,

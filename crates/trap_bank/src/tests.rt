@@ -74,7 +74,7 @@ fn each_call_of_the_bank_does_its_work(rt: HostRuntime) -> Result<(), Fail> {
 
 #[test]
 fn a_crash_leaves_what_its_seed_says(rt: HostRuntime) -> Result<(), Fail> {
-    // Behind seed 2 the generator's numbers are 59559187, 1495354192, 671064393 and 846338638.
+    // After seed 2 the generator's numbers are 59559187, 1495354192, 671064393 and 846338638.
     let outcomes = [
         (0, [1, 1, 9, 9, 9, 9, 0, 0]),
         (1, [1, 1, 1, 1, 0, 0, 0, 0]),
@@ -164,6 +164,8 @@ fn a_call_that_is_made_to_fail_leaves_its_traces(rt: HostRuntime) -> Result<(), 
     assert_eq!(rt; bank.said(), b"".as_slice());
     bank.crash(1);
     assert!(rt; holds(&bank, &[1, 1, 1, 1, 0, 0, 0, 0]));
+    // No call wanted memory.
+    assert_eq!(rt; bank.starved(), 0);
     Ok(())
 }
 

@@ -25,7 +25,8 @@ pub fn write_through<B: Bank>(bank: &mut B, d: u8, at: u64, bytes: &[u8]) -> Res
     ensures any_moment { Moves (B.view bank.old) (B.view bank.new)
         (Differs (Within d at (length bytes.now))) (Differs (Within d at (length bytes.now))) }
     ensures ok { OnOk result (Moves (B.view bank.old) (B.view bank.new)
-        (Differs (Within d at (length bytes.now))) (PlacedThrough (B.view bank.new) d at bytes.now)) }
+        (Differs (Within d at (length bytes.now)))
+        (PlacedThrough (B.view bank.new) d at bytes.now)) }
 {
     bank.write(d, at, bytes)?;
     bank.sync(d)?;

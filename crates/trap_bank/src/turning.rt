@@ -1,7 +1,7 @@
 //! Turns for background work.
 
 ghost use Rattle.std.specs.Prelude.{◌<◌, ◌^◌};
-ghost use Rattle.trap_bank.specs.Schedule.{Schedule, Answers};
+ghost use Rattle.trap_bank.specs.Schedule.{Schedule, AnswersTurn};
 
 /// What the background is asked to do.
 #[derive(Debug, Clone, Copy, PartialEq, Eq)]
@@ -21,5 +21,5 @@ pub trait Turns {
     /// The next answer.
     fn turn(&mut self) -> Turn
         requires { (schedule self.old).asked < 2 ^ 63 }
-        ensures { Answers result (schedule self.old) (schedule self.new) };
+        ensures { AnswersTurn result (schedule self.old) (schedule self.new) };
 }

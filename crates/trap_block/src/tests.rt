@@ -90,7 +90,7 @@ fn each_length_up_to_130_is_gone_over_whole(rt: HostRuntime) {
     }
 }
 
-// Whether four zero bytes are found at the end of so many bytes, and three aren't.
+// Whether four zero bytes are found at the end of that many bytes, and three aren't.
 fn finds_four_at_the_end(len: usize) -> bool
     requires { len ≤ 130 }
 {

@@ -1,4 +1,4 @@
-//! Searches for zero bytes, thirty-two places at a time as far as so many are left.
+//! Searches for zero bytes, thirty-two places at a time as far as that many are left.
 
 ghost use Rattle.std.specs.Prelude.{◌≡◌, ◌↔◌, ℕ, ◌+◌, ◌<◌, ◌≤◌, length, slice_index};
 ghost use Rattle.std.specs.Int.{bit_at};
@@ -54,7 +54,7 @@ pub fn four_zeros_before(bytes: &[u8], at: usize, stop: usize) -> usize
             return stop.min(place + found);
         }
 
-        // Four zero bytes that begin at one of the last three places end behind them.
+        // Four zero bytes that begin at one of the last three places end after them.
         place += 29;
     }
     four_zeros_one_by_one(bytes, stop.min(place), stop)

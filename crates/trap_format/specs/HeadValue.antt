@@ -13,12 +13,14 @@ lost_byte (Some member) = member + 1
 -- the 62 bytes of the head's value
 abbrev pub head_value : Head → List ℕ
 head_value h =
-    h.version ∷ lost_byte h.lost ∷ to_be_bytes w32 h.rebuilt ++ to_be_bytes w64 h.first ++ to_be_bytes w64 h.base_time
-    ++ to_be_bytes w64 h.first_off ++ to_be_bytes w64 h.last ++ to_be_bytes w64 h.end_off ++ to_be_bytes w64 h.drained
+    h.version ∷ lost_byte h.lost ∷ to_be_bytes w32 h.rebuilt ++ to_be_bytes w64 h.first
+    ++ to_be_bytes w64 h.base_time
+    ++ to_be_bytes w64 h.first_off ++ to_be_bytes w64 h.last ++ to_be_bytes w64 h.end_off
+    ++ to_be_bytes w64 h.drained
     ++ to_be_bytes w64 h.last_time
 
 -- the lost member, and how many of its rows are rebuilt
-pub record KeepsLost (g : Geometry) (h : Head) : Type 0 where
+pub record IsLostInRange (g : Geometry) (h : Head) : Type 0 where
   pub member : lost_byte h.lost ≤ g.members
   pub rebuilt : h.rebuilt < g.rows
   pub none_rebuilt : h.lost ≡ None → h.rebuilt ≡ 0
@@ -45,7 +47,7 @@ pub record IsEmpty (h : Head) : Type 0 where
 -- the numbers of a head of such an array
 pub record IsHead (g : Geometry) (h : Head) : Type 0 where
   pub version : h.version ≡ 1
-  pub lost : KeepsLost g h
+  pub lost : IsLostInRange g h
   pub numbers : KeepsNumbers g h
   pub offsets : KeepsOffsets g h
   pub times : h.base_time ≤ h.last_time

@@ -30,7 +30,8 @@ log_start = 165 ∷ codes "TRPL"
 -- the 64 bytes of the header
 abbrev pub log_header : Geometry → List ℕ
 log_header g =
-    log_start ++ to_be_bytes w64 g.id ++ (g.members ∷ g.chunk ∷ to_be_bytes w16 g.block) ++ to_be_bytes w32 g.rows
+    log_start ++ to_be_bytes w64 g.id ++ (g.members ∷ g.chunk ∷ to_be_bytes w16 g.block)
+    ++ to_be_bytes w32 g.rows
     ++ (g.slots ∷ g.gap ∷ to_be_bytes w32 g.entries) ++ to_be_bytes w64 g.ring ++ replicate 29 0
 
 -- the bytes are the header of these numbers; an array has one staging slot

@@ -10,7 +10,8 @@ use Rattle.trap_format.specs.declared.shape.Shape.{Shape}
 -- the first number that breaks its limit, where one does
 abbrev pub first_broken_shape : ℕ → ℕ → ℕ → Option Field
 first_broken_shape block volume seq =
-    if not (is_block_size block) then Some Block else (if not (is_between 1 (2 ^ 20) volume) then Some Volume
+    if not (is_block_size block) then Some Block
+    else (if not (is_between 1 (2 ^ 20) volume) then Some Volume
     else (if not (nat_le seq (2 ^ 40)) then Some Seq else None))
 
 -- the shape has these numbers
@@ -42,4 +43,5 @@ replica_start = 165 ∷ codes "TRPR"
 -- the 32 bytes of the header, of version 1
 abbrev pub replica_header : Shape → List ℕ
 replica_header s =
-    replica_start ++ (1 ∷ to_be_bytes w64 s.id) ++ to_be_bytes w16 s.block ++ to_be_bytes w32 s.volume ++ replicate 12 0
+    replica_start ++ (1 ∷ to_be_bytes w64 s.id) ++ to_be_bytes w16 s.block
+    ++ to_be_bytes w32 s.volume ++ replicate 12 0

@@ -3,7 +3,7 @@
 ghost use Rattle.std.specs.Prelude.{◌≡◌, ◌↔◌, ◌^◌, ◌<◌, ◌≤◌, IsTrue, IfSome, IfNone};
 ghost use Rattle.std.specs.Option.{ForSome};
 ghost use Rattle.trap_format.specs.declared.head.Head.{Head};
-ghost use Rattle.trap_format.specs.HeadValue.{lost_byte, head_value, KeepsLost, KeepsNumbers, KeepsOffsets, IsEmpty, IsHead, IsHeadValue, HeadStandsIn, HeadFits};
+ghost use Rattle.trap_format.specs.HeadValue.{lost_byte, head_value, IsLostInRange, KeepsNumbers, KeepsOffsets, IsEmpty, IsHead, IsHeadValue, HeadStandsIn, HeadFits};
 
 use crate::head::Head;
 use crate::limits::greatest_record;
@@ -112,7 +112,7 @@ fn is_head(g: &Geometry, h: &Head) -> bool
 }
 
 fn keeps_lost(g: &Geometry, h: &Head) -> bool
-    ensures { IsTrue result ↔ KeepsLost g.now h.now }
+    ensures { IsTrue result ↔ IsLostInRange g.now h.now }
 {
     match h.lost {
         None => h.rebuilt == 0,

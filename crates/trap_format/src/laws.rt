@@ -13,8 +13,10 @@ use trap_model::Geometry;
 pub fn spellings()
     ensures logs { (g h : Geometry) (bytes : List ℕ) → g.id < 2 ^ 64 → h.id < 2 ^ 64
         → IsLogHeader g bytes → IsLogHeader h bytes → g ≡ h }
-    ensures members { (i j m k : ℕ) → i < 2 ^ 64 → j < 2 ^ 64 → member_header i m ≡ member_header j k
+    ensures members { (i j m k : ℕ) → i < 2 ^ 64 → j < 2 ^ 64
+        → member_header i m ≡ member_header j k
         → (i ≡ j) × (m ≡ k) }
-    ensures heads { (g : Geometry) (h k : Head) (bytes : List ℕ) → IsHeadValue g h bytes → IsHeadValue g k bytes
+    ensures heads { (g : Geometry) (h k : Head) (bytes : List ℕ) → IsHeadValue g h bytes
+        → IsHeadValue g k bytes
         → h ≡ k }
 {}

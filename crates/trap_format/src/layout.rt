@@ -16,7 +16,7 @@ pub const SLOTS_AT: u64 = 192;
 pub const SLOT_NUMBERS_BYTES: u64 = 12;
 
 /// A log record's header.
-pub const RECORD_HEADER_BYTES: u64 = 26;
+pub use trap_model::RECORD_HEADER_BYTES;
 
 /// A member's header, at the front of its disk. The place of row 0 follows it.
 pub const MEMBER_HEADER_BYTES: u64 = 16;

@@ -109,7 +109,7 @@ fn is_block_size(size: u64) -> bool
     matches!(size, 16 | 32 | 64 | 128 | 256 | 512 | 1024 | 2048 | 4096)
 }
 
-/// Whether so many rows are some chunks, and no more than there may be.
+/// Whether that many rows are some chunks, and no more than there may be.
 fn are_whole_chunks(chunk: u64, rows: u64) -> bool
     requires { 0 < chunk }
     ensures { result ≡ (is_between chunk (2 ^ 20) rows && (rows % chunk == 0)) }

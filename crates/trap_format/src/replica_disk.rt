@@ -4,13 +4,14 @@ ghost use Rattle.std.specs.Prelude.{◌≡◌, ◌≢◌, ◌↔◌, ◌^◌, �
 ghost use Rattle.trap_model.specs.Limits.{is_block_size};
 ghost use Rattle.trap_format.specs.ReplicaDisk.{first_broken_shape, HasShape, replica_size, replica_start, replica_header};
 
+use crate::layout::OPEN_GATE;
 use crate::limits::{BadGeometry, Field};
 use crate::pieces::{begins_with, ends_in_zeros, put_byte, put_bytes};
 use crate::shape::Shape;
 use trap_block::{get_u16, get_u32, get_u64, put_u16, put_u32, put_u64};
 
 /// An open gate, and the magic bytes.
-const START: [u8; 5] = [0xa5, b'T', b'R', b'P', b'R'];
+const START: [u8; 5] = [OPEN_GATE, b'T', b'R', b'P', b'R'];
 
 /// The version of the format.
 const VERSION: u8 = 1;

@@ -7,5 +7,6 @@ use crate::Shape;
 
 /// No bytes are the header of two replicas. So what was written is what is read again.
 pub fn one_shape()
-    ensures { (s t : Shape) → s.id < 2 ^ 64 → t.id < 2 ^ 64 → replica_header s ≡ replica_header t → s ≡ t }
+    ensures { (s t : Shape) → s.id < 2 ^ 64 → t.id < 2 ^ 64 → replica_header s ≡ replica_header t
+        → s ≡ t }
 {}

@@ -6,10 +6,10 @@ use Rattle.circular_buffer.specs.Buffer.{Buffer, buffer, keep_last}
 use Rattle.trap_model.specs.declared.log_record.LogRec.{LogRec}
 use Rattle.trap_model.specs.declared.numbers.Geometry.{Geometry}
 use Rattle.trap_model.specs.Image.{volume}
-use Rattle.trap_model.specs.LogRecord.{KeepsRanges, SnapshotLength}
+use Rattle.trap_model.specs.LogRecord.{IsRecordInRange, SnapshotLength}
 use Rattle.trap_index.specs.declared.item.Item.{Item}
 use Rattle.trap_index.specs.Indexed.{Indexed, with_record, last_seq, last_time, rec_len, recs_len, newest, no_rec, item_behind}
-use Rattle.trap_index.specs.Keeping.{IsKept, rec_of, recs_of, no_item, link, told}
+use Rattle.trap_index.specs.Keeping.{KeepsItems, rec_of, recs_of, no_item, link, told}
 use Rattle.trap_index.proofs.Numbered.{length-recs_of, recs_of-push, numbered-push, times-push, time_behind-push, recs_len-push}
 use Rattle.trap_index.proofs.Chains.{newest-push, newest-push_other}
 use Rattle.trap_index.proofs.Links.{link-some}
@@ -20,10 +20,10 @@ pub record IsNext (i : Indexed) (rec : LogRec) : Type 0 where
   pub number : rec.seq ≡ last_seq i + 1
   pub time : last_time i ≤ rec.time
   pub block : rec.block < volume i.g
-  pub ranges : KeepsRanges i.g.block rec
+  pub ranges : IsRecordInRange i.g.block rec
 
 -- a record has at most 8232 bytes
-pub rec_short : (g : Geometry) (rec : LogRec) → KeepsRanges g.block rec → rec_len rec ≤ 8232
+pub rec_short : (g : Geometry) (rec : LogRec) → IsRecordInRange g.block rec → rec_len rec ≤ 8232
 rec_short g rec ranges =
     let most = g.within.block_most in
     let first = ranges.parity.1 in
@@ -49,7 +49,7 @@ item_last first_off recs rec k is =
     ∙ ap (λ (r : LogRec). item_behind first_off (take k (recs ++ rec ∷ [])) r) heres
 
 -- what is kept of the records with a further one
-pub kept_added : (i : Indexed) (items : List Item) (capacity : ℕ) (heads : List ℕ) (end_off last : ℕ) (rec : LogRec) (item : Item) → IsKept i items capacity heads end_off last → IsNext i rec → length items ≡ length i.recs → told i.first item ≡ item_behind i.first_off i.recs rec → IsKept (with_record i rec) (items ++ item ∷ []) capacity (set heads rec.block rec.seq) (end_off + rec_len rec) rec.time
+pub kept_added : (i : Indexed) (items : List Item) (capacity : ℕ) (heads : List ℕ) (end_off last : ℕ) (rec : LogRec) (item : Item) → KeepsItems i items capacity heads end_off last → IsNext i rec → length items ≡ length i.recs → told i.first item ≡ item_behind i.first_off i.recs rec → KeepsItems (with_record i rec) (items ++ item ∷ []) capacity (set heads rec.block rec.seq) (end_off + rec_len rec) rec.time
 kept_added i items capacity heads end_off last rec item kept next same is_told =
     let long : length (i.recs ++ rec ∷ []) ≡ length i.recs + 1 = length-append i.recs (rec ∷ []) in
     let was = kept.indexed in
@@ -89,7 +89,7 @@ kept_added i items capacity heads end_off last rec item kept next same is_told =
 -- the fields of an index with a further record
 pub record IsAddedTo (i : Indexed) (new : Buffer Item) (heads : List ℕ) (end_off last : ℕ) (rec : LogRec) : Type 0 where
   pub recs : recs_of i.first new.items ≡ i.recs ++ rec ∷ []
-  pub kept : IsKept (record i { recs = recs_of i.first new.items }) new.items new.capacity heads end_off last
+  pub kept : KeepsItems (record i { recs = recs_of i.first new.items }) new.items new.capacity heads end_off last
 
 keep_all : (capacity : ℕ) (items : List Item) → length items ≤ capacity → keep_last capacity items ≡ items
 keep_all capacity items few = let none : length items - capacity ≡ 0 = omega arith in ap (λ (n : ℕ). drop n items) none
@@ -101,7 +101,7 @@ item_made rec off prev = record { time = rec.time; block = rec.block; off = off;
 same_item : (rec : LogRec) (off off' prev prev' : ℕ) → off ≡ off' → prev ≡ prev' → item_made rec off prev ≡ item_made rec off' prev'
 same_item rec off off' prev prev' p q = cc
 
-pub added : (i : Indexed) (items : Buffer Item) (heads : List ℕ) (end_off last : ℕ) (rec : LogRec) (new : Buffer Item) (prev : ℕ) → IsKept i items.items items.capacity heads end_off last → i.recs ≡ recs_of i.first items.items → IsNext i rec → prev ≡ get_or heads rec.block 0 → new ≡ buffer (keep_last items.capacity (items.items ++ item_made rec end_off prev ∷ [])) items.capacity → IsAddedTo i new (set heads rec.block rec.seq) (end_off + rec_len rec) rec.time rec
+pub added : (i : Indexed) (items : Buffer Item) (heads : List ℕ) (end_off last : ℕ) (rec : LogRec) (new : Buffer Item) (prev : ℕ) → KeepsItems i items.items items.capacity heads end_off last → i.recs ≡ recs_of i.first items.items → IsNext i rec → prev ≡ get_or heads rec.block 0 → new ≡ buffer (keep_last items.capacity (items.items ++ item_made rec end_off prev ∷ [])) items.capacity → IsAddedTo i new (set heads rec.block rec.seq) (end_off + rec_len rec) rec.time rec
 added i items heads end_off last rec new prev kept of next prev_is new_is =
     let item = item_made rec end_off prev in
     let long : length i.recs ≡ length items.items = ap (λ (l : List LogRec). length l) of ∙ length-recs_of i.first items.items in
@@ -113,10 +113,10 @@ added i items heads end_off last rec new prev kept of next prev_is new_is =
     let room : items.capacity ≡ new.capacity = sym (ap (λ (b : Buffer Item). b.capacity) new_is) in
     let pushed : recs_of i.first (items.items ++ item ∷ []) ≡ recs_of i.first items.items ++ rec_of rec.seq item ∷ [] = recs_of-push i.first rec.seq items.items item (let seq = next.number in omega arith) in
     let recs : recs_of i.first new.items ≡ i.recs ++ rec ∷ [] = ap (recs_of i.first) items_are ∙ pushed ∙ ap (λ (l : List LogRec). l ++ rec ∷ []) (sym of) in
-    let whole : IsKept (with_record i rec) (items.items ++ item ∷ []) items.capacity (set heads rec.block rec.seq) (end_off + rec_len rec) rec.time = kept_added i items.items items.capacity heads end_off last rec item kept next (sym long) is_told in
+    let whole : KeepsItems (with_record i rec) (items.items ++ item ∷ []) items.capacity (set heads rec.block rec.seq) (end_off + rec_len rec) rec.time = kept_added i items.items items.capacity heads end_off last rec item kept next (sym long) is_told in
     record {
       recs = recs;
-      kept = subst (λ (l : List LogRec). IsKept (record i { recs = l }) new.items new.capacity (set heads rec.block rec.seq) (end_off + rec_len rec) rec.time) (sym recs)
-          (subst (λ (c : ℕ). IsKept (with_record i rec) new.items c (set heads rec.block rec.seq) (end_off + rec_len rec) rec.time) room
-          (subst (λ (l : List Item). IsKept (with_record i rec) l items.capacity (set heads rec.block rec.seq) (end_off + rec_len rec) rec.time) (sym items_are) whole));
+      kept = subst (λ (l : List LogRec). KeepsItems (record i { recs = l }) new.items new.capacity (set heads rec.block rec.seq) (end_off + rec_len rec) rec.time) (sym recs)
+          (subst (λ (c : ℕ). KeepsItems (with_record i rec) new.items c (set heads rec.block rec.seq) (end_off + rec_len rec) rec.time) room
+          (subst (λ (l : List Item). KeepsItems (with_record i rec) l items.capacity (set heads rec.block rec.seq) (end_off + rec_len rec) rec.time) (sym items_are) whole));
     }

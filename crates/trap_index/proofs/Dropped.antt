@@ -5,7 +5,7 @@ use Rattle.circular_buffer.specs.Buffer.{Buffer, buffer, keep_last}
 use Rattle.trap_model.specs.declared.log_record.LogRec.{LogRec}
 use Rattle.trap_index.specs.declared.item.Item.{Item}
 use Rattle.trap_index.specs.Indexed.{Indexed, dropped_to, last_seq, last_time, time_behind, recs_len, newest, no_rec, recs_up_to, recs_above, item_behind, item_at}
-use Rattle.trap_index.specs.Keeping.{IsIndexed, IsKept, AreNumbered, recs_of, no_item, link, told}
+use Rattle.trap_index.specs.Keeping.{IsIndexed, KeepsItems, AreNumbered, recs_of, no_item, link, told}
 use Rattle.trap_index.proofs.Numbered.{length-recs_of, numbered-take, numbered-drop, times-drop, time_behind-parts, time_behind-at, recs_len-parts, recs_of-drop}
 use Rattle.trap_index.proofs.Links.{link-twice, newest-drop}
 use Rattle.trap_index.proofs.Added.{item_made}
@@ -32,12 +32,12 @@ item_stays first first_off recs d k is inside =
     ∙ ap (λ (r : LogRec). newest r.block (take k (drop d recs))) recs_are)
 
 -- what is kept of the records that stay
-pub kept_dropped : (i : Indexed) (items : List Item) (capacity : ℕ) (heads : List ℕ) (end_off last d : ℕ) → IsKept i items capacity heads end_off last → d ≤ length i.recs → IsKept (dropped_to i (i.first + d)) (drop d items) capacity heads end_off last
+pub kept_dropped : (i : Indexed) (items : List Item) (capacity : ℕ) (heads : List ℕ) (end_off last d : ℕ) → KeepsItems i items capacity heads end_off last → d ≤ length i.recs → KeepsItems (dropped_to i (i.first + d)) (drop d items) capacity heads end_off last
 kept_dropped i items capacity heads end_off last d kept within =
     let was = kept.indexed in
     let q = i.first + d in
     let at : i.first + d - i.first ≡ d = omega arith in
-    let made : IsKept (record { g = i.g; first = q; base_time = time_behind i.base_time (take d i.recs); first_off = i.first_off + recs_len (take d i.recs); recs = drop d i.recs }) (drop d items) capacity heads end_off last = record {
+    let made : KeepsItems (record { g = i.g; first = q; base_time = time_behind i.base_time (take d i.recs); first_off = i.first_off + recs_len (take d i.recs); recs = drop d i.recs }) (drop d items) capacity heads end_off last = record {
       indexed = record {
         few = (let few = was.few in let rest = length-drop d i.recs in omega arith);
         last_most = (let most = was.last_most in let rest = length-drop d i.recs in omega arith);
@@ -59,7 +59,7 @@ kept_dropped i items capacity heads end_off last d kept within =
       end_most = (let was_most = kept.end_most in let rest = length-drop d i.recs in omega arith);
       time = kept.time ∙ sym (time_behind-parts i.base_time i.recs d);
     } in
-    subst (λ (n : ℕ). IsKept (record { g = i.g; first = q; base_time = time_behind i.base_time (take n i.recs); first_off = i.first_off + recs_len (take n i.recs); recs = drop n i.recs }) (drop d items) capacity heads end_off last) (sym at) made
+    subst (λ (n : ℕ). KeepsItems (record { g = i.g; first = q; base_time = time_behind i.base_time (take n i.recs); first_off = i.first_off + recs_len (take n i.recs); recs = drop n i.recs }) (drop d items) capacity heads end_off last) (sym at) made
   where
     told_twice : (first q : ℕ) (item : Item) → first ≤ q → told q item ≡ told q (told first item)
     told_twice first q item h = ap (λ (n : ℕ). record item { prev = n }) (sym (link-twice first q item.prev h))
@@ -67,9 +67,9 @@ kept_dropped i items capacity heads end_off last d kept within =
 -- the fields of an index with entries dropped
 pub record IsDroppedTo (i : Indexed) (q : ℕ) (new : Buffer Item) (heads : List ℕ) (end_off last : ℕ) : Type 0 where
   pub recs : recs_of q new.items ≡ recs_above i q
-  pub kept : IsKept (record (dropped_to i q) { recs = recs_of q new.items }) new.items new.capacity heads end_off last
+  pub kept : KeepsItems (record (dropped_to i q) { recs = recs_of q new.items }) new.items new.capacity heads end_off last
 
-pub dropped : (i : Indexed) (items : Buffer Item) (heads : List ℕ) (end_off last q count : ℕ) (new : Buffer Item) → IsKept i items.items items.capacity heads end_off last → i.recs ≡ recs_of i.first items.items → i.first ≤ q → q ≤ last_seq i → count + q ≡ last_seq i → new ≡ buffer (keep_last count items.items) items.capacity → IsDroppedTo i q new heads end_off last
+pub dropped : (i : Indexed) (items : Buffer Item) (heads : List ℕ) (end_off last q count : ℕ) (new : Buffer Item) → KeepsItems i items.items items.capacity heads end_off last → i.recs ≡ recs_of i.first items.items → i.first ≤ q → q ≤ last_seq i → count + q ≡ last_seq i → new ≡ buffer (keep_last count items.items) items.capacity → IsDroppedTo i q new heads end_off last
 dropped i items heads end_off last q count new kept of low high counts new_is =
     let d = q - i.first in
     let long : length i.recs ≡ length items.items = ap (λ (l : List LogRec). length l) of ∙ length-recs_of i.first items.items in
@@ -79,13 +79,13 @@ dropped i items heads end_off last q count new kept of low high counts new_is =
     let room : items.capacity ≡ new.capacity = sym (ap (λ (b : Buffer Item). b.capacity) new_is) in
     let recs : recs_of q new.items ≡ recs_above i q =
     ap (recs_of q) items_are ∙ ap (λ (n : ℕ). recs_of n (drop d items.items)) (sym is_q) ∙ recs_of-drop i.first items.items d (omega arith) ∙ ap (drop d) (sym of) in
-    let whole : IsKept (dropped_to i q) (drop d items.items) items.capacity heads end_off last =
-    subst (λ (n : ℕ). IsKept (dropped_to i n) (drop d items.items) items.capacity heads end_off last) is_q (kept_dropped i items.items items.capacity heads end_off last d kept (omega arith)) in
+    let whole : KeepsItems (dropped_to i q) (drop d items.items) items.capacity heads end_off last =
+    subst (λ (n : ℕ). KeepsItems (dropped_to i n) (drop d items.items) items.capacity heads end_off last) is_q (kept_dropped i items.items items.capacity heads end_off last d kept (omega arith)) in
     record {
       recs = recs;
-      kept = subst (λ (l : List LogRec). IsKept (record (dropped_to i q) { recs = l }) new.items new.capacity heads end_off last) (sym recs)
-          (subst (λ (c : ℕ). IsKept (dropped_to i q) new.items c heads end_off last) room
-          (subst (λ (l : List Item). IsKept (dropped_to i q) l items.capacity heads end_off last) (sym items_are) whole));
+      kept = subst (λ (l : List LogRec). KeepsItems (record (dropped_to i q) { recs = l }) new.items new.capacity heads end_off last) (sym recs)
+          (subst (λ (c : ℕ). KeepsItems (dropped_to i q) new.items c heads end_off last) room
+          (subst (λ (l : List Item). KeepsItems (dropped_to i q) l items.capacity heads end_off last) (sym items_are) whole));
     }
 
 -- ---- the numbers at the instant behind a record

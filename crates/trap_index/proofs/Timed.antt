@@ -2,11 +2,11 @@
 use Rattle.std.proofs.Common.{◌≡◌, ℕ, ◌+◌, ◌-◌, ◌<◌, List, length, get_or, ap, arith}
 use Rattle.trap_index.specs.declared.item.Item.{Item}
 use Rattle.trap_index.specs.Indexed.{Indexed, no_rec, IsLastBy}
-use Rattle.trap_index.specs.Keeping.{IsKept, no_item}
+use Rattle.trap_index.specs.Keeping.{KeepsItems, no_item}
 use Rattle.trap_index.specs.Counting.{AreInOrder, IsCountBy}
 use Rattle.trap_index.proofs.Numbered.{times_in_order}
 
-module _ (i : Indexed) (items : List Item) (capacity : ℕ) (heads : List ℕ) (end_off last : ℕ) (kept : IsKept i items capacity heads end_off last) (long : length i.recs ≡ length items) where
+module _ (i : Indexed) (items : List Item) (capacity : ℕ) (heads : List ℕ) (end_off last : ℕ) (kept : KeepsItems i items capacity heads end_off last) (long : length i.recs ≡ length items) where
   -- an item has its record's time
   time_kept : (k : ℕ) → k < length i.recs → (get_or items k no_item).time ≡ (get_or i.recs k no_rec).time
   time_kept k inside = ap (λ (x : Item). x.time) (kept.item k inside)

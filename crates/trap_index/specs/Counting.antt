@@ -6,9 +6,10 @@ use Rattle.trap_index.specs.Keeping.{no_item}
 -- no item has an earlier time than one before it
 abbrev pub AreInOrder : List Item → Type 0
 AreInOrder items =
-    (j k : ℕ) → j ≤ k → k < length items → (get_or items j no_item).time ≤ (get_or items k no_item).time
+    (j k : ℕ) → j ≤ k → k < length items
+    → (get_or items j no_item).time ≤ (get_or items k no_item).time
 
--- the first so many items have times of at most t, and the others later ones
+-- the first that many items have times of at most t, and the others later ones
 pub record IsCountBy (items : List Item) (t count : ℕ) : Type 0 where
   pub within : count ≤ length items
   pub by : (k : ℕ) → k < count → (get_or items k no_item).time ≤ t

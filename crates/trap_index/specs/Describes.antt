@@ -15,7 +15,8 @@ use Rattle.trap_index.specs.Indexed.{Indexed}
 abbrev pub headers_from : List (List ℕ) → ℕ → List Entry → List LogRec
 headers_from image q [] = []
 headers_from image q (entry ∷ later) =
-    rec_of (q + 1) (block_of image entry.block) entry ∷ headers_from (written image entry) (q + 1) later
+    rec_of (q + 1) (block_of image entry.block) entry ∷ headers_from (written image entry) (q + 1)
+    later
 
 -- the headers of all retained records
 abbrev pub headers : State → List LogRec

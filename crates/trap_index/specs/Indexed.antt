@@ -111,4 +111,8 @@ pub record IsLastBy (i : Indexed) (t q : ℕ) : Type 0 where
 -- From the present back to the instant after record number q: over each of the block's records
 -- above q.
 abbrev pub path_to : Indexed → ℕ → ℕ → Path
-path_to i block q = record { from = Present; turns = length (of_block block (recs_above i q)); way = Back }
+path_to i block q = record {
+  from = Present;
+  turns = length (of_block block (recs_above i q));
+  way = Back;
+}

@@ -52,13 +52,16 @@ told first item = record item { prev = link first item.prev }
 
 -- the items are told as those of the records, a number is kept for each block, and the rest goes
 -- with the last record; no record has more than 8232 bytes
-pub record IsKept (i : Indexed) (items : List Item) (capacity : ℕ) (heads : List ℕ) (end_off last : ℕ) : Type 0 where
+pub record KeepsItems (i : Indexed) (items : List Item) (capacity : ℕ) (heads : List ℕ)
+    (end_off last : ℕ) : Type 0 where
   pub indexed : IsIndexed i
   pub room : capacity ≡ i.g.entries
   pub item : (k : ℕ) → k < length i.recs
-      → told i.first (get_or items k no_item) ≡ item_behind i.first_off (take k i.recs) (get_or i.recs k no_rec)
+      → told i.first (get_or items k no_item)
+      ≡ item_behind i.first_off (take k i.recs) (get_or i.recs k no_rec)
   pub blocks : length heads ≡ volume i.g
-  pub head : (block : ℕ) → block < volume i.g → link i.first (get_or heads block 0) ≡ newest block i.recs
+  pub head : (block : ℕ) → block < volume i.g → link i.first (get_or heads block 0)
+      ≡ newest block i.recs
   pub end : end_off ≡ i.first_off + recs_len i.recs
   pub end_most : end_off ≤ 2 ^ 54 + 8232 * last_seq i
   pub time : last ≡ last_time i

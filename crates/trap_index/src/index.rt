@@ -2,7 +2,7 @@
 
 ghost use Rattle.std.specs.Prelude.{◌≡◌, ◌↔◌, ◌+◌, ◌^◌, ◌<◌, ◌≤◌, length, IfOk, IfSome, IsSome};
 ghost use Rattle.trap_model.specs.Image.{volume};
-ghost use Rattle.trap_model.specs.LogRecord.{KeepsRanges};
+ghost use Rattle.trap_model.specs.LogRecord.{IsRecordInRange};
 ghost use Rattle.trap_index.specs.Indexed.{nothing_indexed, with_record, dropped_to, time_behind, recs_up_to, last_seq, last_time, recs_len, newest, item_at, IsLastBy, path_to};
 ghost use Rattle.trap_index.specs.Keeping.{IsIndexed, link};
 
@@ -36,7 +36,7 @@ pub struct Index {
 
 impl Model for Index {
     ghost use Rattle.trap_index.specs.Indexed.{Indexed};
-    ghost use Rattle.trap_index.specs.Keeping.{recs_of, IsKept};
+    ghost use Rattle.trap_index.specs.Keeping.{recs_of, KeepsItems};
 
     ghost Value = { Indexed };
 
@@ -48,7 +48,7 @@ impl Model for Index {
       recs = recs_of a.first a.items.items;
     } };
 
-    ghost invariant = { λ a. IsKept (record {
+    ghost invariant = { λ a. KeepsItems (record {
       g = a.g;
       first = a.first;
       base_time = a.base_time;
@@ -90,7 +90,7 @@ impl Index {
         requires number { rec.now.seq ≡ last_seq self.old + 1 }
         requires time { last_time self.old ≤ rec.now.time }
         requires block { rec.now.block < volume self.old.g }
-        requires ranges { KeepsRanges self.old.g.block rec.now }
+        requires ranges { IsRecordInRange self.old.g.block rec.now }
         ensures { self.new ≡ with_record self.old rec.now }
     {
         let head = &mut self.newest[rec.block as usize];

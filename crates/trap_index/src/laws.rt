@@ -18,9 +18,11 @@ ghost use Rattle.trap_index.specs.Describes.{Describes, IsLastOf, IsItemOf, bloc
 /// An index without records describes the fresh state, and an index with the record of a further
 /// entry the state with that entry. With entries dropped it describes the state without them.
 pub fn described()
-    ensures fresh { (g : Geometry) (first_off : ℕ) → Describes (nothing_indexed g 0 0 first_off) (fresh g) }
+    ensures fresh { (g : Geometry) (first_off : ℕ)
+        → Describes (nothing_indexed g 0 0 first_off) (fresh g) }
     ensures further { (i : Indexed) (s : State) (e : Entry) → Describes i s
-        → Describes (with_record i (rec_of (last s + 1) (block_of (image s) e.block) e)) (added s e) }
+        → Describes (with_record i (rec_of (last s + 1) (block_of (image s) e.block) e))
+        (added s e) }
     ensures dropped { (i : Indexed) (s : State) (q : ℕ) → Describes i s → s.first ≤ q → q ≤ last s
         → Describes (dropped_to i q) (kept_from s q) }
 {}
@@ -31,7 +33,8 @@ pub fn drops()
     ensures last { (i : Indexed) (q : ℕ) → i.first ≤ q → q ≤ last_seq i
         → last_seq (dropped_to i q) ≡ last_seq i }
     ensures time { (i : Indexed) (q : ℕ) → last_time (dropped_to i q) ≡ last_time i }
-    ensures end { (i : Indexed) (q : ℕ) → (dropped_to i q).first_off + recs_len (dropped_to i q).recs
+    ensures end { (i : Indexed) (q : ℕ)
+        → (dropped_to i q).first_off + recs_len (dropped_to i q).recs
         ≡ i.first_off + recs_len i.recs }
     ensures item { (i : Indexed) (q n : ℕ) → IsIndexed i → i.first ≤ q → q < n → n ≤ last_seq i
         → item_at (dropped_to i q) n ≡ told q (item_at i n) }
@@ -54,10 +57,12 @@ pub fn tells()
 /// where its item says, the last number by a time has the image by that time, and the path is the
 /// state's.
 pub fn finds()
-    ensures record_there { (i : Indexed) (s : State) (q : ℕ) → Describes i s → s.first < q → q ≤ last s
+    ensures record_there { (i : Indexed) (s : State) (q : ℕ) → Describes i s → s.first < q
+        → q ≤ last s
         → take (rec_len (rec_at i q)) (drop ((item_at i q).off - i.first_off) (records s))
         ≡ record_of q (block_before s q) (entry_at s q) }
     ensures image_there { (i : Indexed) (s : State) (t q : ℕ) → Describes i s → IsLastBy i t q
         → image_by s t ≡ image_at s q }
-    ensures path_there { (i : Indexed) (s : State) (block q : ℕ) → Describes i s → path_to i block q ≡ path s block q }
+    ensures path_there { (i : Indexed) (s : State) (block q : ℕ) → Describes i s
+        → path_to i block q ≡ path s block q }
 {}

@@ -10,7 +10,7 @@ use circular_buffer::HeapCircularBuffer;
 /// So many halvings leave one of the numbers from 0 to 2^20.
 const COMPARISONS: u32 = 21;
 
-/// The item with so many before it.
+/// The item with that many before it.
 pub(crate) fn item_in(items: &HeapCircularBuffer<Item>, at: usize) -> Item
     requires { at < length items.now.items }
     ensures { result ≡ get_or items.now.items at no_item }

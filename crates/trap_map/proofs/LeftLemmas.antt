@@ -2,7 +2,7 @@
 use Rattle.std.proofs.Common.{◌≡◌, ◌≢◌, ℕ, ◌+◌, ◌-◌, ◌*◌, ◌/◌, ◌%◌, ◌^◌, ◌<◌, ◌≤◌, ap, ◌∙◌, arith}
 use Rattle.std.proofs.Math.Nat.{mod-lt}
 use Rattle.std.proofs.lemmas.Nat.{div-mul-add, mod-mul-add, div-add-mod', div_below, mul-add-lt}
-use Rattle.trap_map.specs.Left.{parity_in, member_in, before_in, block_stripe, block_before}
+use Rattle.trap_map.specs.Left.{parity_in, member_in, before_in, block_stripe, chunks_before}
 
 -- ---- round the members
 pub parity_in-lt : (members stripe : ℕ) → 0 < members → parity_in members stripe < members
@@ -57,16 +57,16 @@ row_stripe members chunk block some = div-mul-add (block_stripe members chunk bl
 pub row_within : (members chunk block : ℕ) → 0 < chunk → (block_stripe members chunk block * chunk + block % chunk) % chunk ≡ block % chunk
 row_within members chunk block some = mod-mul-add (block_stripe members chunk block) chunk (block % chunk) (mod-lt block some)
 
-pub before-lt : (members chunk block : ℕ) → 1 < members → block_before members chunk block + 1 < members
+pub before-lt : (members chunk block : ℕ) → 1 < members → chunks_before members chunk block + 1 < members
 before-lt members chunk block several = let h : 0 < members - 1 = omega arith in let b = mod-lt (block / chunk) h in omega arith
 
 -- the block at a block's place
-pub block_again : (members chunk block : ℕ) → 0 < chunk → 1 < members → (stripe row : ℕ) → stripe ≡ block_stripe members chunk block → row ≡ block % chunk → (stripe * (members - 1) + before_in members stripe (member_in members stripe (block_before members chunk block))) * chunk + row ≡ block
+pub block_again : (members chunk block : ℕ) → 0 < chunk → 1 < members → (stripe row : ℕ) → stripe ≡ block_stripe members chunk block → row ≡ block % chunk → (stripe * (members - 1) + before_in members stripe (member_in members stripe (chunks_before members chunk block))) * chunk + row ≡ block
 block_again members chunk block some several stripe row is_stripe is_row =
-    let back : before_in members stripe (member_in members stripe (block_before members chunk block)) ≡ block_before members chunk block =
-    round_and_back (parity_in members stripe) (block_before members chunk block) members (parity_in-lt members stripe (omega arith)) (before-lt members chunk block several) in
-    let number : stripe * (members - 1) + block_before members chunk block ≡ block / chunk =
-    ap (λ s. s * (members - 1) + block_before members chunk block) is_stripe ∙ div-add-mod' (block / chunk) (members - 1) in
+    let back : before_in members stripe (member_in members stripe (chunks_before members chunk block)) ≡ chunks_before members chunk block =
+    round_and_back (parity_in members stripe) (chunks_before members chunk block) members (parity_in-lt members stripe (omega arith)) (before-lt members chunk block several) in
+    let number : stripe * (members - 1) + chunks_before members chunk block ≡ block / chunk =
+    ap (λ s. s * (members - 1) + chunks_before members chunk block) is_stripe ∙ div-add-mod' (block / chunk) (members - 1) in
     ap (λ k. (stripe * (members - 1) + k) * chunk + row) back
     ∙ ap (λ q. q * chunk + row) number
     ∙ ap (λ o. block / chunk * chunk + o) is_row
@@ -83,7 +83,7 @@ pub at_stripe : (members chunk row before : ℕ) → 0 < chunk → before + 1 < 
 at_stripe members chunk row before some inside =
     ap (λ q. q / (members - 1)) (at_number members chunk row before some) ∙ div-mul-add (row / chunk) (members - 1) before (omega arith)
 
-pub at_before : (members chunk row before : ℕ) → 0 < chunk → before + 1 < members → block_before members chunk ((row / chunk * (members - 1) + before) * chunk + row % chunk) ≡ before
+pub at_before : (members chunk row before : ℕ) → 0 < chunk → before + 1 < members → chunks_before members chunk ((row / chunk * (members - 1) + before) * chunk + row % chunk) ≡ before
 at_before members chunk row before some inside =
     ap (λ q. q % (members - 1)) (at_number members chunk row before some) ∙ mod-mul-add (row / chunk) (members - 1) before (omega arith)
 

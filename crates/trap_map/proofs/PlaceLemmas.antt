@@ -4,7 +4,7 @@ use Rattle.trap_model.specs.Image.{volume}
 use Rattle.std.proofs.Math.Nat.{mod-lt}
 use Rattle.std.proofs.lemmas.Bool.{cases_eq, ne_eqb}
 use Rattle.std.proofs.lemmas.Nat.{div-add-mod'}
-use Rattle.trap_map.specs.Left.{parity_in, member_in, before_in, block_stripe, block_before}
+use Rattle.trap_map.specs.Left.{parity_in, member_in, before_in, block_stripe, chunks_before}
 use Rattle.trap_map.specs.Layout.{parity_member, block_place, block_at, owner_of}
 use Rattle.trap_model.specs.declared.numbers.Geometry.{Geometry}
 use Rattle.trap_map.specs.declared.places.Place.{Place}
@@ -27,7 +27,7 @@ owner_elsewhere g member row h = rw (ne_eqb member (parity_member g row) h) refl
 
 -- ---- the place of a block
 pub member_within : (g : Geometry) → (block : ℕ) → (block_place g block).member < g.members
-member_within g block = mod-lt (parity_in g.members (block_stripe g.members g.chunk block) + 1 + block_before g.members g.chunk block) (omega arith)
+member_within g block = mod-lt (parity_in g.members (block_stripe g.members g.chunk block) + 1 + chunks_before g.members g.chunk block) (omega arith)
 
 pub row_of-within : (g : Geometry) → (block : ℕ) → block < volume g → (block_place g block).row < g.rows
 row_of-within g block below = row_below_rows g.members g.chunk g.rows block (omega arith) (omega arith) g.within.whole_chunks below
@@ -36,7 +36,7 @@ pub block_is_not_parity : (g : Geometry) → (block : ℕ) → (block_place g bl
 block_is_not_parity g block =
     let same : parity_member g (block_place g block).row ≡ parity_in g.members (block_stripe g.members g.chunk block) =
     ap (λ s. parity_in g.members s) (row_stripe g.members g.chunk block (omega arith)) in
-    let there = round_is_elsewhere (parity_in g.members (block_stripe g.members g.chunk block)) (block_before g.members g.chunk block) g.members
+    let there = round_is_elsewhere (parity_in g.members (block_stripe g.members g.chunk block)) (chunks_before g.members g.chunk block) g.members
     (parity_in-lt g.members (block_stripe g.members g.chunk block) (omega arith)) (before-lt g.members g.chunk block (omega arith)) in
     λ e. there (e ∙ same)
 
@@ -67,10 +67,10 @@ block_place-block_at g member row inside below apart =
     let there : member_in g.members (row / g.chunk) before ≡ member =
     back_and_round (parity_member g row) member g.members (parity_in-lt g.members (row / g.chunk) (omega arith)) inside apart in
     let stripe : block_stripe g.members g.chunk (block_at g member row) ≡ row / g.chunk = at_stripe g.members g.chunk row before (omega arith) fewer in
-    let chunk : block_before g.members g.chunk (block_at g member row) ≡ before = at_before g.members g.chunk row before (omega arith) fewer in
+    let chunk : chunks_before g.members g.chunk (block_at g member row) ≡ before = at_before g.members g.chunk row before (omega arith) fewer in
     let rest : block_at g member row % g.chunk ≡ row % g.chunk = at_within g.members g.chunk row before (omega arith) in
     let at_member : (block_place g (block_at g member row)).member ≡ member =
-    ap (λ s. member_in g.members s (block_before g.members g.chunk (block_at g member row))) stripe
+    ap (λ s. member_in g.members s (chunks_before g.members g.chunk (block_at g member row))) stripe
     ∙ ap (λ k. member_in g.members (row / g.chunk) k) chunk ∙ there in
     let at_row : (block_place g (block_at g member row)).row ≡ row =
     ap (λ s. s * g.chunk + block_at g member row % g.chunk) stripe ∙ ap (λ o. row / g.chunk * g.chunk + o) rest ∙ div-add-mod' row g.chunk in

@@ -1,6 +1,6 @@
 -- Where each block and each parity of a geometry stands, and whose each place is.
 use Rattle.std.specs.Prelude.{ℕ, ◌+◌, ◌-◌, ◌*◌, ◌/◌, ◌%◌, ◌==◌, if◌then◌else◌}
-use Rattle.trap_map.specs.Left.{parity_in, member_in, before_in, block_stripe, block_before}
+use Rattle.trap_map.specs.Left.{parity_in, member_in, before_in, block_stripe, chunks_before}
 use Rattle.trap_model.specs.declared.numbers.Geometry.{Geometry}
 use Rattle.trap_map.specs.declared.places.Place.{Place}
 use Rattle.trap_map.specs.declared.places.Owner.{Owner}
@@ -15,7 +15,7 @@ abbrev pub block_place : Geometry → ℕ → Place
 block_place g block =
     let stripe = block_stripe g.members g.chunk block in
     record {
-      member = member_in g.members stripe (block_before g.members g.chunk block);
+      member = member_in g.members stripe (chunks_before g.members g.chunk block);
       row = stripe * g.chunk + block % g.chunk;
     }
 

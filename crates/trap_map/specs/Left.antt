@@ -5,7 +5,7 @@ use Rattle.std.specs.Prelude.{ℕ, ◌+◌, ◌-◌, ◌/◌, ◌%◌}
 abbrev pub parity_in : ℕ → ℕ → ℕ
 parity_in members stripe = (members - 1) - stripe % members
 
--- a stripe's data chunks follow its parity round the members: where one with so many before it
+-- a stripe's data chunks follow its parity round the members: where one with that many before it
 -- stands
 abbrev pub member_in : ℕ → ℕ → ℕ → ℕ
 member_in members stripe before = (parity_in members stripe + 1 + before) % members
@@ -19,5 +19,5 @@ abbrev pub block_stripe : ℕ → ℕ → ℕ → ℕ
 block_stripe members chunk block = block / chunk / (members - 1)
 
 -- how many data chunks of its stripe come before a block's
-abbrev pub block_before : ℕ → ℕ → ℕ → ℕ
-block_before members chunk block = block / chunk % (members - 1)
+abbrev pub chunks_before : ℕ → ℕ → ℕ → ℕ
+chunks_before members chunk block = block / chunk % (members - 1)

@@ -1,7 +1,7 @@
 -- The laws of log records over blocks of whatever sizes.
 use Rattle.std.proofs.Common.{◌≡◌, ℕ, ◌^◌, ◌<◌, ◌≤◌, max, Bool, true, false, List, ◌++◌, sym, ◌∙◌, ap, arith, append_assoc}
 use Rattle.trap_model.specs.declared.log_record.LogRec.{LogRec}
-use Rattle.trap_model.specs.LogRecord.{header, SnapshotLength, KeepsRanges, LogRecord}
+use Rattle.trap_model.specs.LogRecord.{header, SnapshotLength, IsRecordInRange, LogRecord}
 use Rattle.trap_model.proofs.LogRecords.{header-same, front-same}
 
 snapshot_wider : (n m : ℕ) (snap : Bool) (len : ℕ) → n ≤ m → SnapshotLength n snap len → SnapshotLength m snap len
@@ -9,7 +9,7 @@ snapshot_wider n m true len more is = let most = is.1 in (is.0, omega arith)
 snapshot_wider n m false len more is = is
 
 -- the ranges over a block are ranges over a larger one
-ranges_wider : (n m : ℕ) (r : LogRec) → n ≤ m → KeepsRanges n r → KeepsRanges m r
+ranges_wider : (n m : ℕ) (r : LogRec) → n ≤ m → IsRecordInRange n r → IsRecordInRange m r
 ranges_wider n m r more is = record {
   first = is.first;
   last = is.last;

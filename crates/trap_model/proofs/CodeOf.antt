@@ -1,13 +1,13 @@
 -- The segments that a block's definition gives keep the rules of its code, and stand for the block.
 use Rattle.std.proofs.Common.{◌≡◌, ℕ, zero, suc, ◌+◌, ◌-◌, ◌<◌, List, [], ◌∷◌, length, flat_map, true, false, nat_lt, ◌==◌, refl, sym, ◌∙◌, ap, subst, inl, inr, ⊎_elim, arith, add-one}
 use Rattle.std.proofs.lemmas.Bool.{cases_Bool, and_parts, ltb-true, and_cases, ltb-false, ne_eqb}
-use Rattle.trap_model.specs.ZeroRun.{Segment, contents, size_of, HasLiteral, Follows, Walks, ZeroRun}
+use Rattle.trap_model.specs.ZeroRun.{Segment, contents, size_of, HasLiteral, KeepsRules, Walks, ZeroRun}
 use Rattle.trap_model.specs.Size.{segment, zero_before, byte_before, goes_on, segments_of, code_of}
 use Rattle.trap_model.proofs.ZeroRuns.{literal_some, ZeroRun-same}
 use Rattle.trap_model.proofs.Splits.{one-literal, joined, length-joined, joined-literal}
 
 -- a zero byte in front of a segment
-longer : (owed : ℕ) (s : Segment) → Follows 0 owed s → Follows 0 (suc owed) (segment (s.zeros + 1) s.literal)
+longer : (owed : ℕ) (s : Segment) → KeepsRules 0 owed s → KeepsRules 0 (suc owed) (segment (s.zeros + 1) s.literal)
 longer owed s (inl has) = inl (record { zeros = omega arith; literal = has.literal; within = omega (arith, has.within) })
 longer owed s (inr rest) = inr (record { some = omega arith; empty = rest.empty; whole = omega (arith, rest.whole) })
 
@@ -26,7 +26,7 @@ walk_alone owed n a walk =
     (inl (record { zeros = omega arith; literal = one-literal n; within = omega arith }), subst (λ (m : ℕ). Walks 4 m a 0) same walk)
 
 -- a segment over which a literal doesn't go on has four zero bytes, or no literal
-follows_apart : (owed : ℕ) (s : Segment) → Follows 0 owed s → goes_on s ≡ false → Follows 4 owed s
+follows_apart : (owed : ℕ) (s : Segment) → KeepsRules 0 owed s → goes_on s ≡ false → KeepsRules 4 owed s
 follows_apart owed s (inr rest) stops = inr rest
 follows_apart owed s (inl has) stops = ⊎_elim
     (λ (enough : nat_lt s.zeros 4 ≡ false). inl (record { zeros = ltb-false s.zeros 4 enough; literal = has.literal; within = has.within }))
@@ -37,7 +37,7 @@ follows_apart owed s (inl has) stops = ⊎_elim
     (and_cases (nat_lt s.zeros 4) (nat_lt 0 (length s.literal)) stops)
 
 -- and one over which it goes on has a literal behind fewer
-follows_on : (owed : ℕ) (s : Segment) → Follows 0 owed s → goes_on s ≡ true → (s.zeros < 4) × HasLiteral 0 owed s
+follows_on : (owed : ℕ) (s : Segment) → KeepsRules 0 owed s → goes_on s ≡ true → (s.zeros < 4) × HasLiteral 0 owed s
 follows_on owed s (inl has) on = (ltb-true s.zeros 4 (and_parts (nat_lt s.zeros 4) (nat_lt 0 (length s.literal)) on).0, has)
 follows_on owed s (inr rest) on =
     let some = ltb-true 0 (length s.literal) (and_parts (nat_lt s.zeros 4) (nat_lt 0 (length s.literal)) on).1 in

@@ -9,7 +9,7 @@ use Rattle.trap_model.specs.declared.request.Request.{Request}
 use Rattle.trap_model.specs.declared.request.Request.TheVariants.{Write, Read, At, By, Info, Keep, Quit, Bad}
 use Rattle.trap_model.specs.Image.{volume}
 use Rattle.trap_model.specs.State.{fresh, IsEntry, IsValid}
-use Rattle.trap_model.specs.ArrayStep.{refusal, after, unless, step, entry_of, IsSized}
+use Rattle.trap_model.specs.ArrayStep.{refusal, after, or_refused, step, entry_of, IsSized}
 use Rattle.trap_model.proofs.Adding.{write_accepted, number_accepted, added_valid}
 use Rattle.trap_model.proofs.Dropping.{kept_from_valid}
 
@@ -37,7 +37,7 @@ after_valid g s Info valid sized e = valid
 after_valid g s Quit valid sized e = valid
 after_valid g s Bad valid sized e = valid
 
-unless_keeps : (P : State → Type 0) (why : Option Refusal) (t s : State) → P s → (why ≡ None → P t) → P (unless why t (λ _. s))
+unless_keeps : (P : State → Type 0) (why : Option Refusal) (t s : State) → P s → (why ≡ None → P t) → P (or_refused why t (λ _. s))
 unless_keeps P None t s old new = new refl
 unless_keeps P (Some why) t s old new = old
 

@@ -3,7 +3,7 @@ use Rattle.std.proofs.Common.{◌≡◌, ℕ, ◌^◌, ◌<◌, Bool, true, fals
 use Rattle.std.specs.Int.{from_be_bytes}
 use Rattle.std.proofs.lemmas.Nat.{from_be_bytes-to_be_bytes_2, from_be_bytes-to_be_bytes_4, from_be_bytes-to_be_bytes_8}
 use Rattle.trap_model.specs.declared.log_record.LogRec.{LogRec}
-use Rattle.trap_model.specs.LogRecord.{flag, header, SnapshotLength, KeepsRanges, LogRecord}
+use Rattle.trap_model.specs.LogRecord.{flag, header, SnapshotLength, IsRecordInRange, LogRecord}
 
 pub length-header : (r : LogRec) → length (header r) ≡ 26
 length-header r = refl
@@ -33,7 +33,7 @@ snapshot-small size true len small is = let most = is.1 in omega arith
 snapshot-small size false len small is = let none : len ≡ 0 = is in omega arith
 
 -- the header tells its fields
-pub header-same : (size : ℕ) (r q : LogRec) (x y : List ℕ) → size < 2 ^ 15 → KeepsRanges size r → KeepsRanges size q → header r ++ x ≡ header q ++ y → (r ≡ q) × (x ≡ y)
+pub header-same : (size : ℕ) (r q : LogRec) (x y : List ℕ) → size < 2 ^ 15 → IsRecordInRange size r → IsRecordInRange size q → header r ++ x ≡ header q ++ y → (r ≡ q) × (x ≡ y)
 header-same size r q x y small is_r is_q e = (same_rec r q snap seq time block plen slen, ap (λ (l : List ℕ). drop 26 l) e)
   where
     snap : r.snap ≡ q.snap

@@ -2,7 +2,7 @@
 use Rattle.std.proofs.Common.{◌≡◌, ℕ, zero, suc, ◌+◌, ◌-◌, ◌<◌, ◌≤◌, List, [], ◌∷◌, ◌++◌, length, get_or, replicate, flat_map, refl, sym, ◌∙◌, ap, subst, inl, inr, ⊎_elim, arith, length-append, get_or-append-add}
 use Rattle.std.proofs.lemmas.Bool.{cases_lt}
 use Rattle.std.proofs.lemmas.List.{length-replicate}
-use Rattle.trap_model.specs.ZeroRun.{Segment, spelling, contents, size_of, AreZeros, IsLiteral, Follows, Walks, ZeroRun}
+use Rattle.trap_model.specs.ZeroRun.{Segment, spelling, contents, size_of, AreZeros, IsLiteral, KeepsRules, Walks, ZeroRun}
 use Rattle.trap_model.proofs.ZeroRuns.{literal_some, segment}
 
 -- segments that stand for the bytes
@@ -97,7 +97,7 @@ zero_first xs (s ∷ a) (follows, walk) meant = record {
   meant = ap (λ (l : List ℕ). 0 ∷ l) meant;
 }
   where
-    longer : Follows 0 (length xs) s → Follows 0 (suc (length xs)) (segment (suc s.zeros) s.literal)
+    longer : KeepsRules 0 (length xs) s → KeepsRules 0 (suc (length xs)) (segment (suc s.zeros) s.literal)
     longer (inl has) = inl (record { zeros = omega arith; literal = has.literal; within = (let within = has.within in omega arith) })
     longer (inr rest) = inr (record { some = omega arith; empty = rest.empty; whole = (let whole = rest.whole in omega arith) })
 

@@ -4,7 +4,7 @@ use Rattle.std.specs.Int.{from_be_bytes}
 use Rattle.std.proofs.lemmas.Nat.{from_be_bytes-to_be_bytes_2}
 use Rattle.std.proofs.lemmas.Bool.{cases_lt}
 use Rattle.std.proofs.lemmas.List.{length-replicate, get_or-replicate, get_or_append_left, get_or_past}
-use Rattle.trap_model.specs.ZeroRun.{Segment, spelling, contents, size_of, IsLiteral, Follows, Walks, ZeroRun, least_behind, NoneFollows, IsRefused}
+use Rattle.trap_model.specs.ZeroRun.{Segment, spelling, contents, size_of, IsLiteral, KeepsRules, Walks, ZeroRun, least_behind, NoneFollows, IsRefused}
 
 -- a literal isn't empty
 pub literal_some : (l : List ℕ) → IsLiteral l → 1 ≤ length l
@@ -12,11 +12,11 @@ literal_some [] is = let begins = is.begins in omega arith
 literal_some (x ∷ xs) is = omega arith
 
 -- a segment has at least one byte of the block, and no more than the block has left
-pub Follows_some : (least owed : ℕ) (s : Segment) → Follows least owed s → 1 ≤ size_of s
+pub Follows_some : (least owed : ℕ) (s : Segment) → KeepsRules least owed s → 1 ≤ size_of s
 Follows_some least owed s (inl has) = let some = literal_some s.literal has.literal in omega arith
 Follows_some least owed s (inr rest) = let some = rest.some in omega arith
 
-pub Follows_within : (least owed : ℕ) (s : Segment) → Follows least owed s → size_of s ≤ owed
+pub Follows_within : (least owed : ℕ) (s : Segment) → KeepsRules least owed s → size_of s ≤ owed
 Follows_within least owed s (inl has) = has.within
 Follows_within least owed s (inr rest) = let whole = rest.whole in let none : length s.literal ≡ 0 = ap length rest.empty in omega arith
 
@@ -66,9 +66,9 @@ pub walk-same : (least owed left_a left_b : ℕ) (a b : List Segment) (x y : Lis
     → flat_map spelling a ++ x ≡ flat_map spelling b ++ y → (a ≡ b) × (left_a ≡ left_b) × (x ≡ y)
 walk-same least owed left_a left_b [] [] x y small walk_a walk_b stop_a stop_b e = (refl, walk_a ∙ sym walk_b, e)
 walk-same least owed left_a left_b [] (t ∷ b) x y small walk_a walk_b stop_a stop_b e =
-    absurd (stop_a t (flat_map spelling b ++ y) (e ∙ append_assoc (spelling t) (flat_map spelling b) y) (subst (λ (n : ℕ). Follows least n t) (sym walk_a) walk_b.0))
+    absurd (stop_a t (flat_map spelling b ++ y) (e ∙ append_assoc (spelling t) (flat_map spelling b) y) (subst (λ (n : ℕ). KeepsRules least n t) (sym walk_a) walk_b.0))
 walk-same least owed left_a left_b (s ∷ a) [] x y small walk_a walk_b stop_a stop_b e =
-    absurd (stop_b s (flat_map spelling a ++ x) (sym e ∙ append_assoc (spelling s) (flat_map spelling a) x) (subst (λ (n : ℕ). Follows least n s) (sym walk_b) walk_a.0))
+    absurd (stop_b s (flat_map spelling a ++ x) (sym e ∙ append_assoc (spelling s) (flat_map spelling a) x) (subst (λ (n : ℕ). KeepsRules least n s) (sym walk_b) walk_a.0))
 walk-same least owed left_a left_b (s ∷ a) (t ∷ b) x y small walk_a walk_b stop_a stop_b e =
     let within_s = Follows_within least owed s walk_a.0 in
     let within_t = Follows_within least owed t walk_b.0 in
@@ -151,7 +151,7 @@ behind_zero owed (s ∷ a) (inr rest, walk) k below = ⊎_elim
     (cases_lt k s.zeros)
 
 -- of two segments at the front of the same bytes neither has more zero bytes
-zeros-le : (least owed : ℕ) (s t : Segment) (x y : List ℕ) → Follows least owed s → Follows least owed t → contents s ++ x ≡ contents t ++ y → t.zeros ≤ s.zeros
+zeros-le : (least owed : ℕ) (s t : Segment) (x y : List ℕ) → KeepsRules least owed s → KeepsRules least owed t → contents s ++ x ≡ contents t ++ y → t.zeros ≤ s.zeros
 zeros-le least owed s t x y (inr rest) follows e = let whole = rest.whole in let within = Follows_within least owed t follows in omega arith
 zeros-le least owed s t x y (inl has) follows e = ⊎_elim
     (λ (more : s.zeros < t.zeros).
@@ -188,7 +188,7 @@ literal-le l m x y zeros (inr is) e = ⊎_elim
         (cases_lt (length m) (length l + 4))
 
 -- the rest of a segment is a literal or nothing
-literal_or_none : (least owed : ℕ) (s : Segment) → Follows least owed s → (length s.literal ≡ 0) ⊎ IsLiteral s.literal
+literal_or_none : (least owed : ℕ) (s : Segment) → KeepsRules least owed s → (length s.literal ≡ 0) ⊎ IsLiteral s.literal
 literal_or_none least owed s (inl has) = inr has.literal
 literal_or_none least owed s (inr rest) = inl (ap length rest.empty)
 

@@ -20,12 +20,19 @@ due g s block = false
 
 -- the entry that a write makes
 abbrev pub entry_of : Geometry → State → ℕ → ℕ → List ℕ → Entry
-entry_of g s time block bytes = record { time = time; block = block; bytes = bytes; snap = due g s block }
+entry_of g s time block bytes = record {
+  time = time;
+  block = block;
+  bytes = bytes;
+  snap = due g s block;
+}
 
--- whether there is no room for a further entry: they are as many as may be, or its record doesn't fit into the ring
+-- whether there is no room for a further entry: they are as many as may be, or its record doesn't
+-- fit into the ring
 abbrev pub full : Geometry → State → Entry → Bool
 full g s entry =
-    (length s.entries == g.entries) || nat_lt g.ring (kept s + entry_size (block_of (image s) entry.block) entry)
+    (length s.entries == g.entries) || nat_lt g.ring
+    (kept s + entry_size (block_of (image s) entry.block) entry)
 
 -- why a write to a block of the array is refused, where it is
 abbrev pub write_refusal : Geometry → State → Entry → Option Refusal
@@ -53,7 +60,8 @@ block_first g block other = if nat_le (volume g) block then Some NoBlock else ot
 -- why a request is refused, where it is
 abbrev pub refusal : Geometry → State → Request → Option Refusal
 refusal g s Bad = Some NoLine
-refusal g s (Write time block bytes) = block_first g block (write_refusal g s (entry_of g s time block bytes))
+refusal g s (Write time block bytes) =
+    block_first g block (write_refusal g s (entry_of g s time block bytes))
 refusal g s (Read block) = block_first g block None
 refusal g s (At seq block) = block_first g block (number_refusal s seq)
 refusal g s (By time block) = block_first g block (time_refusal s time)
@@ -78,7 +86,12 @@ added s entry = record s { entries = s.entries ++ entry ∷ [] }
 
 -- without the entries up to number seq: the image after them is the base
 abbrev pub kept_from : State → ℕ → State
-kept_from s seq = record { first = seq; base_time = time_at s seq; base = image_at s seq; entries = above s seq }
+kept_from s seq = record {
+  first = seq;
+  base_time = time_at s seq;
+  base = image_at s seq;
+  entries = above s seq;
+}
 
 -- the state after a request that isn't refused
 abbrev pub after : Geometry → State → Request → State
@@ -92,15 +105,15 @@ after g s Quit = s
 after g s Bad = s
 
 -- the first value where there is no refusal, and a value of the refusal where there is one
-abbrev pub unless : {A : Type 0} → Option Refusal → A → (Refusal → A) → A
-unless None value other = value
-unless (Some why) value other = other why
+abbrev pub or_refused : {A : Type 0} → Option Refusal → A → (Refusal → A) → A
+or_refused None value other = value
+or_refused (Some why) value other = other why
 
 -- the reply to a request, and the state after it: a refused request changes nothing
 abbrev pub step : Geometry → Machine State
 step g = record {
-  reply = λ s request. unless (refusal g s request) (accepted s request) No;
-  next = λ s request. unless (refusal g s request) (after g s request) (λ _. s);
+  reply = λ s request. or_refused (refusal g s request) (accepted s request) No;
+  next = λ s request. or_refused (refusal g s request) (after g s request) (λ _. s);
 }
 
 -- the contents in a request, where it has any, are a block of the array's size

@@ -1,4 +1,4 @@
--- The records of a log: a header, and one code or two behind it.
+-- The records of a log: a header, and one code or two after it.
 use Rattle.std.specs.Prelude.{◌≡◌, ℕ, ◌+◌, ◌^◌, ◌<◌, ◌≤◌, List, [], ◌∷◌, ◌++◌, length, Bool, true, false}
 use Rattle.std.specs.Int.{w16, w32, w64, to_be_bytes}
 use Rattle.trap_model.specs.ZeroRun.{IsCode}
@@ -19,7 +19,7 @@ SnapshotLength size true len = (4 ≤ len) × (len ≤ size + 7)
 SnapshotLength size false len = len ≡ 0
 
 -- each field is in its range
-pub record KeepsRanges (size : ℕ) (r : LogRec) : Type 0 where
+pub record IsRecordInRange (size : ℕ) (r : LogRec) : Type 0 where
   pub first : 1 ≤ r.seq
   pub last : r.seq ≤ 2 ^ 40
   pub time : r.time < 2 ^ 64
@@ -34,7 +34,7 @@ IsSnapshot size false bytes = bytes ≡ []
 
 -- the bytes are the record of these codes
 pub record LogRecord (size : ℕ) (r : LogRec) (parity snapshot bytes : List ℕ) : Type 0 where
-  pub ranges : KeepsRanges size r
+  pub ranges : IsRecordInRange size r
   pub parity_len : r.plen ≡ length parity
   pub snapshot_len : r.slen ≡ length snapshot
   pub parity_code : IsCode size parity

@@ -11,6 +11,7 @@ use Rattle.trap_model.specs.State.{above}
 abbrev pub of_block : ℕ → List Entry → List Entry
 of_block block entries = filter (λ entry. entry.block == block) entries
 
--- From the present back to the instant behind entry number q: over each of the block's entries above q.
+-- From the present back to the instant after entry number q: over each of the block's entries above
+-- q.
 abbrev pub path : State → ℕ → ℕ → Path
 path s block q = record { from = Present; turns = length (of_block block (above s q)); way = Back }

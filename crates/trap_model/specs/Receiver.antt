@@ -1,4 +1,5 @@
--- A receiver of frames: what it has applied and what it holds, and what becomes of each frame that comes.
+-- A receiver of frames: what it has applied and what it holds, and what becomes of each frame that
+-- comes.
 use Rattle.std.specs.Prelude.{◌≡◌, ℕ, ◌+◌, ◌<◌, ◌≤◌, List, [], ◌∷◌, ◌++◌, map, set, Bool, false, ◌||◌, ◌==◌, nat_lt, nat_le, if◌then◌else◌}
 use Rattle.trap_block.specs.Xor.{xor}
 use Rattle.trap_model.specs.Image.{block_of}
@@ -10,8 +11,8 @@ use Rattle.trap_model.specs.declared.arrival.Taken.TheVariants.{Applied, Held, R
 abbrev pub window : ℕ
 window = 64
 
--- the number of the last frame applied, its time, the image after it, and the frames that are held, in the order of
--- their numbers
+-- the number of the last frame applied, its time, the image after it, and the frames that are held,
+-- in the order of their numbers
 pub record Receiver : Type 0 where
   pub number : ℕ
   pub time : ℕ
@@ -38,7 +39,12 @@ xored image f = set image f.block (xor (block_of image f.block) f.parity)
 
 -- the receiver after it applied this frame and holds these
 abbrev pub applied : Receiver → Arrival → List Arrival → Receiver
-applied r f held = record { number = r.number + 1; time = f.time; image = xored r.image f; held = held }
+applied r f held = record {
+  number = r.number + 1;
+  time = f.time;
+  image = xored r.image f;
+  held = held;
+}
 
 -- the receiver after it applied of the held frames those that follow
 abbrev pub settled : Receiver → List Arrival → Receiver

@@ -38,13 +38,16 @@ rec_of q old entry = record {
 
 -- the record of entry number q
 abbrev pub record_of : ℕ → List ℕ → Entry → List ℕ
-record_of q old entry = header (rec_of q old entry) ++ (change_code old entry ++ snapshot_code entry)
+record_of q old entry = header (rec_of q old entry)
+    ++ (change_code old entry ++ snapshot_code entry)
 
--- the records of these entries one after the other, the first of them over this image and with the number behind q
+-- the records of these entries one after the other, the first of them over this image and with the
+-- number after q
 abbrev pub records_from : List (List ℕ) → ℕ → List Entry → List ℕ
 records_from image q [] = []
 records_from image q (entry ∷ later) =
-    record_of (q + 1) (block_of image entry.block) entry ++ records_from (written image entry) (q + 1) later
+    record_of (q + 1) (block_of image entry.block) entry
+    ++ records_from (written image entry) (q + 1) later
 
 -- the records of all retained entries
 abbrev pub records : State → List ℕ

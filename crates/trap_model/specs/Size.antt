@@ -13,7 +13,8 @@ abbrev pub zero_before : List Segment → List Segment
 zero_before [] = segment 1 [] ∷ []
 zero_before (s ∷ later) = segment (s.zeros + 1) s.literal ∷ later
 
--- whether a literal in front goes on over the segment: up to three zero bytes, and a literal behind them
+-- whether a literal in front goes on over the segment: up to three zero bytes, and a literal after
+-- them
 abbrev pub goes_on : Segment → Bool
 goes_on s = nat_lt s.zeros 4 && nat_lt 0 (length s.literal)
 
@@ -23,7 +24,8 @@ byte_before byte [] = segment 0 (byte ∷ []) ∷ []
 byte_before byte (s ∷ later) =
     if goes_on s then segment 0 (byte ∷ contents s) ∷ later else segment 0 (byte ∷ []) ∷ s ∷ later
 
--- the segments of a block: as few as can be, and as many zero bytes as can be in front of each literal
+-- the segments of a block: as few as can be, and as many zero bytes as can be in front of each
+-- literal
 abbrev pub segments_of : List ℕ → List Segment
 segments_of [] = []
 segments_of (byte ∷ later) =
@@ -33,13 +35,15 @@ segments_of (byte ∷ later) =
 abbrev pub code_of : List ℕ → List ℕ
 code_of block = flat_map spelling (segments_of block)
 
--- A record has a header of 26 bytes and the code of what was changed; that of a marked entry has the code of the
--- contents too.
+-- A record has a header of 26 bytes and the code of what was changed; that of a marked entry has
+-- the code of the contents too.
 abbrev pub entry_size : List ℕ → Entry → ℕ
 entry_size old entry =
-    26 + length (code_of (xor old entry.bytes)) + (if entry.snap then length (code_of entry.bytes) else 0)
+    26 + length (code_of (xor old entry.bytes)) + (if entry.snap then length (code_of entry.bytes)
+    else 0)
 
 -- the entries' sizes together, the first of them over this image
 abbrev pub size_over : List (List ℕ) → List Entry → ℕ
 size_over image [] = 0
-size_over image (entry ∷ later) = entry_size (block_of image entry.block) entry + size_over (written image entry) later
+size_over image (entry ∷ later) =
+    entry_size (block_of image entry.block) entry + size_over (written image entry) later

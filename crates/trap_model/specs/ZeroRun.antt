@@ -1,8 +1,9 @@
--- The code of a block: runs of zero bytes, and the literal bytes behind each run.
+-- The code of a block: runs of zero bytes, and the literal bytes after each run.
 use Rattle.std.specs.Prelude.{◌≡◌, ◌⊎◌, ℕ, ◌+◌, ◌-◌, ◌<◌, ◌≤◌, List, [], ◌∷◌, ◌++◌, length, replicate, flat_map, slice_index}
 use Rattle.std.specs.Int.{w16, to_be_bytes}
+pub use Rattle.trap_block.specs.Zeros.{AreZeros}
 
--- zero bytes, and the literal bytes behind them
+-- zero bytes, and the literal bytes after them
 pub record Segment : Type 0 where
   pub zeros : ℕ
   pub literal : List ℕ
@@ -19,11 +20,6 @@ contents s = replicate s.zeros 0 ++ s.literal
 abbrev pub size_of : Segment → ℕ
 size_of s = s.zeros + length s.literal
 
--- that many zero bytes stand from a place on
-pub record AreZeros (bytes : List ℕ) (at count : ℕ) : Type 0 where
-  pub inside : at + count ≤ length bytes
-  pub zeros : (k : ℕ) → k < count → slice_index bytes (at + k) ≡ 0
-
 -- a literal begins and ends with a nonzero byte, so it isn't empty, and holds no four zero bytes in
 -- succession
 pub record IsLiteral (bytes : List ℕ) : Type 0 where
@@ -31,8 +27,8 @@ pub record IsLiteral (bytes : List ℕ) : Type 0 where
   pub ends : 0 < slice_index bytes (length bytes - 1)
   pub apart : (at : ℕ) → ¬ AreZeros bytes at 4
 
--- a segment with a literal, where the block has `owed` bytes left: at least so many zero bytes come
--- before it
+-- a segment with a literal, where the block has `owed` bytes left: at least that many zero bytes
+-- come before it
 pub record HasLiteral (least owed : ℕ) (s : Segment) : Type 0 where
   pub zeros : least ≤ s.zeros
   pub literal : IsLiteral s.literal
@@ -45,15 +41,15 @@ pub record IsRest (owed : ℕ) (s : Segment) : Type 0 where
   pub whole : s.zeros ≡ owed
 
 -- the segment keeps the rules where the block has `owed` bytes left
-abbrev pub Follows : ℕ → ℕ → Segment → Type 0
-Follows least owed s = HasLiteral least owed s ⊎ IsRest owed s
+abbrev pub KeepsRules : ℕ → ℕ → Segment → Type 0
+KeepsRules least owed s = HasLiteral least owed s ⊎ IsRest owed s
 
--- Segments one behind the other, behind which the block has `left` bytes left. Before the literal
+-- Segments one after the other, after which the block has `left` bytes left. Before the literal
 -- of the first one stand at least `least` zero bytes, and at least four before each later one.
 abbrev pub Walks : ℕ → ℕ → List Segment → ℕ → Type 0
 Walks least owed [] left = left ≡ owed
 Walks least owed (s ∷ segments) left =
-    Follows least owed s × Walks 4 (owed - size_of s) segments left
+    KeepsRules least owed s × Walks 4 (owed - size_of s) segments left
 
 -- the bytes spell the block
 pub record ZeroRun (block bytes : List ℕ) : Type 0 where
@@ -74,7 +70,7 @@ least_behind least (s ∷ segments) = 4
 -- no segment that keeps the rules begins the bytes
 abbrev pub NoneFollows : ℕ → ℕ → List ℕ → Type 0
 NoneFollows least owed bytes =
-    (s : Segment) (more : List ℕ) → bytes ≡ spelling s ++ more → ¬ Follows least owed s
+    (s : Segment) (more : List ℕ) → bytes ≡ spelling s ++ more → ¬ KeepsRules least owed s
 
 -- the bytes spell no block of that size: some segments keep the rules, and where they end no
 -- further one does, though the block has bytes left or the bytes go on

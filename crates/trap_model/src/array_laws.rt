@@ -1,4 +1,5 @@
-//! Laws over the definitions of the array. Each is a function with no body, and its contract is the law.
+//! Laws over the definitions of the array. Each is a function with no body, and its contract is the
+//! law.
 
 ghost use Rattle.std.specs.Prelude.{◌≡◌, ℕ, ◌≤◌, List};
 ghost use Rattle.trap_model.specs.ZeroRun.{ZeroRun};
@@ -8,7 +9,8 @@ ghost use Rattle.trap_model.specs.ArrayStep.{kept_from, step, IsSized};
 
 use crate::{Geometry, Request, State};
 
-/// The fresh state is valid, and every request keeps a state valid. Its contents, where it has any, are a block.
+/// The fresh state is valid, and every request keeps a state valid. Its contents, where it has any,
+/// are a block.
 pub fn kept_valid()
     ensures fresh { (g : Geometry) → IsValid g (fresh g) }
     ensures kept { (g : Geometry) (s : State) (request : Request) → IsValid g s → IsSized g request
@@ -21,10 +23,12 @@ pub fn sizes()
     ensures one { (block bytes : List ℕ) → ZeroRun block bytes → bytes ≡ code_of block }
 {}
 
-/// Dropping no entry changes nothing, dropping in two steps is dropping at once, and an instant that stays
-/// retained has the same image as before.
+/// Dropping no entry changes nothing, dropping in two steps is dropping at once, and an instant
+/// that stays retained has the same image as before.
 pub fn drops()
     ensures none { (s : State) → kept_from s s.first ≡ s }
-    ensures twice { (s : State) (p q : ℕ) → s.first ≤ p → p ≤ q → kept_from (kept_from s p) q ≡ kept_from s q }
-    ensures instants { (s : State) (p q : ℕ) → s.first ≤ p → p ≤ q → image_at (kept_from s p) q ≡ image_at s q }
+    ensures twice { (s : State) (p q : ℕ) → s.first ≤ p → p ≤ q
+        → kept_from (kept_from s p) q ≡ kept_from s q }
+    ensures instants { (s : State) (p q : ℕ) → s.first ≤ p → p ≤ q
+        → image_at (kept_from s p) q ≡ image_at s q }
 {}

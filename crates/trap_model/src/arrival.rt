@@ -61,8 +61,8 @@ pub struct Arrival {
 /// What becomes of a frame.
 #[derive(Clone, Copy, Debug, PartialEq, Eq)]
 pub enum Taken {
-    /// It was the next, and is applied, as are the held ones that follow it. The number applied is now
-    /// this.
+    /// It was the next, and is applied, as are the held ones that follow it. The number applied is
+    /// now this.
     Applied { upto: u64 },
     /// It is held until those before it have come.
     Held,

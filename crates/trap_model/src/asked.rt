@@ -15,7 +15,7 @@ pub struct Asked {
     pub rows: u64,
     /// How many staging slots.
     pub slots: u64,
-    /// Of so many successive entries of a block one holds its contents.
+    /// Of that many successive entries of a block one holds its contents.
     pub gap: u64,
     /// How many entries are retained at most.
     pub entries: u64,

@@ -36,7 +36,8 @@ impl Run {
     /// With a zero byte in front.
     fn zero_before(self) -> Run
         requires { self.zeros < 4096 }
-        ensures segments { (segments : List Segment) → Summarizes self segments → Summarizes result (zero_before segments) }
+        ensures segments { (segments : List Segment) → Summarizes self segments
+            → Summarizes result (zero_before segments) }
         ensures zeros { result.zeros ≤ self.zeros + 1 }
         ensures len { result.len ≤ self.len + 5 }
     {
@@ -51,7 +52,8 @@ impl Run {
     /// With a nonzero byte in front.
     fn byte_before(self) -> Run
         requires { self.len < 2 ^ 20 }
-        ensures segments { (byte : ℕ) (segments : List Segment) → Summarizes self segments → Summarizes result (byte_before byte segments) }
+        ensures segments { (byte : ℕ) (segments : List Segment) → Summarizes self segments
+            → Summarizes result (byte_before byte segments) }
         ensures zeros { result.zeros ≤ self.zeros + 1 }
         ensures len { result.len ≤ self.len + 5 }
     {

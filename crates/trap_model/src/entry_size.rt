@@ -4,6 +4,7 @@ ghost use Rattle.std.specs.Prelude.{◌≡◌, ◌≤◌, length};
 
 use crate::code::{change_len, code_len};
 use crate::history::Entry;
+use crate::log_record::RECORD_HEADER_BYTES;
 
 impl Entry {
     ghost use Rattle.trap_model.specs.Size.{entry_size};
@@ -21,6 +22,6 @@ impl Entry {
         } else {
             0
         };
-        26 + change + contents
+        RECORD_HEADER_BYTES + change + contents
     }
 }

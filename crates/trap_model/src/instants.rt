@@ -32,7 +32,8 @@ impl State {
     pub(crate) fn block_after(&self, count: usize, number: usize) -> &Block
         requires count { count ≤ length self.now.entries }
         requires number { number < length self.now.base }
-        ensures { result.now ≡ block_of (image_after self.now.base (take count self.now.entries)) number }
+        ensures { result.now
+            ≡ block_of (image_after self.now.base (take count self.now.entries)) number }
     {
         let mut found = self.base.block(number);
         for entry in &self.entries.as_slice()[..count] {

@@ -5,7 +5,9 @@ ghost use Rattle.trap_model.specs.ZeroRun.{ZeroRun, IsRefused};
 ghost use Rattle.trap_model.specs.LogRecord.{LogRecord};
 
 use crate::LogRec;
-pub use crate::array_laws::kept_valid;
+pub use crate::array_laws::{drops, kept_valid, sizes};
+pub use crate::frame_laws::{frames_apart, frames_follow, frames_of_a_stream};
+pub use crate::receiver_laws::window;
 
 /// Each block that isn't empty has exactly one spelling, of at least 4 bytes and at most 7 more
 /// than its own. Of blocks of one size no spelling begins another, and none stands for two blocks;
@@ -24,7 +26,8 @@ pub fn spellings()
 
 /// No log record begins another, of whatever block sizes they are.
 pub fn records()
-    ensures { (n m : ℕ) (r q : LogRec) (p u s v x y more_x more_y : List ℕ) → n < 2 ^ 15 → m < 2 ^ 15
+    ensures { (n m : ℕ) (r q : LogRec) (p u s v x y more_x more_y : List ℕ) → n < 2 ^ 15
+        → m < 2 ^ 15
         → LogRecord n r p s x → LogRecord m q u v y → x ++ more_x ≡ y ++ more_y
         → (r ≡ q) × (p ≡ u) × (s ≡ v) × (x ≡ y) }
 {}

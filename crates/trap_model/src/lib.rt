@@ -29,7 +29,7 @@ pub use frame::Frame;
 pub use history::{Entries, Entry, State};
 pub use image::Image;
 pub use known::{Known, Path, Way};
-pub use log_record::LogRec;
+pub use log_record::{LogRec, RECORD_HEADER_BYTES};
 pub use numbers::Geometry;
 pub use plain::Plain;
 pub use request::{Refusal, Reply, Request};

@@ -1,6 +1,9 @@
 //! The header of a log record.
 
-/// The header of a log record, which tells how long the two codes behind it are.
+/// How many bytes it has. The codes follow it.
+pub const RECORD_HEADER_BYTES: u64 = 26;
+
+/// The header of a log record, which tells how long the two codes after it are.
 #[derive(Clone, Copy, Debug, PartialEq, Eq)]
 pub struct LogRec {
     /// Whether the record holds the new contents too.

@@ -13,12 +13,12 @@ pub struct Geometry {
     pub chunk: u8,
     /// The size of a block in bytes: a power of two, 16 to 4096.
     pub block: u16,
-    /// How many blocks a member has: a multiple of the chunk. The volume, `rows` times one member less
-    /// than there are, is at most 2^20 blocks.
+    /// How many blocks a member has: a multiple of the chunk. The volume, `rows` times one member
+    /// less than there are, is at most 2^20 blocks.
     pub rows: u32,
     /// How many staging slots, 1 to 64.
     pub slots: u8,
-    /// Of so many successive entries of a block one holds its contents, 2 to 255.
+    /// Of that many successive entries of a block one holds its contents, 2 to 255.
     pub gap: u8,
     /// How many entries are retained at most, 1 to 2^20.
     pub entries: u32,

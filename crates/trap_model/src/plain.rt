@@ -3,12 +3,13 @@
 ghost use Rattle.std.specs.Prelude.{◌≡◌, None, IfOk, OnOk, OnErr};
 
 use crate::history::{Entries, Entry, State};
-use crate::refusing::{refuse, volume};
+use crate::refusing::refuse;
 use crate::{Block, Geometry, Image, Reply, Request};
 use std::alloc::{AllocError as OutOfMemory, Global};
 use std::marker::Model;
 
-/// A slow plain machine over lists, for tests to compare with. A contract sees its geometry and its state.
+/// A slow plain machine over lists, for tests to compare with. A contract sees its geometry and its
+/// state.
 #[derive(Debug, Drop)]
 pub struct Plain {
     geometry: Geometry,
@@ -35,7 +36,7 @@ impl Plain {
     pub fn new(alloc: Global, g: Geometry) -> Result<Plain, OutOfMemory>
         ensures { IfOk result (λ plain. plain ≡ record { geometry = g; state = fresh g }) }
     {
-        let base = Image::zeros(alloc, volume(&g) as usize, g.block as usize)?;
+        let base = Image::zeros(alloc, g.volume() as usize, g.block as usize)?;
         let state = State {
             first: 0,
             base_time: 0,
@@ -48,8 +49,10 @@ impl Plain {
     /// One request, and its reply. The contents in a request, where it has any, are a block.
     pub fn step(&mut self, alloc: Global, request: &Request) -> Result<Reply, OutOfMemory>
         requires { IsSized self.old.geometry request.now }
-        ensures reply { IfOk result (λ reply. reply ≡ (step self.old.geometry).reply self.old.state request.now) }
-        ensures state { OnOk result (self.new.state ≡ (step self.old.geometry).next self.old.state request.now) }
+        ensures reply { IfOk result (λ reply. reply
+            ≡ (step self.old.geometry).reply self.old.state request.now) }
+        ensures state { OnOk result (self.new.state
+            ≡ (step self.old.geometry).next self.old.state request.now) }
         ensures geometry { self.new.geometry ≡ self.old.geometry }
         ensures err { OnErr result (self.new ≡ self.old) }
     {
@@ -100,7 +103,8 @@ impl Plain {
     fn apply(&mut self, alloc: Global, request: &Request) -> Result<(), OutOfMemory>
         requires sized { IsSized self.old.geometry request.now }
         requires accepted { refusal self.old.geometry self.old.state request.now ≡ None }
-        ensures state { OnOk result (self.new.state ≡ after self.old.geometry self.old.state request.now) }
+        ensures state { OnOk result (self.new.state
+            ≡ after self.old.geometry self.old.state request.now) }
         ensures geometry { self.new.geometry ≡ self.old.geometry }
         ensures err { OnErr result (self.new ≡ self.old) }
     {

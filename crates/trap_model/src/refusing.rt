@@ -7,18 +7,11 @@ ghost use Rattle.trap_model.specs.ArrayStep.{entry_of, full, write_refusal, numb
 
 use crate::code::change_len;
 use crate::history::State;
+use crate::log_record::RECORD_HEADER_BYTES;
 use crate::{Block, Geometry, Refusal, Request};
 
 /// The greatest sequence number.
 const LAST_NUMBER: u64 = 1 << 40;
-
-/// How many blocks the array has.
-pub(crate) fn volume(g: &Geometry) -> u64
-    ensures volume { result ≡ volume g.now }
-    ensures bound { result ≤ 2 ^ 20 }
-{
-    g.rows as u64 * (g.members as u64 - 1)
-}
 
 /// Whether there is no room for a further entry.
 fn is_full(g: &Geometry, s: &State, time: u64, block: u64, bytes: &Block) -> bool
@@ -28,7 +21,7 @@ fn is_full(g: &Geometry, s: &State, time: u64, block: u64, bytes: &Block) -> boo
     ensures { result ≡ full g.now s.now (entry_of g.now s.now time block bytes.now) }
 {
     let old = s.block_now(block as usize);
-    let size = 26 + change_len(old.as_slice(), bytes.as_slice()) as u64;
+    let size = RECORD_HEADER_BYTES + change_len(old.as_slice(), bytes.as_slice()) as u64;
     s.entries.as_slice().len() == g.entries as usize || g.ring < s.kept() + size
 }
 
@@ -88,7 +81,7 @@ pub(crate) fn refuse(g: &Geometry, s: &State, request: &Request) -> Option<Refus
         | Request::Read { block }
         | Request::At { block, .. }
         | Request::By { block, .. }
-            if *block >= volume(g) => { Some(Refusal::NoBlock) }
+            if *block >= u64::from(g.volume()) => { Some(Refusal::NoBlock) }
         Request::Write { time, block, bytes } => refuse_write(g, s, *time, *block, bytes),
         Request::At { seq, .. } | Request::Keep { seq } => refuse_number(s, *seq),
         Request::By { time, .. } => refuse_time(s, *time),

@@ -7,12 +7,12 @@ use Rattle.trap_bank.specs.Calls.{Writes}
 use Rattle.trap_bank.specs.Steps.{Moves}
 use Rattle.trap_bank.proofs.Moves.{moves_mono, moves_again, moves_weaken, write_steps}
 use Rattle.trap_bank.proofs.Regions.{differs_mono, differs_again, region_beside, byte_in_region}
-use Rattle.trap_ring.specs.Ring.{RingPlace, ring_pos, ring_byte, IsCut, InRing, RingHas, KeepsWindow, Appends}
+use Rattle.trap_ring.specs.Ring.{RingPlace, ring_pos, ring_byte, GoesRoundEnd, InRing, RingHas, KeepsWindow, Appends}
 use Rattle.trap_ring.proofs.Offsets.{mod_within, mod_wrapped, first-in, second-in, keeps-window}
 
 -- the first bytes of n from an offset on, up to the ring's end
 pub record IsFirst (r : RingPlace) (to n start count d : ℕ) (first : List ℕ) : Type 0 where
-  pub cut : IsCut r to n start count
+  pub cut : GoesRoundEnd r to n start count
   pub disk : d ≡ r.disk
   pub len : length first ≡ count
 
@@ -34,7 +34,7 @@ first-area r to n start count d first is e i within =
     let high = within.to in
     first-in r to n (length first) e i (omega arith) (omega arith) (record { disk = within.disk ∙ is.disk; from = omega arith; to = omega arith })
 
-rest-area : (r : RingPlace) (to n start count d at : ℕ) (rest : List ℕ) → IsCut r to n start count → IsRest r n count d at rest → (e i : ℕ) → Within d at (length rest) e i → InRing r to n e i
+rest-area : (r : RingPlace) (to n start count d at : ℕ) (rest : List ℕ) → GoesRoundEnd r to n start count → IsRest r n count d at rest → (e i : ℕ) → Within d at (length rest) e i → InRing r to n e i
 rest-area r to n start count d at rest cut is e i within =
     let len = is.len in
     let some = is.some in
@@ -99,7 +99,7 @@ first-has r to n start count d first x is there k below =
     ∙ byte_in_region x d start (length first) k (ring_pos r (to + k)) first (omega arith) there below
 
 -- and so do those behind them
-pub rest-has : (r : RingPlace) (to n start count d at : ℕ) (rest : List ℕ) (x : Disks) → IsCut r to n start count → IsRest r n count d at rest → region x d at (length rest) ≡ rest
+pub rest-has : (r : RingPlace) (to n start count d at : ℕ) (rest : List ℕ) (x : Disks) → GoesRoundEnd r to n start count → IsRest r n count d at rest → region x d at (length rest) ≡ rest
     → (k : ℕ) → k < length rest → ring_byte r (to + (count + k)) x ≡ get_or rest k 0
 rest-has r to n start count d at rest x cut is there k below =
     let len = is.len in

@@ -22,7 +22,7 @@ whole_ring r = Within r.disk r.at r.len
 
 -- where `len` bytes from an absolute offset on stand: from `start` on, and all but the first
 -- `count` of them at the ring's beginning, since these reach its end
-pub record IsCut (r : RingPlace) (offset len start count : ℕ) : Type 0 where
+pub record GoesRoundEnd (r : RingPlace) (offset len start count : ℕ) : Type 0 where
   pub some : 1 ≤ r.len
   pub place : start ≡ ring_pos r offset
   pub part : count ≤ len

@@ -5,7 +5,7 @@ ghost use Rattle.trap_bank.specs.Faults.{Rose};
 ghost use Rattle.trap_bank.specs.Disks.{Differs, Torn};
 ghost use Rattle.trap_bank.specs.Calls.{Fits};
 ghost use Rattle.trap_bank.specs.Steps.{Moves, Same};
-ghost use Rattle.trap_ring.specs.Ring.{InRing, RingHas, KeepsWindow, Appends, IsCut};
+ghost use Rattle.trap_ring.specs.Ring.{InRing, RingHas, KeepsWindow, Appends, GoesRoundEnd};
 
 use std::marker::Model;
 use trap_bank::{Bank, DiskFault};
@@ -79,7 +79,7 @@ impl Ring {
     {
         let (start, count) = self.cut(to, bytes.len());
         let (first, rest) = bytes.split_at(count);
-        // Behind the window and before the ring's end, where no kept byte stands.
+        // After the window and before the ring's end, where no kept byte stands.
         bank.write(self.disk(), start, first)?;
         if rest.is_empty() {
             return Ok(());
@@ -134,7 +134,7 @@ impl Ring {
     /// Where on the disk `len` bytes from an absolute offset on begin, and how many of them stand
     /// before the ring's end.
     fn cut(&self, offset: u64, len: usize) -> (u64, usize)
-        ensures { IsCut self.now offset len result.0 result.1 }
+        ensures { GoesRoundEnd self.now offset len result.0 result.1 }
     {
         let start = offset % self.len;
         let before_end = self.len - start;

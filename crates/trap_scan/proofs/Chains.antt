@@ -8,7 +8,7 @@ use Rattle.trap_ring.specs.Ring.{RingPlace, RingHas}
 use Rattle.trap_scan.specs.Chain.{History, Follows, AreRecords, IsBroken}
 use Rattle.trap_scan.specs.Faults.{check_fault}
 use Rattle.trap_scan.specs.Window.{IsWindow, IsLoaded, IsAhead, Looks}
-use Rattle.trap_scan.specs.Scan.{IsAtFirst, BreaksAt, history_of, more_of, GivesNext, TakesNext, IsDamaged, AreAhead, BreaksAhead}
+use Rattle.trap_scan.specs.Scan.{IsAtFirst, BreaksAt, history_of, more_of, GivesNext, TakesNext, IsDamagedRecord, AreAhead, BreaksAhead}
 use Rattle.trap_scan.specs.declared.scan.Scan.{Scan}
 use Rattle.trap_scan.specs.declared.expected.Expected.{Expected}
 use Rattle.trap_scan.specs.declared.fault.ScanFault.{ScanFault}
@@ -145,7 +145,7 @@ scanned_all place a b old new scanned done told bytes ahead =
 
 -- no record comes next
 pub scanned_broken : (place : RingPlace) (a b : View) (old mid : Scan) (at : ℕ) → Scanned place a b old mid → mid.seq < mid.expected.last → IsTrue a.tells
-    → (IsTrue b.tells → IsDamaged place mid b.now.disks at) → (bytes : List ℕ) → IsAhead place old.window bytes a.now.disks → BreaksAhead old bytes at
+    → (IsTrue b.tells → IsDamagedRecord place mid b.now.disks at) → (bytes : List ℕ) → IsAhead place old.window bytes a.now.disks → BreaksAhead old bytes at
 scanned_broken place a b old mid at scanned more told damaged bytes ahead =
     let same = looked_disks a b scanned.looks told in
     let is = damaged (told_then a b scanned.looks told) in

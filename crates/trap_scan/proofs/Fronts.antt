@@ -12,7 +12,7 @@ use Rattle.trap_record.specs.Reading.{BeginsWith, record_len, parity_of, snapsho
 use Rattle.trap_record.proofs.Getting.{Reads-one, Reads-again}
 use Rattle.trap_ring.specs.Ring.{RingPlace, RingHas}
 use Rattle.trap_scan.specs.declared.window.Window.{Window}
-use Rattle.trap_scan.specs.Window.{pending, SamePlace, IsLoaded, HasRoom, IsAhead, IsFront, IsHeld}
+use Rattle.trap_scan.specs.Window.{pending, SamePlace, IsLoaded, HasRoom, IsAhead, IsFront, IsWholeRecord}
 
 -- bytes of a ring from one offset on begin one another
 pub ring_front : (r : RingPlace) (at : ℕ) (front bytes : List ℕ) (disks : Disks) → RingHas r at front disks → RingHas r at bytes disks → length front ≤ length bytes
@@ -192,7 +192,7 @@ pub room_again : (size : ℕ) (old new : Window) → SamePlace old new → HasRo
 room_again size old new same room = let at = same.at in let end = same.end in let len = same.room in omega arith
 
 -- a record that stands whole isn't too short
-pub held_not_short : (size : ℕ) (w : Window) → size ≤ 4096 → IsHeld size w → IsShort size (pending w) → ⊥
+pub held_not_short : (size : ℕ) (w : Window) → size ≤ 4096 → IsWholeRecord size w → IsShort size (pending w) → ⊥
 held_not_short size w small held short =
     let other = Reads-one size (pending w) (Whole held.rec held.len) Short (omega arith) held.whole short in
     cc

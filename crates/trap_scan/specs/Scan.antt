@@ -2,7 +2,7 @@
 use Rattle.std.specs.Prelude.{◌≡◌, ℕ, ◌+◌, ◌-◌, ◌<◌, ◌≤◌, List, []}
 use Rattle.trap_bank.specs.Disks.{Disks}
 use Rattle.trap_model.specs.declared.log_record.LogRec.{LogRec}
-use Rattle.trap_model.specs.LogRecord.{KeepsRanges}
+use Rattle.trap_model.specs.LogRecord.{IsRecordInRange}
 use Rattle.trap_ring.specs.Ring.{RingPlace}
 use Rattle.trap_scan.specs.declared.expected.Expected.{Expected}
 use Rattle.trap_scan.specs.declared.scan.Scan.{Scan}
@@ -21,7 +21,8 @@ AreExpected e bytes = AreRecords (history_of e) e.first e.base_time (e.last - e.
 -- the first of them that isn't one begins at this offset
 pub record BreaksAt (e : Expected) (bytes : List ℕ) (at : ℕ) : Type 0 where
   pub behind : e.first_off ≤ at
-  pub broken : IsBroken (history_of e) e.first e.base_time (e.last - e.first) bytes (at - e.first_off)
+  pub broken : IsBroken (history_of e) e.first e.base_time (e.last - e.first) bytes
+      (at - e.first_off)
 
 -- nothing is taken, and nothing loaded
 pub record IsAtFirst (e : Expected) (s : Scan) : Type 0 where
@@ -35,7 +36,7 @@ pub record IsAtFirst (e : Expected) (s : Scan) : Type 0 where
 abbrev pub more_of : Scan → ℕ
 more_of s = s.expected.last - (s.seq + 1)
 
--- nothing stands behind the record, and its time is the last one
+-- nothing stands after the record, and its time is the last one
 pub record IsLast (s : Scan) (front : Front) : Type 0 where
   pub end : s.window.at + front.len ≡ s.window.end
   pub time : front.rec.time ≡ s.expected.last_time
@@ -47,7 +48,8 @@ AreAhead s bytes = AreRecords (history_of s.expected) s.seq s.time (s.expected.l
 -- the first of them that isn't one begins at this offset
 pub record BreaksAhead (s : Scan) (bytes : List ℕ) (at : ℕ) : Type 0 where
   pub behind : s.window.at ≤ at
-  pub broken : IsBroken (history_of s.expected) s.seq s.time (s.expected.last - s.seq) bytes (at - s.window.at)
+  pub broken : IsBroken (history_of s.expected) s.seq s.time (s.expected.last - s.seq) bytes
+      (at - s.window.at)
 
 -- the record may follow the one that was taken last
 pub record MayFollow (s : Scan) (front : Front) : Type 0 where
@@ -57,7 +59,7 @@ pub record MayFollow (s : Scan) (front : Front) : Type 0 where
   pub ends : more_of s ≡ 0 → IsLast s front
 
 -- the record at the front was taken
-pub record Takes (front : Front) (old new : Scan) : Type 0 where
+pub record TakesRecord (front : Front) (old new : Scan) : Type 0 where
   pub expected : new.expected ≡ old.expected
   pub seq : new.seq ≡ front.rec.seq
   pub time : new.time ≡ front.rec.time
@@ -71,7 +73,7 @@ pub record TakesNext (old new : Scan) (r : LogRec) : Type 0 where
   pub at : old.window.at ≤ new.window.at
 
 -- no record was taken, and the same bytes are ahead
-pub record TakesNone (old new : Scan) : Type 0 where
+pub record TakesNoRecord (old new : Scan) : Type 0 where
   pub seq : new.seq ≡ old.seq
   pub time : new.time ≡ old.time
   pub at : new.window.at ≡ old.window.at
@@ -79,22 +81,23 @@ pub record TakesNone (old new : Scan) : Type 0 where
 
 -- the record is one that may follow, by its numbers
 pub record IsChecked (s : Scan) (r : LogRec) : Type 0 where
-  pub ranges : KeepsRanges s.expected.size r
+  pub ranges : IsRecordInRange s.expected.size r
   pub block : r.block < s.expected.volume
   pub later : s.time ≤ r.time
   pub last : more_of s ≡ 0 → r.time ≡ s.expected.last_time
 
--- the next record begins the bytes, and the rest stands behind it
+-- the next record begins the bytes, and the rest stands after it
 abbrev pub ComesNext : Scan → List ℕ → LogRec → List ℕ → Type 0
 ComesNext s bytes r rest = Follows (history_of s.expected) s.seq s.time (more_of s) bytes r rest
 
--- whatever is ahead, this record comes next, and what is ahead then stands behind it
+-- whatever is ahead, this record comes next, and what is ahead then stands after it
 abbrev pub GivesNext : RingPlace → Scan → Scan → Disks → LogRec → Type 0
 GivesNext place old new disks r =
     (bytes : List ℕ) → IsAhead place old.window bytes disks
     → (rest : List ℕ) × ComesNext old bytes r rest × IsAhead place new.window rest disks
 
 -- no record comes next, and it should begin at this offset
-pub record IsDamaged (place : RingPlace) (s : Scan) (disks : Disks) (at : ℕ) : Type 0 where
+pub record IsDamagedRecord (place : RingPlace) (s : Scan) (disks : Disks) (at : ℕ) : Type 0 where
   pub place_is : at ≡ s.window.at
-  pub none : (bytes : List ℕ) → IsAhead place s.window bytes disks → (r : LogRec) (rest : List ℕ) → ComesNext s bytes r rest → ⊥
+  pub none : (bytes : List ℕ) → IsAhead place s.window bytes disks → (r : LogRec) (rest : List ℕ)
+      → ComesNext s bytes r rest → ⊥

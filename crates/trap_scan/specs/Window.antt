@@ -3,7 +3,7 @@ use Rattle.std.specs.Prelude.{◌≡◌, ℕ, ◌+◌, ◌-◌, ◌≤◌, List,
 use Rattle.trap_bank.specs.Disks.{Disks, View}
 use Rattle.trap_bank.specs.Steps.{Moves, Same}
 use Rattle.trap_model.specs.Limits.{greatest_record}
-use Rattle.trap_model.specs.LogRecord.{KeepsRanges, LogRecord}
+use Rattle.trap_model.specs.LogRecord.{IsRecordInRange, LogRecord}
 use Rattle.trap_model.specs.declared.log_record.LogRec.{LogRec}
 use Rattle.trap_record.specs.Reading.{IsWhole}
 use Rattle.trap_ring.specs.Ring.{RingPlace, RingHas}
@@ -32,7 +32,7 @@ pub record SamePlace (old new : Window) : Type 0 where
   pub end : new.end ≡ old.end
   pub room : vec_len new.buf ≡ vec_len old.buf
 
--- so many bytes were passed over
+-- that many bytes were passed over
 pub record PassesOver (len : ℕ) (old new : Window) : Type 0 where
   pub at : new.at ≡ old.at + len
   pub end : new.end ≡ old.end
@@ -54,7 +54,8 @@ IsAhead r w bytes disks = IsWindow r w.at w.end bytes disks
 -- the record that begins the bytes, or that none does
 abbrev pub IsFront : ℕ → List ℕ → Option Front → Type 0
 IsFront size bytes None =
-    (r : LogRec) (parity snapshot first rest : List ℕ) → LogRecord size r parity snapshot first → bytes ≡ first ++ rest → ⊥
+    (r : LogRec) (parity snapshot first rest : List ℕ) → LogRecord size r parity snapshot first
+    → bytes ≡ first ++ rest → ⊥
 IsFront size bytes (Some front) = IsWhole size front.rec front.len bytes
 
 -- where a record was found, all its bytes stand in the buffer
@@ -65,10 +66,10 @@ IsPending w (Some front) = front.len ≤ w.to - w.from
 -- where a record was found, its numbers are in their ranges
 abbrev pub HasRanges : ℕ → Option Front → Type 0
 HasRanges size None = Unit {0}
-HasRanges size (Some front) = KeepsRanges size front.rec
+HasRanges size (Some front) = IsRecordInRange size front.rec
 
 -- a record stands whole at the front of the buffer
-pub record IsHeld (size : ℕ) (w : Window) : Type 0 where
+pub record IsWholeRecord (size : ℕ) (w : Window) : Type 0 where
   pub rec : LogRec
   pub len : ℕ
   pub whole : IsWhole size rec len (pending w)

@@ -35,10 +35,10 @@ fn take_all<B: Bank>(scan: &mut Scan, bank: &mut B, ring: &Ring) -> Result<(), S
     Ok(())
 }
 
-/// Reads all records that are expected in the ring, and checks that they stand there. A right record is
-/// one that spells two codes, ends within the ring's bytes, and has the next number, a block of the
-/// volume and a time not below the one before; the last one ends where the bytes end, and has the last
-/// time. Of no records nothing is read.
+/// Reads all records that are expected in the ring, and checks that they stand there. A right
+/// record is one that spells two codes, ends within the ring's bytes, and has the next number, a
+/// block of the volume and a time not below the one before; the last one ends where the bytes end,
+/// and has the last time. Of no records nothing is read.
 pub fn check_records<B: Bank>(
     alloc: Global,
     bank: &mut B,
@@ -51,13 +51,15 @@ pub fn check_records<B: Bank>(
     requires room { expected.now.end_off - expected.now.first_off ≤ ring.now.len }
     requires there { Fits (B.view bank.old) ring.now.disk (ring.now.at + ring.now.len) }
     ensures right { IsTrue (B.view bank.old).tells → OnOk result ((bytes : List ℕ)
-        → IsWindow ring.now expected.now.first_off expected.now.end_off bytes (B.view bank.old).now.disks
+        → IsWindow ring.now expected.now.first_off expected.now.end_off bytes
+        (B.view bank.old).now.disks
         → AreExpected expected.now bytes) }
 
     // The refusal's place is the first byte of the first record that isn't right.
     ensures damaged { IsTrue (B.view bank.old).tells → (at : ℕ)
         → IsErrOf result (CheckFault.Damaged at) → (bytes : List ℕ)
-        → IsWindow ring.now expected.now.first_off expected.now.end_off bytes (B.view bank.old).now.disks
+        → IsWindow ring.now expected.now.first_off expected.now.end_off bytes
+        (B.view bank.old).now.disks
         → BreaksAt expected.now bytes at }
     ensures of_none { expected.now.first ≡ expected.now.last
         → IsOk result × (bank.new ≡ bank.old) }

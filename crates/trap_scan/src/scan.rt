@@ -8,8 +8,8 @@ mod taking;
 use crate::Expected;
 use crate::window::Window;
 
-/// The records of a ring, of which those up to the number `seq` are taken. It takes no memory after it
-/// is made.
+/// The records of a ring, of which those up to the number `seq` are taken. It takes no memory after
+/// it is made.
 #[derive(Drop)]
 pub struct Scan {
     expected: Expected,

@@ -1,7 +1,7 @@
 -- What the loops of the writer and the reader keep: segments that spell the front of a block.
 use Rattle.std.proofs.Common.{◌≡◌, ℕ, ◌+◌, ◌-◌, ◌<◌, ◌≤◌, List, [], ◌∷◌, ◌++◌, length, flat_map, refl, sym, ◌∙◌, ap, subst, arith, append-nil}
 use Rattle.std.proofs.lemmas.List.Concat.{flat_map-append}
-use Rattle.trap_model.specs.ZeroRun.{Segment, spelling, contents, size_of, Follows, Walks, ZeroRun, least_behind, NoneFollows, IsRefused}
+use Rattle.trap_model.specs.ZeroRun.{Segment, spelling, contents, size_of, KeepsRules, Walks, ZeroRun, least_behind, NoneFollows, IsRefused}
 use Rattle.trap_model.proofs.ZeroRuns.{least_behind_four, walk-size, walk-room}
 
 -- segments that spell the front of a block of that size
@@ -24,11 +24,11 @@ begun-left size least front bytes b =
     omega arith
 
 -- one segment more at the end of a walk
-walk-more : (least owed left : ℕ) (a : List Segment) (s : Segment) → Walks least owed a left → Follows (least_behind least a) left s → Walks least owed (a ++ s ∷ []) (left - size_of s)
+walk-more : (least owed left : ℕ) (a : List Segment) (s : Segment) → Walks least owed a left → KeepsRules (least_behind least a) left s → Walks least owed (a ++ s ∷ []) (left - size_of s)
 walk-more least owed left [] s walk follows =
-    (subst (λ (n : ℕ). Follows least n s) walk follows, ap (λ (n : ℕ). n - size_of s) walk)
+    (subst (λ (n : ℕ). KeepsRules least n s) walk follows, ap (λ (n : ℕ). n - size_of s) walk)
 walk-more least owed left (t ∷ a) s walk follows =
-    (walk.0, walk-more 4 (owed - size_of t) left a s walk.1 (subst (λ (n : ℕ). Follows n left s) (sym (least_behind_four a)) follows))
+    (walk.0, walk-more 4 (owed - size_of t) left a s walk.1 (subst (λ (n : ℕ). KeepsRules n left s) (sym (least_behind_four a)) follows))
 
 four_behind : (a : List Segment) (s : Segment) → least_behind 0 (a ++ s ∷ []) ≡ 4
 four_behind [] s = refl
@@ -39,7 +39,7 @@ more-map f a s = flat_map-append f a (s ∷ []) ∙ ap (λ (l : List ℕ). flat_
 
 -- one segment more
 pub begun-more : (size least : ℕ) (front bytes : List ℕ) (s : Segment) → Begun size least front bytes
-    → Follows least (size - length front) s → Begun size 4 (front ++ contents s) (bytes ++ spelling s)
+    → KeepsRules least (size - length front) s → Begun size 4 (front ++ contents s) (bytes ++ spelling s)
 begun-more size least front bytes s b follows = record {
   segments = b.segments ++ s ∷ [];
   left = b.left - size_of s;
@@ -49,11 +49,11 @@ begun-more size least front bytes s b follows = record {
   meant = ap (λ (l : List ℕ). l ++ contents s) b.meant ∙ sym (more-map contents b.segments s);
 }
   where
-    here : Follows (least_behind 0 b.segments) b.left s
+    here : KeepsRules (least_behind 0 b.segments) b.left s
     here =
         let left = begun-left size least front bytes b in
         let same : size - length front ≡ b.left = omega arith in
-        subst (λ (n : ℕ). Follows n b.left s) (sym b.next) (subst (λ (n : ℕ). Follows least n s) same follows)
+        subst (λ (n : ℕ). KeepsRules n b.left s) (sym b.next) (subst (λ (n : ℕ). KeepsRules least n s) same follows)
 
 -- the whole block
 pub begun_all : (size least : ℕ) (block bytes : List ℕ) → Begun size least block bytes → length block ≡ size → ZeroRun block bytes

@@ -3,7 +3,7 @@ use Rattle.std.proofs.Common.{◌≡◌, ℕ, ◌+◌, ◌-◌, ◌<◌, ◌≤�
 use Rattle.std.proofs.lemmas.Bool.{cases_lt}
 use Rattle.std.proofs.lemmas.List.{length-replicate, get_or-replicate, ext_get_or, nil_from_length}
 use Rattle.std.proofs.lemmas.List.Edits.{length-between, get_or-between}
-use Rattle.trap_model.specs.ZeroRun.{spelling, contents, AreZeros, IsLiteral, Follows, ZeroRun}
+use Rattle.trap_model.specs.ZeroRun.{spelling, contents, AreZeros, IsLiteral, KeepsRules, ZeroRun}
 use Rattle.trap_model.proofs.ZeroRuns.{segment, length-spelling}
 use Rattle.trap_zrun.specs.Scans.{ZerosFollow}
 use Rattle.trap_zrun.proofs.Begun.{Begun, begun_nothing, begun-more, begun_all, begun-room}
@@ -66,7 +66,7 @@ front-segment block at start stop found =
 
 -- what the scans found keeps the rules
 coded-follows : (block bytes : List ℕ) (at start stop : ℕ) → at < length block → Found block at start stop → (coded : IsCoded block at bytes)
-    → Follows coded.least (length block - length (take at block)) (segment (start - at) (slice_range block start stop))
+    → KeepsRules coded.least (length block - length (take at block)) (segment (start - at) (slice_range block start stop))
 coded-follows block bytes at start stop some found coded =
     let front = length-take-le at block (omega arith) in
     let within = found.within in

@@ -1,8 +1,8 @@
 -- What the reader's loops keep.
 use Rattle.std.proofs.Common.{◌≡◌, ℕ, ◌+◌, ◌-◌, ◌<◌, ◌≤◌, List, [], ◌++◌, length, take, drop, refl, sym, ◌∙◌, ap, subst, arith, ◌^◌, Result, Ok, Err, IsOk, IsErr, length-append, length-drop, length-take-le, take-add, take_at, take_all, take-append-drop}
-use Rattle.trap_model.specs.ZeroRun.{Segment, spelling, contents, size_of, Follows, ZeroRun, IsCode, NoneFollows, IsRefused}
+use Rattle.trap_model.specs.ZeroRun.{Segment, spelling, contents, size_of, KeepsRules, ZeroRun, IsCode, NoneFollows, IsRefused}
 use Rattle.trap_model.proofs.ZeroRuns.{length-spelling, length-contents, Follows_within, NoneFollows-whole, IsRefused-not}
-use Rattle.trap_zrun.specs.Scans.{IsNext}
+use Rattle.trap_zrun.specs.Scans.{IsNextSegment}
 use Rattle.trap_zrun.proofs.Begun.{Begun, begun_nothing, begun-more, begun_all, begun_refused}
 
 -- so many bytes were read, and spell a front of what was filled
@@ -26,7 +26,7 @@ pub checked_nothing : (size : ℕ) (bytes : List ℕ) → IsChecked size bytes 0
 checked_nothing size bytes = record { inside = omega arith; room = omega arith; front = []; len = refl; begun = begun_nothing size }
 
 -- the bytes up to the end of the next segment
-read-more : (bytes : List ℕ) (least owed at : ℕ) (s : Segment) → at ≤ length bytes → IsNext least owed (drop at bytes) s
+read-more : (bytes : List ℕ) (least owed at : ℕ) (s : Segment) → at ≤ length bytes → IsNextSegment least owed (drop at bytes) s
     → (at + (4 + length s.literal) ≤ length bytes) × (take at bytes ++ spelling s ≡ take (at + (4 + length s.literal)) bytes)
 read-more bytes least owed at s inside next =
     let behind = drop (4 + length s.literal) (drop at bytes) in
@@ -40,7 +40,7 @@ read-more bytes least owed at s inside next =
     )
 
 pub decoded-more : (old out bytes : List ℕ) (least filled at end : ℕ) (s : Segment) → IsDecoded old bytes least filled at
-    → IsNext least (length old - filled) (drop at bytes) s → length out ≡ length old → end ≡ filled + size_of s → take end out ≡ take filled old ++ contents s
+    → IsNextSegment least (length old - filled) (drop at bytes) s → length out ≡ length old → end ≡ filled + size_of s → take end out ≡ take filled old ++ contents s
     → IsDecoded out bytes 4 end (at + (4 + length s.literal))
 decoded-more old out bytes least filled at end s decoded next same place front =
     let inside = decoded.inside in
@@ -49,7 +49,7 @@ decoded-more old out bytes least filled at end s decoded next same place front =
     let within = Follows_within least (length old - filled) s next.rules in
     let len = length-take-le filled old room in
     let more = begun-more (length old) least (take filled old) (take at bytes) s decoded.begun
-    (subst (λ (n : ℕ). Follows least (length old - n) s) (sym len) next.rules) in
+    (subst (λ (n : ℕ). KeepsRules least (length old - n) s) (sym len) next.rules) in
     record {
       inside = read.0;
       room = omega arith;
@@ -59,7 +59,7 @@ decoded-more old out bytes least filled at end s decoded next same place front =
     }
 
 pub checked-more : (size : ℕ) (bytes : List ℕ) (least filled at end : ℕ) (s : Segment) → IsChecked size bytes least filled at
-    → IsNext least (size - filled) (drop at bytes) s → end ≡ filled + size_of s
+    → IsNextSegment least (size - filled) (drop at bytes) s → end ≡ filled + size_of s
     → IsChecked size bytes 4 end (at + (4 + length s.literal))
 checked-more size bytes least filled at end s checked next place =
     let inside = checked.inside in
@@ -70,7 +70,7 @@ checked-more size bytes least filled at end s checked next place =
     let parts = length-append checked.front (contents s) in
     let more_len = length-contents s in
     let more = begun-more size least checked.front (take at bytes) s checked.begun
-    (subst (λ (n : ℕ). Follows least (size - n) s) (sym len) next.rules) in
+    (subst (λ (n : ℕ). KeepsRules least (size - n) s) (sym len) next.rules) in
     record {
       inside = read.0;
       room = omega arith;

@@ -4,7 +4,6 @@ use Rattle.std.proofs.lemmas.Bool.{cases_lt}
 use Rattle.std.proofs.lemmas.List.{get_or_past, get_or-take}
 use Rattle.std.proofs.lemmas.List.Edits.{length-between, get_or-between}
 use Rattle.trap_model.specs.ZeroRun.{AreZeros, IsLiteral}
-use Rattle.trap_block.specs.Zeros as Found
 use Rattle.trap_zrun.specs.Scans.{ZerosFollow}
 
 -- zero bytes stand from one place to another
@@ -18,15 +17,6 @@ zeros_between bytes at end run = record {
   inside = (let from = run.from in let inside = run.inside in omega arith);
   zeros = λ k below. run.zeros (at + k) (omega arith) (omega arith);
 }
-
--- what a search says in the words of `trap_block` is what a code says
-pub found_zeros : (bytes : List ℕ) (at count : ℕ) → Found.AreZeros bytes at count → AreZeros bytes at count
-found_zeros bytes at count run = record { inside = run.inside; zeros = run.zeros }
-
--- where a search found no four zero bytes there are none
-pub none_found : (bytes : List ℕ) (at stop : ℕ) → ((place : ℕ) → at ≤ place → place < stop → ¬ Found.AreZeros bytes place 4)
-    → (place : ℕ) → at ≤ place → place < stop → ¬ AreZeros bytes place 4
-none_found bytes at stop none place from below four = none place from below (record { inside = four.inside; zeros = four.zeros })
 
 -- from a nonzero byte to another one, where no four zero bytes stand, is a literal
 pub literal-found : (block : List ℕ) (at stop end : ℕ) → at < end → end ≤ stop → stop ≤ length block → 0 < get_or block at 0 → 0 < get_or block (end - 1) 0

@@ -1,9 +1,9 @@
-//! Pieces of a spelling or a block, written one behind the other.
+//! Pieces of a spelling or a block, written one after the other.
 
 ghost use Rattle.std.specs.Prelude.{◌≡◌, ◌+◌, ◌^◌, ◌<◌, ◌≤◌, ◌++◌, length, take, replicate};
 ghost use Rattle.trap_model.specs.ZeroRun.{spelling, contents};
 
-// Writes the bytes at a place, and answers the place behind them.
+// Writes the bytes at a place, and answers the place after them.
 fn put(out: &mut [u8], at: usize, bytes: &[u8]) -> usize
     requires { at + length bytes.now ≤ length out.old }
     ensures end { result ≡ at + length bytes.now }
@@ -13,7 +13,7 @@ fn put(out: &mut [u8], at: usize, bytes: &[u8]) -> usize
     at + bytes.len()
 }
 
-// Writes zero bytes at a place, and answers the place behind them.
+// Writes zero bytes at a place, and answers the place after them.
 fn put_zeros(out: &mut [u8], at: usize, count: usize) -> usize
     requires { at + count ≤ length out.old }
     ensures end { result ≡ at + count }
@@ -23,7 +23,7 @@ fn put_zeros(out: &mut [u8], at: usize, count: usize) -> usize
     at + count
 }
 
-/// Writes a segment at a place, and answers the place behind it.
+/// Writes a segment at a place, and answers the place after it.
 pub fn put_segment(out: &mut [u8], at: usize, zeros: usize, literal: &[u8]) -> usize
     requires zeros { zeros < 2 ^ 16 }
     requires literal { length literal.now < 2 ^ 16 }
@@ -37,7 +37,7 @@ pub fn put_segment(out: &mut [u8], at: usize, zeros: usize, literal: &[u8]) -> u
     put(out, end, literal)
 }
 
-/// Writes the contents of a segment at a place, and answers the place behind them.
+/// Writes the contents of a segment at a place, and answers the place after them.
 pub fn put_contents(out: &mut [u8], at: usize, zeros: usize, literal: &[u8]) -> usize
     requires { at + (zeros + length literal.now) ≤ length out.old }
     ensures end { result ≡ at + (zeros + length literal.now) }

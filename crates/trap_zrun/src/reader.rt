@@ -1,13 +1,13 @@
 //! Reads the code of a block.
 
 ghost use Rattle.std.specs.Prelude.{◌≡◌, ℕ, ◌+◌, ◌^◌, ◌<◌, ◌≤◌, ◌↔◌, List, length, take, drop, IsTrue, IsOk, IfOk, IfErr, OnOk, IfSome, IfNone};
-ghost use Rattle.trap_model.specs.ZeroRun.{ZeroRun, IsCode, IsRefused, IsLiteral, Follows, NoneFollows};
-ghost use Rattle.trap_zrun.specs.Scans.{IsNext};
+ghost use Rattle.trap_model.specs.ZeroRun.{ZeroRun, IsCode, IsRefused, IsLiteral, KeepsRules, NoneFollows};
+ghost use Rattle.trap_zrun.specs.Scans.{IsNextSegment};
 
 use crate::pieces::put_contents;
 use trap_block::{four_zeros_before, get_u16};
 
-// Whether so many of the bytes are a literal.
+// Whether that many of the bytes are a literal.
 #[inline]
 fn is_literal(bytes: &[u8], len: usize) -> bool
     requires some { 1 ≤ len }
@@ -25,14 +25,14 @@ fn is_literal(bytes: &[u8], len: usize) -> bool
     four_zeros_before(bytes, 0, len) == len
 }
 
-// Whether a segment of that many zero bytes, and of so many of these bytes as its literal, keeps
+// Whether a segment of that many zero bytes, and of that many of these bytes as its literal, keeps
 // the rules.
 #[inline]
 fn follows(least: usize, owed: usize, zeros: usize, bytes: &[u8], len: usize) -> bool
     requires some { 1 ≤ owed }
     requires inside { len ≤ length bytes.now }
     ensures { IsTrue result
-        ↔ Follows least owed (record { zeros = zeros; literal = take len bytes.now }) }
+        ↔ KeepsRules least owed (record { zeros = zeros; literal = take len bytes.now }) }
 {
     if len == 0 {
         zeros == owed
@@ -46,7 +46,7 @@ fn follows(least: usize, owed: usize, zeros: usize, bytes: &[u8], len: usize) ->
 fn next_segment(bytes: &[u8], least: usize, owed: usize) -> Option<(usize, &[u8])>
     requires some { 1 ≤ owed }
     requires small { owed < 2 ^ 16 }
-    ensures found { IfSome result (λ next. IsNext least owed bytes.now
+    ensures found { IfSome result (λ next. IsNextSegment least owed bytes.now
         (record { zeros = next.0; literal = next.1.now })) }
     ensures none { IfNone result (NoneFollows least owed bytes.now) }
 {
@@ -67,7 +67,7 @@ fn next_segment(bytes: &[u8], least: usize, owed: usize) -> Option<(usize, &[u8]
 
 /// Bytes that spell no block of the size asked. `at` is the offset of the first byte of the first
 /// segment that isn't whole, breaks a rule or goes past the end of the block; or of the first byte
-/// behind the last segment.
+/// after the last segment.
 #[derive(Clone, Copy, Debug, PartialEq, Eq)]
 pub struct BadCode {
     pub at: usize,
@@ -78,7 +78,7 @@ fn segment_at(bytes: &[u8], at: usize, least: usize, owed: usize) -> Result<(usi
     requires inside { at ≤ length bytes.now }
     requires some { 1 ≤ owed }
     requires small { owed < 2 ^ 16 }
-    ensures found { IfOk result (λ next. IsNext least owed (drop at bytes.now)
+    ensures found { IfOk result (λ next. IsNextSegment least owed (drop at bytes.now)
         (record { zeros = next.0; literal = next.1.now })) }
     ensures none { IfErr result (λ bad.
         (bad.at ≡ at) × NoneFollows least owed (drop at bytes.now)) }

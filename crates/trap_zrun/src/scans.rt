@@ -6,7 +6,7 @@ ghost use Rattle.trap_zrun.specs.Scans.{ZerosFollow};
 
 use trap_block::four_zeros;
 
-// The place behind the last nonzero byte before `stop`.
+// The place after the last nonzero byte before `stop`.
 fn without_zeros(bytes: &[u8], at: usize, stop: usize) -> usize
     requires place { at < stop }
     requires inside { stop ≤ length bytes.now }

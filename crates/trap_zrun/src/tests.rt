@@ -57,7 +57,7 @@ fn each_wrong_code_is_refused_at_its_place(rt: HostRuntime) {
 }
 
 // Whether the block's code is read as the block, without its last byte as no code, and with a byte
-// behind it as one that ends there.
+// after it as one that ends there.
 fn goes_round(block: &[u8]) -> bool
     requires { length block.now ≤ 4096 }
 {

@@ -9,7 +9,7 @@ use crate::{Refusal, Reply, Request};
 use std::process::Abort;
 use std::test::Fail;
 
-/// What is asked: a write's contents are these bytes, and zero bytes behind them.
+/// What is asked: a write's contents are these bytes, and zero bytes after them.
 enum Ask<'a> {
     Write(u64, u64, &'a [u8]),
     Read(u64),

@@ -6,8 +6,8 @@ use std::alloc::{AllocError as OutOfMemory, Global};
 use trap_bank::{Bank, MemoryBank};
 use trap_ring::Ring;
 
-// Three records over blocks of 16 bytes, of 35, 39 and 35 bytes: numbers 1, 2 and 3 at the times 100,
-// 100 and 101, of the blocks 0, 0 and 2, the second one with a snapshot.
+// Three records over blocks of 16 bytes, of 35, 39 and 35 bytes: numbers 1, 2 and 3 at the times
+// 100, 100 and 101, of the blocks 0, 0 and 2, the second one with a snapshot.
 const RECORDS: [u8; 109] = [
     1, 0, 0, 0, 0, 0, 0, 0, 0, 1, 0, 0, 0, 0, 0, 0, 0, 0x64, 0, 0, 0, 0, 0, 9, 0, 0, 0, 0, 0, 1, 1,
     0, 0x0f, 0, 0, 1, 1, 0, 0, 0, 0, 0, 0, 0, 2, 0, 0, 0, 0, 0, 0, 0, 0x64, 0, 0, 0, 0, 0, 4, 0, 9,
@@ -15,8 +15,8 @@ const RECORDS: [u8; 109] = [
     0x65, 0, 0, 0, 2, 0, 9, 0, 0, 0, 0, 0, 1, 7, 0, 0x0f, 0, 0,
 ];
 
-// The records' numbers: they stand from the offset 100 on, in a ring of 144 bytes, so the second one
-// goes round its end.
+// The records' numbers: they stand from the offset 100 on, in a ring of 144 bytes, so the second
+// one goes round its end.
 const EXPECTED: Expected = Expected {
     size: 16,
     volume: 4,
@@ -40,7 +40,7 @@ fn write<B: Bank>(bank: &mut B, records: &[u8; 109]) -> bool {
     }
 }
 
-// Checks them through a buffer of at most so many bytes.
+// Checks them through a buffer of at most that many bytes.
 fn check_through<B: Bank>(
     alloc: Global,
     bank: &mut B,

@@ -4,8 +4,8 @@ ghost use Rattle.std.specs.Prelude.{◌≡◌, ℕ, ◌+◌, ◌-◌, ◌<◌, �
 ghost use Rattle.trap_bank.specs.Faults.{Rose};
 ghost use Rattle.trap_bank.specs.Calls.{Fits};
 ghost use Rattle.trap_model.specs.Limits.{greatest_record};
-ghost use Rattle.trap_scan.specs.Window.{IsLoaded, IsHeld, Looks};
-ghost use Rattle.trap_scan.specs.Scan.{IsAtFirst, IsLast, MayFollow, Takes, TakesNext, TakesNone, IsChecked, GivesNext, IsDamaged};
+ghost use Rattle.trap_scan.specs.Window.{IsLoaded, IsWholeRecord, Looks};
+ghost use Rattle.trap_scan.specs.Scan.{IsAtFirst, IsLast, MayFollow, TakesRecord, TakesNext, TakesNoRecord, IsChecked, GivesNext, IsDamagedRecord};
 
 use super::Scan;
 use crate::window::{Front, Window};
@@ -64,7 +64,7 @@ impl Scan {
         self.seq < self.expected.last
     }
 
-    // Whether nothing stands behind the record, and its time is the last one.
+    // Whether nothing stands after the record, and its time is the last one.
     fn is_last(&self, front: &Front) -> bool
         requires { self.now.window.at + front.now.len ≤ self.now.window.end }
         ensures { IsTrue result ↔ IsLast self.now front.now }
@@ -103,15 +103,15 @@ impl Scan {
         requires more { self.old.seq < self.old.expected.last }
         requires number { front.now.rec.seq ≡ self.old.seq + 1 }
         requires within { front.now.len ≤ self.old.window.to - self.old.window.from }
-        ensures { Takes front.now self.old self.new }
+        ensures { TakesRecord front.now self.old self.new }
     {
         self.window.pass(front.len);
         self.seq = front.rec.seq;
         self.time = front.rec.time;
     }
 
-    /// Takes the next record, where one that may come next stands there. No byte is read for one that
-    /// stands in the buffer already. After a fault or a refusal it may be asked for again.
+    /// Takes the next record, where one that may come next stands there. No byte is read for one
+    /// that stands in the buffer already. After a fault or a refusal it may be asked for again.
     pub fn next<B: Bank>(&mut self, bank: &mut B, ring: &Ring) -> Result<LogRec, ScanFault>
         requires more { self.old.seq < self.old.expected.last }
         requires room { self.old.window.end ≤ self.old.window.at + ring.now.len }
@@ -123,18 +123,20 @@ impl Scan {
         ensures checked { IfOk result (IsChecked self.old) }
         ensures right { IsTrue (B.view bank.old).tells
             → IfOk result (GivesNext ring.now self.old self.new (B.view bank.old).now.disks) }
-        ensures err { OnErr result (TakesNone self.old self.new) }
+        ensures err { OnErr result (TakesNoRecord self.old self.new) }
         ensures damaged { IsTrue (B.view bank.old).tells → (at : ℕ)
             → IsErrOf result (ScanFault.Damaged at)
-            → IsDamaged ring.now self.old (B.view bank.old).now.disks at }
+            → IsDamagedRecord ring.now self.old (B.view bank.old).now.disks at }
 
         // No call of the bank for a record that stands in the buffer.
-        ensures untouched { IsHeld self.old.expected.size self.old.window → bank.new ≡ bank.old }
+        ensures untouched { IsWholeRecord self.old.expected.size self.old.window
+            → bank.new ≡ bank.old }
         ensures loaded { IsTrue (B.view bank.old).tells
             → IsLoaded ring.now self.new.window (B.view bank.old).now.disks }
         ensures looks { Looks (B.view bank.old) (B.view bank.new) }
         ensures cause { IsErrOf result ScanFault.DiskFault
-            → Rose ((B.view bank.old).faults ring.now.disk) ((B.view bank.new).faults ring.now.disk) }
+            → Rose ((B.view bank.old).faults ring.now.disk)
+            ((B.view bank.new).faults ring.now.disk) }
     {
         let at = self.window.at();
         let size = self.expected.size;

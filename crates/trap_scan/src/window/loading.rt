@@ -5,7 +5,7 @@ ghost use Rattle.trap_bank.specs.Faults.{Rose};
 ghost use Rattle.trap_bank.specs.Calls.{Fits};
 ghost use Rattle.trap_record.specs.Reading.{Reads};
 ghost use Rattle.trap_ring.specs.Ring.{RingHas};
-ghost use Rattle.trap_scan.specs.Window.{pending, IsBegun, SamePlace, PassesOver, IsLoaded, HasRoom, IsAhead, IsFront, IsPending, HasRanges, IsHeld, Looks};
+ghost use Rattle.trap_scan.specs.Window.{pending, IsBegun, SamePlace, PassesOver, IsLoaded, HasRoom, IsAhead, IsFront, IsPending, HasRanges, IsWholeRecord, Looks};
 
 use super::{Front, Window};
 use std::alloc::{AllocError as OutOfMemory, Global};
@@ -13,7 +13,7 @@ use trap_bank::{Bank, DiskFault};
 use trap_record::{ReadRec, read};
 use trap_ring::Ring;
 
-// Reads so many of the ring's bytes into the front of the buffer.
+// Reads that many of the ring's bytes into the front of the buffer.
 fn read_front<B: Bank>(
     bank: &mut B,
     ring: &Ring,
@@ -34,7 +34,7 @@ fn read_front<B: Bank>(
 }
 
 impl Window {
-    /// The bytes from `at` up to `end`, none of which is loaded, and a buffer of so many bytes.
+    /// The bytes from `at` up to `end`, none of which is loaded, and a buffer of that many bytes.
     pub fn new(alloc: Global, at: u64, end: u64, room: usize) -> Result<Window, OutOfMemory>
         requires { at ≤ end }
         ensures { IfOk result (IsBegun at end room) }
@@ -56,7 +56,7 @@ impl Window {
         self.at
     }
 
-    /// Whether so many bytes are all there are.
+    /// Whether that many bytes are all there are.
     pub fn ends_behind(&self, len: usize) -> bool
         requires { self.now.at + len ≤ self.now.end }
         ensures { IsTrue result ↔ (self.now.at + len ≡ self.now.end) }
@@ -94,7 +94,8 @@ impl Window {
         requires there { Fits (B.view bank.old) ring.now.disk (ring.now.at + ring.now.len) }
         ensures place { SamePlace self.old self.new }
         ensures filled { OnOk result
-            (self.new.to - self.new.from ≡ min (self.new.end - self.new.at) (vec_len self.new.buf)) }
+            (self.new.to - self.new.from
+            ≡ min (self.new.end - self.new.at) (vec_len self.new.buf)) }
         ensures loaded { IsTrue (B.view bank.old).tells
             → IsLoaded ring.now self.new (B.view bank.old).now.disks }
         ensures looks { Looks (B.view bank.old) (B.view bank.new) }
@@ -110,8 +111,8 @@ impl Window {
         Ok(())
     }
 
-    /// The record at the front of the bytes, over blocks of that size, and all its bytes stand in the
-    /// buffer then. They are loaded from its first one on, where they aren't there yet.
+    /// The record at the front of the bytes, over blocks of that size, and all its bytes stand in
+    /// the buffer then. They are loaded from its first one on, where they aren't there yet.
     pub fn front<B: Bank>(
         &mut self,
         bank: &mut B,
@@ -126,12 +127,13 @@ impl Window {
             → IsLoaded ring.now self.old (B.view bank.old).now.disks }
         ensures place { SamePlace self.old self.new }
         ensures found { IsTrue (B.view bank.old).tells → IfOk result (λ found. (bytes : List ℕ)
-            → IsAhead ring.now self.old bytes (B.view bank.old).now.disks → IsFront size bytes found) }
+            → IsAhead ring.now self.old bytes (B.view bank.old).now.disks
+            → IsFront size bytes found) }
         ensures pending { IfOk result (IsPending self.new) }
         ensures ranges { IfOk result (HasRanges size) }
 
         // No call of the bank for a record that stands in the buffer.
-        ensures untouched { IsHeld size self.old → bank.new ≡ bank.old }
+        ensures untouched { IsWholeRecord size self.old → bank.new ≡ bank.old }
         ensures loaded { IsTrue (B.view bank.old).tells
             → IsLoaded ring.now self.new (B.view bank.old).now.disks }
         ensures looks { Looks (B.view bank.old) (B.view bank.new) }

@@ -1,13 +1,13 @@
 use Rattle.std.proofs.Common.{arith, eqb-true, eq-eqb}
-use Rattle.trap_zrun.proofs.Scanning.{found_zeros, none_found, literal_by, literal_whole}
+use Rattle.trap_zrun.proofs.Scanning.{literal_by, literal_whole}
 use Rattle.trap_zrun.proofs.reader.is_literal.Goals as goal
 
 pub returns : goal.returns
 returns c = (
   λ whole. literal_by c.args.bytes.now c.args.len c.four_zeros_before.result c.requires.some c.requires.inside (omega arith) (omega arith)
-      (none_found c.args.bytes.now 0 c.four_zeros_before.result c.four_zeros_before.ensures.first)
+      c.four_zeros_before.ensures.first
       (eqb-true c.four_zeros_before.result c.args.len whole),
   λ is. eq-eqb c.four_zeros_before.result c.args.len
       (literal_whole c.args.bytes.now c.args.len c.four_zeros_before.result c.requires.inside c.four_zeros_before.ensures.within
-      (λ below. found_zeros c.args.bytes.now c.four_zeros_before.result 4 (c.four_zeros_before.ensures.found below)) is),
+      c.four_zeros_before.ensures.found is),
 )

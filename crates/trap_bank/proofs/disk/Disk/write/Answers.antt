@@ -1,6 +1,6 @@
 use Rattle.std.proofs.Common.{◌≡◌, ℕ, ◌+◌, ◌≤◌, List, ◌++◌, length, take, drop, subst, subst₂, ap, sym, ◌∙◌}
 use Rattle.trap_bank.specs.declared.disk.Range.{Range}
-use Rattle.trap_bank.specs.Kept.{Kept, IsKept, overlaid}
+use Rattle.trap_bank.specs.Kept.{Kept, IsStableBut, overlaid}
 use Rattle.trap_bank.proofs.Ranges.{written_is_kept, length-overlaid, cut_to_length}
 use Rattle.trap_bank.proofs.disk.Disk.write.Goals as goal
 
@@ -14,5 +14,5 @@ invariant_of-self-2 c =
     let long : length c.overwrite.new.bytes ≡ c.self.inside.bytes.len = ap length laid ∙ length-overlaid old c.args.at fresh fits ∙ sym c.self.inside.bytes.ok.0 in
     let whole : take c.self.inside.bytes.len (c.overwrite.new.bytes ++ drop (length c.overwrite.new.bytes) old) ≡ overlaid old c.args.at fresh =
     cut_to_length c.overwrite.new.bytes (drop (length c.overwrite.new.bytes) old) c.self.inside.bytes.len long ∙ laid in
-    subst₂ (λ (xs : List ℕ) (rs : List Range). IsKept xs c.self.inside.stable.items rs) (sym whole) (sym c.in_ok-push.ensures.ok)
+    subst₂ (λ (xs : List ℕ) (rs : List Range). IsStableBut xs c.self.inside.stable.items rs) (sym whole) (sym c.in_ok-push.ensures.ok)
     (written_is_kept old c.self.inside.stable.items c.self.inside.ranges c.args.at fresh fits c.self.invariant)

@@ -2,7 +2,7 @@ use Rattle.std.proofs.Common.{◌≡◌, ℕ, ◌+◌, ◌-◌, List, refl, ap, 
 use Rattle.trap_model.specs.declared.log_record.LogRec.{LogRec}
 use Rattle.trap_model.specs.declared.numbers.Geometry.{Geometry}
 use Rattle.trap_index.specs.Indexed.{Indexed, dropped_to, last_seq, time_behind, recs_len, recs_up_to}
-use Rattle.trap_index.specs.Keeping.{IsKept, recs_of}
+use Rattle.trap_index.specs.Keeping.{KeepsItems, recs_of}
 use Rattle.trap_index.proofs.Dropped.{IsDroppedTo, dropped}
 use Rattle.trap_index.proofs.index.Index.drop_to.Goals as goal
 
@@ -28,7 +28,7 @@ offs c = ap (λ (i : Indexed). (dropped_to i c.args.seq).first_off) c.self.view_
 pub invariant_of-self : goal.invariant_of-self
 invariant_of-self c =
     let recs = recs_of c.args.seq c.truncate_front.new.self.items in
-    let P : ℕ → ℕ → Type 0 = λ t o. IsKept (record { g = c.self.inside.g; first = c.args.seq; base_time = t; first_off = o; recs = recs }) c.truncate_front.new.self.items c.truncate_front.new.self.capacity c.self.inside.newest.items c.self.inside.end_off c.self.inside.last_time in
+    let P : ℕ → ℕ → Type 0 = λ t o. KeepsItems (record { g = c.self.inside.g; first = c.args.seq; base_time = t; first_off = o; recs = recs }) c.truncate_front.new.self.items c.truncate_front.new.self.capacity c.self.inside.newest.items c.self.inside.end_off c.self.inside.last_time in
     subst (λ (t : ℕ). P t c.off_after-first_off.result) (times c) (subst (λ (o : ℕ). P (dropped_to (before c) c.args.seq).base_time o) (offs c) (made c).kept)
 
 pub returns : goal.returns
