@@ -1,9 +1,9 @@
 -- What the steps of a put leave of a cell.
-use Rattle.std.proofs.Common.{◌≡◌, ◌⊎◌, ℕ, ◌+◌, ◌<◌, ◌≤◌, List, [], ◌∷◌, Bool, true, false, not, ◌==◌, Option, Some, None, inl, inr, ⊎_elim, refl, sym, ap, subst, ◌∙◌, arith}
+use Rattle.std.proofs.Common.{◌≡◌, ◌⊎◌, ℕ, ◌+◌, ◌<◌, ◌≤◌, List, [], ◌∷◌, Bool, true, false, not, ◌==◌, Option, Some, None, IsTrue, inl, inr, ⊎_elim, refl, sym, ap, subst, ◌∙◌, arith}
 use Rattle.trap_bank.specs.Disks.{Disks, Within, Differs, region}
 use Rattle.trap_bank.proofs.Regions.{region_beside, byte_beside, byte_in_region, differs_again, differs_wider, differs_none, region_of_disk, byte_of_disk}
 use Rattle.trap_cell.specs.Slots.{is_on, next_turn, Place, Slots, Stands, slot_at, gate_of, turn_of, value_in, value_at, current_slot, cell_value, cell_len, other_slot, shut_of, turned}
-use Rattle.trap_cell.specs.Steps.{PutsIn, Keeps, Shuts, Fills, IsReady}
+use Rattle.trap_cell.specs.Steps.{PutsIn, Keeps, Shuts, StaysShut, FillsSlot, IsSlotReady}
 use Rattle.trap_cell.proofs.Gates.{seen, is_seen, current_on, alone, overtaken, not_overtaken, on_gate, off_gate, value_of, not_not}
 
 -- a slot lies before the other or behind it
@@ -78,11 +78,27 @@ gate_written s y b there = byte_in_region y s.place.disk (slot_at s.place (not s
 
 -- an open gate that was shut
 pub shuts_written : (s : Slots) (x y : Disks) → s.other_open ≡ true → Stands s x → Differs (Within s.place.disk (slot_at s.place (not s.second)) 1) x y → region y s.place.disk (slot_at s.place (not s.second)) 1 ≡ 0 ∷ [] → Shuts s x y
-shuts_written s x y open_ stands torn there = record { keeps = keeps_torn s x y open_ stands torn; shut = ap (λ (g : ℕ). g == 165) (gate_written s y 0 there) }
+shuts_written s x y open_ stands torn there = record {
+  keeps = keeps_torn s x y open_ stands torn;
+  shut = ap (λ (g : ℕ). g == 165) (gate_written s y 0 there);
+  zero = λ was. gate_written s y 0 there;
+  still = λ was. absurd (apart was);
+}
+  where
+    apart : s.other_open ≡ false → ⊥
+    apart was = cc
 
 -- a gate that was shut before
 pub shuts_none : (s : Slots) (x : Disks) → s.other_open ≡ false → Stands s x → Shuts s x x
-shuts_none s x shut stands = record { keeps = keeps_none s x stands; shut = stands.gate ∙ shut }
+shuts_none s x shut stands = record {
+  keeps = keeps_none s x stands;
+  shut = stands.gate ∙ shut;
+  zero = λ was. absurd (apart was);
+  still = λ was. refl;
+}
+  where
+    apart : IsTrue s.other_open → ⊥
+    apart was = let on : s.other_open ≡ true = was in cc
 
 -- after it the cell stands with its gate shut
 pub shuts_stands : (s : Slots) (x y : Disks) → Shuts s x y → Stands (shut_of s) y
@@ -92,12 +108,15 @@ shuts_stands s x y shuts = record { current = shuts.keeps.current; turn = shuts.
 pub behind_gate : (s : Slots) (x y : Disks) → Differs (Within s.place.disk (slot_at s.place (not s.second) + 1) (1 + s.place.size)) x y → Differs (other_slot s) x y
 behind_gate s x y torn = differs_wider s.place.disk (slot_at s.place (not s.second) + 1) (1 + s.place.size) (slot_at s.place (not s.second)) (2 + s.place.size) x y (omega arith) (omega arith) torn
 
--- any bytes behind a gate that is shut
-pub shuts_torn : (s : Slots) (x y : Disks) → Stands (shut_of s) x → Differs (Within s.place.disk (slot_at s.place (not s.second) + 1) (1 + s.place.size)) x y → Shuts s x y
-shuts_torn s x y stands torn = record { keeps = record { differs = keeps.differs; current = keeps.current; turn = keeps.turn; value = keeps.value }; shut = shut }
+-- any bytes after a gate that is shut
+pub shuts_torn : (s : Slots) (x y : Disks) → Stands (shut_of s) x → Differs (Within s.place.disk (slot_at s.place (not s.second) + 1) (1 + s.place.size)) x y → StaysShut s x y
+shuts_torn s x y stands torn = record { keeps = record { differs = keeps.differs; current = keeps.current; turn = keeps.turn; value = keeps.value }; shut = shut; gate = same }
   where
+    same : gate_of s.place (not s.second) y ≡ gate_of s.place (not s.second) x
+    same = byte_beside s.place.disk (slot_at s.place (not s.second) + 1) (1 + s.place.size) x y (slot_at s.place (not s.second)) torn (inl (omega arith))
+
     shut : (gate_of s.place (not s.second) y == 165) ≡ false
-    shut = ap (λ (g : ℕ). g == 165) (byte_beside s.place.disk (slot_at s.place (not s.second) + 1) (1 + s.place.size) x y (slot_at s.place (not s.second)) torn (inl (omega arith))) ∙ stands.gate
+    shut = ap (λ (g : ℕ). g == 165) same ∙ stands.gate
 
     keeps : Keeps (shut_of s) x y
     keeps = keeps_seen (shut_of s) x y stands (behind_gate s x y torn)
@@ -122,15 +141,15 @@ pub keeps_puts_then : (s : Slots) (fresh : List ℕ) (x y z : Disks) → Stands 
 keeps_puts_then s fresh x y z stands keeps puts = record { differs = differs_again (other_slot s) x y z keeps.differs puts.differs; either = ⊎_elim (λ old. inl (old ∙ keeps_value s x y stands keeps)) inr puts.either }
 
 -- a slot that was filled is ready
-pub fills_ready : (s : Slots) (fresh : List ℕ) (x y : Disks) → Fills s fresh x y → IsReady s fresh y
-fills_ready s fresh x y fills = record { stands = shuts_stands s x y fills.shuts; turn = fills.turn; value = fills.value }
+pub fills_ready : (s : Slots) (fresh : List ℕ) (x y : Disks) → FillsSlot s fresh x y → IsSlotReady s fresh y
+fills_ready s fresh x y fills = record { stands = record { current = fills.shuts.keeps.current; turn = fills.shuts.keeps.turn; gate = fills.shuts.shut }; turn = fills.turn; value = fills.value }
 
 -- the current slot of a cell that is ready is on
-ready_on : (s : Slots) (fresh : List ℕ) (x : Disks) → IsReady s fresh x → seen s.second (gate_of s.place s.second x) (turn_of s.place s.second x) (gate_of s.place (not s.second) x) (turn_of s.place (not s.second) x) ≡ Some s.second
+ready_on : (s : Slots) (fresh : List ℕ) (x : Disks) → IsSlotReady s fresh x → seen s.second (gate_of s.place s.second x) (turn_of s.place s.second x) (gate_of s.place (not s.second) x) (turn_of s.place (not s.second) x) ≡ Some s.second
 ready_on s fresh x ready = stands_on (shut_of s) x ready.stands
 
 -- the other slot is current once its gate is open
-opened : (s : Slots) (fresh : List ℕ) (x y : Disks) → IsReady s fresh x → Differs (Within s.place.disk (slot_at s.place (not s.second)) 1) x y → (gate_of s.place (not s.second) y == 165) ≡ true → current_slot s.place y ≡ Some (not s.second)
+opened : (s : Slots) (fresh : List ℕ) (x y : Disks) → IsSlotReady s fresh x → Differs (Within s.place.disk (slot_at s.place (not s.second)) 1) x y → (gate_of s.place (not s.second) y == 165) ≡ true → current_slot s.place y ≡ Some (not s.second)
 opened s fresh x y ready torn open_ = is_seen s.place s.second y
     ∙ overtaken s.second (gate_of s.place s.second y) (turn_of s.place s.second y) (gate_of s.place (not s.second) y) (turn_of s.place (not s.second) y) on open_ next
   where
@@ -143,7 +162,7 @@ opened s fresh x y ready torn open_ = is_seen s.place s.second y
     next = beyond_gate s x y torn ∙ ready.turn ∙ sym (ap next_turn (same_turn s x y (gate_part s x y torn) ∙ ready.stands.turn))
 
 -- a gate that is torn while it opens
-pub puts_torn : (s : Slots) (fresh : List ℕ) (x y : Disks) → IsReady s fresh x → Differs (Within s.place.disk (slot_at s.place (not s.second)) 1) x y → PutsIn s fresh x y
+pub puts_torn : (s : Slots) (fresh : List ℕ) (x y : Disks) → IsSlotReady s fresh x → Differs (Within s.place.disk (slot_at s.place (not s.second)) 1) x y → PutsIn s fresh x y
 puts_torn s fresh x y ready torn = record { differs = gate_part s x y torn; either = by (gate_of s.place (not s.second) y == 165) refl }
   where
     by : (c : Bool) → (gate_of s.place (not s.second) y == 165) ≡ c → (cell_value s.place y ≡ cell_value s.place x) ⊎ (cell_value s.place y ≡ Some fresh)
@@ -154,7 +173,7 @@ puts_torn s fresh x y ready torn = record { differs = gate_part s x y torn; eith
         (off_gate (gate_of s.place (not s.second) y) (turn_of s.place (not s.second) y) shut))))
 
 -- the other slot's gate is open and stays so
-pub put_written : (s : Slots) (fresh : List ℕ) (x y : Disks) → IsReady s fresh x → Differs (Within s.place.disk (slot_at s.place (not s.second)) 1) x y → region y s.place.disk (slot_at s.place (not s.second)) 1 ≡ 165 ∷ []
+pub put_written : (s : Slots) (fresh : List ℕ) (x y : Disks) → IsSlotReady s fresh x → Differs (Within s.place.disk (slot_at s.place (not s.second)) 1) x y → region y s.place.disk (slot_at s.place (not s.second)) 1 ≡ 165 ∷ []
     → (cell_value s.place y ≡ Some fresh) × Stands (turned s) y
 put_written s fresh x y ready torn there = (
   value_of s.place (not s.second) y now ∙ ap {B = Option (List ℕ)} Some (value_beyond s x y torn ∙ ready.value),

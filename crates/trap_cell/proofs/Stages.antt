@@ -6,7 +6,7 @@ use Rattle.trap_bank.specs.Steps.{Moves, Always, PlacedThrough}
 use Rattle.trap_bank.proofs.Regions.{differs_again, differs_none, byte_of_disk}
 use Rattle.trap_bank.proofs.Moves.{moves_then, moves_weaken, no_moves}
 use Rattle.trap_cell.specs.Slots.{Slots, slot_at, turn_of, value_in, other_slot, other_gate, next_turn}
-use Rattle.trap_cell.specs.Steps.{Keeps, Shuts, Fills, IsFilling, IsOpening, PutStage}
+use Rattle.trap_cell.specs.Steps.{Keeps, Shuts, StaysShut, FillsSlot, IsFilling, IsOpening, PutStage}
 use Rattle.trap_cell.proofs.Keeping.{gate_part, beyond_gate, value_beyond}
 use Rattle.trap_cell.proofs.Putting.{at_gate}
 
@@ -35,9 +35,14 @@ pub stage_shut : (s : Slots) (fresh : List ℕ) (read : Disks) (a b : View)
 stage_shut s fresh read a b moves = moves_weaken a b _ _ (PutStage read s fresh) (PutStage read s fresh) moves
     (λ x y was torn. inl torn) (λ x y was left torn. inl torn)
 
--- the slot is filled behind the gate that is off
-filling : (s : Slots) (x y z : Disks) → Shuts s x y → Shuts s y z → IsFilling s x z
-filling s x y z one two = record { differs = differs_again (other_slot s) x y z one.keeps.differs two.keeps.differs; off = two.shut }
+-- the slot is filled after the gate that is off
+filling : (s : Slots) (x y z : Disks) → Shuts s x y → StaysShut s y z → IsFilling s x z
+filling s x y z one two = record {
+  differs = differs_again (other_slot s) x y z one.keeps.differs two.keeps.differs;
+  off = two.shut;
+  zero = λ was. two.gate ∙ one.zero was;
+  still = λ was. two.gate ∙ one.still was;
+}
 
 -- the gate as it is shut, and then what its sync left
 shut_then : (s : Slots) (a b : View) → Moves a b (Differs (other_gate s)) (Differs (other_gate s)) → Moves a b (Keeps s) (Shuts s) → Moves a b (Differs (other_gate s)) (Shuts s)
@@ -51,7 +56,7 @@ shut_then s a b gate shut = record {
 }
 
 pub stage_fill : (s : Slots) (fresh : List ℕ) (read : Disks) (a b c : View)
-    → Moves a b (Differs (other_gate s)) (Differs (other_gate s)) → Moves a b (Keeps s) (Shuts s) → Moves b c (Shuts s) (Shuts s)
+    → Moves a b (Differs (other_gate s)) (Differs (other_gate s)) → Moves a b (Keeps s) (Shuts s) → Moves b c (StaysShut s) (StaysShut s)
     → Moves a c (PutStage read s fresh) (PutStage read s fresh)
 stage_fill s fresh read a b c gate shut fill = moves_then a b c _ _ _ _ (PutStage read s fresh) (PutStage read s fresh) (shut_then s a b gate shut) fill
     (λ x y was torn. inl torn)
@@ -63,7 +68,7 @@ abbrev IsFilled : Slots → List ℕ → Disks → Disks → Type 0
 IsFilled s fresh x z = IsFilling s x z × (turn_of s.place (not s.second) z ≡ next_turn s.turn) × (value_in s.place (not s.second) z ≡ fresh)
 
 filled : (s : Slots) (fresh : List ℕ) (read : Disks) (a b c : View)
-    → Moves a b (Differs (other_gate s)) (Differs (other_gate s)) → Moves a b (Keeps s) (Shuts s) → Moves b c (Shuts s) (Fills s fresh)
+    → Moves a b (Differs (other_gate s)) (Differs (other_gate s)) → Moves a b (Keeps s) (Shuts s) → Moves b c (StaysShut s) (FillsSlot s fresh)
     → Moves a c (PutStage read s fresh) (IsFilled s fresh)
 filled s fresh read a b c gate shut fill = moves_then a b c _ _ _ _ (PutStage read s fresh) (IsFilled s fresh) (shut_then s a b gate shut) fill
     (λ x y was torn. inl torn)
@@ -72,16 +77,16 @@ filled s fresh read a b c gate shut fill = moves_then a b c _ _ _ _ (PutStage re
 
 -- the slot is filled, and the rest of the disk is stable
 ready : (s : Slots) (fresh : List ℕ) (a b c : View)
-    → Moves a b (Differs (other_gate s)) (Differs (other_gate s)) → Moves a b (Keeps s) (Shuts s) → Moves b c (Shuts s) (Fills s fresh)
+    → Moves a b (Differs (other_gate s)) (Differs (other_gate s)) → Moves a b (Keeps s) (Shuts s) → Moves b c (StaysShut s) (FillsSlot s fresh)
     → Always c (λ disks. disks s.place.disk ≡ c.now.disks s.place.disk)
-    → (IsTrue a.tells → Quiet (Keeps s) a.now b.now) → (IsTrue b.tells → Quiet (Shuts s) b.now c.now)
+    → (IsTrue a.tells → Quiet (Keeps s) a.now b.now) → (IsTrue b.tells → Quiet (StaysShut s) b.now c.now)
     → Moves a c (PutStage a.now.disks s fresh) (IsOpening a.now.disks s fresh)
 ready s fresh a b c gate shut fill stable first second = moves_weaken a c _ _ (PutStage a.now.disks s fresh) (IsOpening a.now.disks s fresh)
     (filled s fresh a.now.disks a b c gate shut fill)
     (λ x y was stage. stage)
     (λ x y was left is. record { differs = is.0.differs; turn = is.1; value = is.2; rest = rest y.disks (stable y left) (first was.told) (second (subst IsTrue (sym gate.tells) was.told)) })
   where
-    rest : (z : Disks) → z s.place.disk ≡ c.now.disks s.place.disk → Quiet (Keeps s) a.now b.now → Quiet (Shuts s) b.now c.now
+    rest : (z : Disks) → z s.place.disk ≡ c.now.disks s.place.disk → Quiet (Keeps s) a.now b.now → Quiet (StaysShut s) b.now c.now
         → (i : ℕ) → (other_slot s s.place.disk i → ⊥) → byte z s.place.disk i ≡ byte a.now.disks s.place.disk i
     rest z same one two i out = byte_of_disk c.now.disks z s.place.disk i same ∙ two.disks.keeps.differs.bytes s.place.disk i out ∙ one.disks.differs.bytes s.place.disk i out
 
@@ -95,9 +100,9 @@ opening s fresh read x y z is torn = record {
 }
 
 pub stage_open : (s : Slots) (fresh : List ℕ) (a b c d : View)
-    → Moves a b (Differs (other_gate s)) (Differs (other_gate s)) → Moves a b (Keeps s) (Shuts s) → Moves b c (Shuts s) (Fills s fresh)
+    → Moves a b (Differs (other_gate s)) (Differs (other_gate s)) → Moves a b (Keeps s) (Shuts s) → Moves b c (StaysShut s) (FillsSlot s fresh)
     → Always c (λ disks. disks s.place.disk ≡ c.now.disks s.place.disk)
-    → (IsTrue a.tells → Quiet (Keeps s) a.now b.now) → (IsTrue b.tells → Quiet (Shuts s) b.now c.now)
+    → (IsTrue a.tells → Quiet (Keeps s) a.now b.now) → (IsTrue b.tells → Quiet (StaysShut s) b.now c.now)
     → Moves c d (Differs (other_gate s)) (Differs (other_gate s))
     → Moves a d (PutStage a.now.disks s fresh) (PutStage a.now.disks s fresh)
 stage_open s fresh a b c d gate shut fill stable first second last = moves_then a c d _ _ _ _ (PutStage a.now.disks s fresh) (PutStage a.now.disks s fresh)

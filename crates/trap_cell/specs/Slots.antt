@@ -10,10 +10,12 @@ is_on gate turn = (gate == 165) && nat_lt turn 3
 abbrev pub next_turn : ℕ → ℕ
 next_turn turn = (turn + 1) % 3
 
--- which slot is current, false for slot 0 and true for slot 1: the one that is on; of two, slot 1 where its turn follows slot 0's
+-- which slot is current, false for slot 0 and true for slot 1: the one that is on; of two, slot 1
+-- where its turn follows slot 0's
 abbrev pub current : ℕ → ℕ → ℕ → ℕ → Option Bool
 current gate0 turn0 gate1 turn1 =
-    if is_on gate0 turn0 then (if is_on gate1 turn1 then Some (turn1 == next_turn turn0) else Some false)
+    if is_on gate0 turn0 then (if is_on gate1 turn1 then Some (turn1 == next_turn turn0)
+    else Some false)
     else (if is_on gate1 turn1 then Some true else None)
 
 -- where a cell stands, and how many bytes its values have
@@ -45,13 +47,15 @@ gate_of p second disks = byte disks p.disk (slot_at p second)
 abbrev pub turn_of : Place → Bool → Disks → ℕ
 turn_of p second disks = byte disks p.disk (slot_at p second + 1)
 
--- the bytes behind a slot's turn
+-- the bytes after a slot's turn
 abbrev pub value_in : Place → Bool → Disks → List ℕ
 value_in p second disks = region disks p.disk (slot_at p second + 2) p.size
 
 -- which slot of the cell is current, if one is on
 abbrev pub current_slot : Place → Disks → Option Bool
-current_slot p disks = current (gate_of p false disks) (turn_of p false disks) (gate_of p true disks) (turn_of p true disks)
+current_slot p disks =
+    current (gate_of p false disks) (turn_of p false disks) (gate_of p true disks)
+    (turn_of p true disks)
 
 abbrev pub value_at : Option Bool → Place → Disks → Option (List ℕ)
 value_at None p disks = None
@@ -61,7 +65,8 @@ value_at (Some second) p disks = Some (value_in p second disks)
 abbrev pub cell_value : Place → Disks → Option (List ℕ)
 cell_value p disks = value_at (current_slot p disks) p disks
 
--- what a program knows of a cell: which slot is current, its turn, and whether the other slot's gate byte is a5
+-- what a program knows of a cell: which slot is current, its turn, and whether the other slot's
+-- gate byte is a5
 pub record Slots : Type 0 where
   pub place : Place
   pub second : Bool
@@ -84,7 +89,12 @@ shut_of s = record s { other_open = false }
 
 -- the other slot is current, with the next turn
 abbrev pub turned : Slots → Slots
-turned s = record { place = s.place; second = not s.second; turn = next_turn s.turn; other_open = true }
+turned s = record {
+  place = s.place;
+  second = not s.second;
+  turn = next_turn s.turn;
+  other_open = true;
+}
 
 -- the gate byte of the slot that isn't current
 abbrev pub other_gate : Slots → Area

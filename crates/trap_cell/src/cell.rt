@@ -9,7 +9,7 @@ ghost use Rattle.trap_bank.specs.Calls.{Fits};
 ghost use Rattle.trap_bank.specs.Steps.{Moves, Same, Always};
 ghost use Rattle.trap_cell.specs.Slots.{Slots, Stands, place_of, slot_at, next_turn, cell_len};
 ghost use Rattle.trap_cell.specs.Slots.{cell_area, cell_value, shut_of, turned, other_gate, begun};
-ghost use Rattle.trap_cell.specs.Steps.{PutsIn, IsPut, IsFirst, IsMounted, Keeps, Shuts, Fills, IsReady};
+ghost use Rattle.trap_cell.specs.Steps.{PutsIn, IsPut, IsFirst, IsMounted, Keeps, Shuts, StaysShut, FillsSlot, IsSlotReady};
 ghost use Rattle.trap_cell.specs.Steps.{PutStage, AfterPut, MountCalls};
 
 use crate::fault::CellFault;
@@ -20,8 +20,8 @@ use trap_bank::{Bank, DiskFault, write_through};
 /// The gate byte of a slot that is off.
 const OFF: u8 = 0;
 
-/// A gated cell of a disk, as far as a put has to know it. After a put that failed it is of no further use: mount
-/// the cell again.
+/// A gated cell of a disk, as far as a put has to know it. After a put that failed it is of no
+/// further use: mount the cell again.
 #[derive(Drop)]
 pub struct Cell {
     disk: u8,
@@ -49,21 +49,24 @@ impl Model for Cell {
 }
 
 impl Cell {
-    /// Begins a cell with its first value, over whatever stands there. A crash before it returns leaves any bytes
-    /// in the cell, so the caller has a gate of its own off until then.
+    /// Begins a cell with its first value, over whatever stands there. A crash before it returns
+    /// leaves any bytes in the cell, so the caller has a gate of its own off until then.
     pub fn first<B: Bank>(bank: &mut B, disk: u8, at: u64, value: &[u8]) -> Result<Cell, DiskFault>
         requires disk { disk ≤ 20 }
         requires ends { at + 2 * (2 + length value.now) < 2 ^ 64 }
         requires room { Fits (B.view bank.old) disk (at + 2 * (2 + length value.now)) }
         ensures place { IfOk result (λ cell. cell.place ≡ place_of disk at (length value.now)) }
         ensures ok { IfOk result (λ cell. Moves (B.view bank.old) (B.view bank.new)
-            (Differs (cell_area (place_of disk at (length value.now)))) (IsFirst (B.view bank.new) cell value.now)) }
+            (Differs (cell_area (place_of disk at (length value.now))))
+            (IsFirst (B.view bank.new) cell value.now)) }
         ensures contents { IsTrue (B.view bank.old).tells
-            → Torn (cell_area (place_of disk at (length value.now))) (B.view bank.old).now (B.view bank.new).now }
+            → Torn (cell_area (place_of disk at (length value.now))) (B.view bank.old).now
+            (B.view bank.new).now }
         ensures cell { IfOk result (λ cell. cell ≡ begun (place_of disk at (length value.now))) }
         ensures calls { TakesCalls 4 result (B.view bank.old) (B.view bank.new) }
         ensures sizes { (e : ℕ) → (B.view bank.new).sizes e ≡ (B.view bank.old).sizes e }
-        ensures cause { OnErr result (Rose ((B.view bank.old).faults disk) ((B.view bank.new).faults disk)) }
+        ensures cause { OnErr result (Rose ((B.view bank.old).faults disk)
+            ((B.view bank.new).faults disk)) }
 
         // Stopped at any moment, nothing outside the cell has changed.
         ensures any_moment { Moves (B.view bank.old) (B.view bank.new)
@@ -86,8 +89,8 @@ impl Cell {
         })
     }
 
-    /// Finds the current slot, and fills `value` with the cell's value, whose length the caller knows. After a
-    /// fault `value` holds any bytes.
+    /// Finds the current slot, and fills `value` with the cell's value, whose length the caller
+    /// knows. After a fault `value` holds any bytes.
     pub fn mount<B: Bank>(
         bank: &mut B,
         disk: u8,
@@ -99,15 +102,19 @@ impl Cell {
         requires room { Fits (B.view bank.old) disk (at + 2 * (2 + length value.old)) }
 
         // No position of the cell is unsynced.
-        requires stable { Always (B.view bank.old) (λ disks. region disks disk at (2 * (2 + length value.old))
+        requires stable { Always (B.view bank.old)
+            (λ disks. region disks disk at (2 * (2 + length value.old))
             ≡ region (B.view bank.old).now.disks disk at (2 * (2 + length value.old))) }
         ensures mounted { IfOk result
-            (IsMounted (B.view bank.old) (B.view bank.new) (place_of disk at (length value.old)) value.new) }
+            (IsMounted (B.view bank.old) (B.view bank.new) (place_of disk at (length value.old))
+            value.new) }
         ensures no_value { IsTrue (B.view bank.old).tells → ¬ IsErrOf result CellFault.DiskFault
             → (IsErrOf result CellFault.NoValue
-            ↔ (cell_value (place_of disk at (length value.old)) (B.view bank.old).now.disks ≡ None)) }
+            ↔ (cell_value (place_of disk at (length value.old)) (B.view bank.old).now.disks
+            ≡ None)) }
         ensures calls { MountCalls result (B.view bank.old) (B.view bank.new) }
-        ensures same { IsTrue (B.view bank.old).tells → (B.view bank.new).now ≡ (B.view bank.old).now }
+        ensures same { IsTrue (B.view bank.old).tells
+            → (B.view bank.new).now ≡ (B.view bank.old).now }
         ensures sizes { (e : ℕ) → (B.view bank.new).sizes e ≡ (B.view bank.old).sizes e }
         ensures cause { IsErrOf result CellFault.DiskFault
             → Rose ((B.view bank.old).faults disk) ((B.view bank.new).faults disk) }
@@ -143,7 +150,8 @@ impl Cell {
     fn other_start(&self) -> u64
         ensures is { result ≡ slot_at self.now.place (not self.now.second) }
         ensures within { self.now.place.at ≤ result }
-        ensures ends { result + (2 + self.now.place.size) ≤ self.now.place.at + 2 * (2 + self.now.place.size) }
+        ensures ends { result + (2 + self.now.place.size) ≤ self.now.place.at + 2 *
+            (2 + self.now.place.size) }
         ensures bound { self.now.place.at + 2 * (2 + self.now.place.size) < 2 ^ 64 }
     {
         slot_start(self.at, self.size, !self.second)
@@ -177,8 +185,10 @@ impl Cell {
         requires stands { Always (B.view bank.old) (Stands self.now) }
         ensures sizes { (e : ℕ) → (B.view bank.new).sizes e ≡ (B.view bank.old).sizes e }
         ensures cause { OnErr result
-            (Rose ((B.view bank.old).faults self.now.place.disk) ((B.view bank.new).faults self.now.place.disk)) }
-        ensures any_moment { Moves (B.view bank.old) (B.view bank.new) (Keeps self.now) (Keeps self.now) }
+            (Rose ((B.view bank.old).faults self.now.place.disk)
+            ((B.view bank.new).faults self.now.place.disk)) }
+        ensures any_moment { Moves (B.view bank.old) (B.view bank.new) (Keeps self.now)
+            (Keeps self.now) }
         ensures contents { IsTrue (B.view bank.old).tells
             → Quiet (Keeps self.now) (B.view bank.old).now (B.view bank.new).now }
         ensures ok { OnOk result
@@ -192,14 +202,14 @@ impl Cell {
         let disk = self.disk();
         let start = self.other_start();
         if is_open {
-            // The slot is off before its value is written over. A gate byte that a crash tears brings back the old
-            // slot at most, whose turn isn't the next.
+            // The slot is off before its value is written over. A gate byte that a crash tears
+            // brings back the old slot at most, whose turn isn't the next.
             write_through(bank, disk, start, &[OFF])?;
         }
         Ok(())
     }
 
-    /// Writes the next turn and the value behind the gate that is shut.
+    /// Writes the next turn and the value after the gate that is shut.
     fn fill<B: Bank>(&self, bank: &mut B, fresh: &[u8]) -> Result<(), DiskFault>
         requires len { length fresh.now ≡ self.now.place.size }
         requires room { Fits (B.view bank.old) self.now.place.disk
@@ -207,12 +217,15 @@ impl Cell {
         requires stands { Always (B.view bank.old) (Stands (shut_of self.now)) }
         ensures sizes { (e : ℕ) → (B.view bank.new).sizes e ≡ (B.view bank.old).sizes e }
         ensures cause { OnErr result
-            (Rose ((B.view bank.old).faults self.now.place.disk) ((B.view bank.new).faults self.now.place.disk)) }
-        ensures any_moment { Moves (B.view bank.old) (B.view bank.new) (Shuts self.now) (Shuts self.now) }
+            (Rose ((B.view bank.old).faults self.now.place.disk)
+            ((B.view bank.new).faults self.now.place.disk)) }
+        ensures any_moment { Moves (B.view bank.old) (B.view bank.new) (StaysShut self.now)
+            (StaysShut self.now) }
         ensures contents { IsTrue (B.view bank.old).tells
-            → Quiet (Shuts self.now) (B.view bank.old).now (B.view bank.new).now }
+            → Quiet (StaysShut self.now) (B.view bank.old).now (B.view bank.new).now }
         ensures ok { OnOk result
-            (Moves (B.view bank.old) (B.view bank.new) (Shuts self.now) (Fills self.now fresh.now)) }
+            (Moves (B.view bank.old) (B.view bank.new) (StaysShut self.now)
+            (FillsSlot self.now fresh.now)) }
         ensures stable { OnOk result (Always (B.view bank.new) (λ disks. disks self.now.place.disk
             ≡ (B.view bank.new).now.disks self.now.place.disk)) }
         ensures calls { TakesCalls 3 result (B.view bank.old) (B.view bank.new) }
@@ -231,16 +244,18 @@ impl Cell {
         requires len { length fresh.now ≡ self.now.place.size }
         requires room { Fits (B.view bank.old) self.now.place.disk
             (self.now.place.at + cell_len self.now.place) }
-        requires ready { Always (B.view bank.old) (IsReady self.now fresh.now) }
+        requires ready { Always (B.view bank.old) (IsSlotReady self.now fresh.now) }
         ensures sizes { (e : ℕ) → (B.view bank.new).sizes e ≡ (B.view bank.old).sizes e }
         ensures cause { OnErr result
-            (Rose ((B.view bank.old).faults self.now.place.disk) ((B.view bank.new).faults self.now.place.disk)) }
+            (Rose ((B.view bank.old).faults self.now.place.disk)
+            ((B.view bank.new).faults self.now.place.disk)) }
         ensures any_moment { Moves (B.view bank.old) (B.view bank.new)
             (PutsIn self.now fresh.now) (PutsIn self.now fresh.now) }
         ensures contents { IsTrue (B.view bank.old).tells
             → Quiet (PutsIn self.now fresh.now) (B.view bank.old).now (B.view bank.new).now }
         ensures ok { OnOk result (Moves (B.view bank.old) (B.view bank.new)
-            (PutsIn self.now fresh.now) (IsPut (B.view bank.new) self.now (turned self.now) fresh.now)) }
+            (PutsIn self.now fresh.now) (IsPut (B.view bank.new) self.now (turned self.now)
+            fresh.now)) }
         ensures gate { Moves (B.view bank.old) (B.view bank.new)
             (Differs (other_gate self.now)) (Differs (other_gate self.now)) }
         ensures calls { TakesCalls 2 result (B.view bank.old) (B.view bank.new) }
@@ -252,8 +267,9 @@ impl Cell {
         Ok(())
     }
 
-    /// Replaces the value, by writing the slot that isn't current. The value has the length with which the cell was
-    /// begun or mounted. After a fault the old value stands or the new one: mount the cell again to learn which.
+    /// Replaces the value, by writing the slot that isn't current. The value has the length with
+    /// which the cell was begun or mounted. After a fault the old value stands or the new one:
+    /// mount the cell again to learn which.
     pub fn put<B: Bank>(&mut self, bank: &mut B, value: &[u8]) -> Result<(), DiskFault>
         requires len { length value.now ≡ self.old.place.size }
         requires room { Fits (B.view bank.old) self.old.place.disk
@@ -267,14 +283,16 @@ impl Cell {
         ensures place { self.new.place ≡ self.old.place }
         ensures sizes { (e : ℕ) → (B.view bank.new).sizes e ≡ (B.view bank.old).sizes e }
         ensures cause { OnErr result
-            (Rose ((B.view bank.old).faults self.old.place.disk) ((B.view bank.new).faults self.old.place.disk)) }
+            (Rose ((B.view bank.old).faults self.old.place.disk)
+            ((B.view bank.new).faults self.old.place.disk)) }
 
-        // Stopped at any moment, the cell has its old value or this one, and nothing outside the slot that wasn't
-        // current has changed.
+        // Stopped at any moment, the cell has its old value or this one, and nothing outside the
+        // slot that wasn't current has changed.
         ensures any_moment { Moves (B.view bank.old) (B.view bank.new)
             (PutsIn self.old value.now) (PutsIn self.old value.now) }
 
-        // The gate is off before the value is written over, and all of the disk is stable before it opens.
+        // The gate is off before the value is written over, and all of the disk is stable before it
+        // opens.
         ensures stages { Moves (B.view bank.old) (B.view bank.new)
             (PutStage (B.view bank.old).now.disks self.old value.now)
             (PutStage (B.view bank.old).now.disks self.old value.now) }

@@ -56,9 +56,11 @@ impl Heads {
         ensures heads { IfOk result (λ heads. IsTrue (B.view bank.old).tells
             → AreAt heads (place_of disk at size) (B.view bank.old).now.disks) }
         ensures calls { TakesCalls 2 result (B.view bank.old) (B.view bank.new) }
-        ensures same { IsTrue (B.view bank.old).tells → (B.view bank.new).now ≡ (B.view bank.old).now }
+        ensures same { IsTrue (B.view bank.old).tells
+            → (B.view bank.new).now ≡ (B.view bank.old).now }
         ensures sizes { (e : ℕ) → (B.view bank.new).sizes e ≡ (B.view bank.old).sizes e }
-        ensures cause { OnErr result (Rose ((B.view bank.old).faults disk) ((B.view bank.new).faults disk)) }
+        ensures cause { OnErr result (Rose ((B.view bank.old).faults disk)
+            ((B.view bank.new).faults disk)) }
         ensures any_moment { Moves (B.view bank.old) (B.view bank.new) Same Same }
     {
         let mut first = [0; 2];
@@ -79,7 +81,8 @@ impl Heads {
 
     /// Whether the second slot is the current one, or None where neither is on.
     pub fn current(&self) -> Option<bool>
-        ensures { result ≡ current self.now.first.gate self.now.first.turn self.now.second.gate self.now.second.turn }
+        ensures { result ≡ current self.now.first.gate self.now.first.turn self.now.second.gate
+            self.now.second.turn }
     {
         match (self.first.is_on(), self.second.is_on()) {
             (true, true) => Some(self.second.turn == (self.first.turn + 1) % 3),

@@ -1,4 +1,5 @@
-//! The gated cell: a value in two slots, changed by writing the slot that isn't current and then its gate byte.
+//! The gated cell: a value in two slots, changed by writing the slot that isn't current and then
+//! its gate byte.
 #![tactic(auto)]
 
 mod cell;

@@ -49,7 +49,7 @@ fn remounted<B: Bank>(bank: &mut B) -> Result<[u8; 2], CellFault>
     Ok(value)
 }
 
-/// Lets every call fail after so many more.
+/// Lets every call fail after that many more.
 fn stop_after(bank: &mut MemoryBank, _cell: &Cell, calls: u64)
     requires room { (view_of bank.old).sizes 0 ≡ Some 8 }
     requires stands { Always (view_of bank.old) (Stands _cell.now) }
@@ -66,8 +66,9 @@ fn crash(bank: &mut MemoryBank, seed: u64)
     bank.crash(seed);
 }
 
-/// A cell with a first value and two puts, the second of them stopped after so many of its calls. Answers
-/// whether that put failed, and the bytes of the disk and the value of the cell after a crash.
+/// A cell with a first value and two puts, the second of them stopped after that many of its calls.
+/// Answers whether that put failed, and the bytes of the disk and the value of the cell after a
+/// crash.
 fn stopped(alloc: Global, calls: u64, seed: u64) -> Result<(bool, [u8; 8], [u8; 2]), Fail> {
     let mut bank = MemoryBank::new(alloc)?;
     let mut cell = begun(&mut bank, FIRST)?;
