@@ -1,158 +1,115 @@
--- How often a bank was called.
-use Rattle.std.proofs.Common.{◌≡◌, ◌≢◌, ℕ, ◌+◌, ◌-◌, ◌<◌, ◌≤◌, List, Option, Some, None, IsTrue, Result, Ok, Err, OnOk, if◌then◌else◌, sym, subst, refl, ap, ◌∙◌, arith, inl, inr}
-use Rattle.std.specs.Prelude.{nat_lt}
-use Rattle.std.proofs.lemmas.Bool.{cases_eq}
-use Rattle.std.proofs.lemmas.Bool.Decides.{nat_tests}
+-- How often reads call the bank.
+use Rattle.std.proofs.Common.{◌≡◌, ◌≢◌, ℕ, ◌+◌, ◌≤◌, List, Option, Some, None, Result, Ok, Err, OnOk, sym, subst, ap, ◌∙◌, arith}
+use Rattle.std.proofs.lemmas.Result.{on_ok_weaker}
 use Rattle.trap_model.specs.declared.numbers.Geometry.{Geometry}
 use Rattle.trap_bank.specs.Disks.{View}
 use Rattle.trap_bank.specs.Calls.{Reads}
-use Rattle.trap_map.specs.Layout.{block_place}
+use Rattle.trap_bank.specs.Called.{CalledTimes, TakesCalls}
+use Rattle.trap_bank.proofs.Called.{called_once, not_called, called_then, called_at_most, at_most_then, at_most_more, took_calls}
+use Rattle.trap_map.specs.declared.places.Place.{Place}
+use Rattle.trap_map.specs.Layout.{parity_member, block_place}
 use Rattle.trap_stage.specs.Staged.{Staged, newest_at}
-use Rattle.trap_raid.specs.Reads.{OnlyReads, moment_after, Costs, CostsAtMost, ReadCosts, PlanCosts, NonePending, calls_for}
-use Rattle.trap_raid.proofs.OptionLemmas.{some_or_none, not_both}
-use Rattle.trap_raid.proofs.ReadLemmas.{still_tells}
+use Rattle.trap_raid.specs.Standing.{calls_for, bare_others, reads_of, plan_reads}
+use Rattle.trap_raid.proofs.StandingLemmas.{reads_pending, reads_own, reads_others, bare_more, bare_same, bare_grows}
 
--- how many members below n there are but one
-abbrev pub others_below : ℕ → ℕ → ℕ
-others_below one n = if nat_lt one n then n - 1 else n
+-- ---- in general
+-- the same number by another name
+pub called_are : (a b : ℕ) (x y : View) → a ≡ b → CalledTimes a x y → CalledTimes b x y
+called_are a b x y e called = subst (λ (n : ℕ). CalledTimes n x y) e called
 
-pub others_more_below : (one n : ℕ) → n ≢ one → others_below one (n + 1) ≡ others_below one n + 1
-others_more_below one n other = grind (arith, nat_tests)
-
-pub others_same_below : (one n : ℕ) → n ≡ one → others_below one (n + 1) ≡ others_below one n
-others_same_below one n e = grind (arith, nat_tests)
-
-pub others_all_below : (one n : ℕ) → one < n → others_below one n ≡ n - 1
-others_all_below one n inside = grind (arith, nat_tests)
-
-pub others_at_most : (one n members : ℕ) → one < members → n ≤ members → others_below one n ≤ members - 1
-others_at_most one n members inside below = grind (arith, nat_tests)
-
--- calls, and then more calls
-moment_then : (a b moment : ℕ) → moment_after b (moment_after a moment) ≡ moment_after (a + b) moment
-moment_then a b moment = omega arith
-
-moment_more : (a b moment : ℕ) → a ≤ b → moment_after a moment ≤ moment_after b moment
-moment_more a b moment h = omega arith
-
-moment_along : (b x y : ℕ) → x ≤ y → moment_after b x ≤ moment_after b y
-moment_along b x y h = omega arith
-
--- one call of `read`
-pub costs_one : {T E : Type 0} (result : Result T E) (old new : View) (d at : ℕ) (before after : List ℕ) → Reads d at before after result old new → Costs 1 old new
-costs_one result old new d at before after call = record { way = call.goes.way; moment = λ told by_one. call.goes.by_one told by_one }
-
-pub costs_none : (v : View) → Costs 0 v v
-costs_none v = record { way = refl; moment = λ told by_one. omega arith }
-
-pub costs_then : (a b : ℕ) (x y z : View) → OnlyReads x y → Costs a x y → Costs b y z → Costs (a + b) x z
-costs_then a b x y z reads first second = record {
-  way = second.way ∙ first.way;
-  moment = λ told by_one.
-      second.moment (still_tells x y reads told) (subst IsTrue (sym first.way) by_one)
-      ∙ ap (λ m. moment_after b m) (first.moment told by_one) ∙ moment_then a b x.moment;
-}
-
-pub costs_are : (a b : ℕ) (x y : View) → a ≡ b → Costs a x y → Costs b x y
-costs_are a b x y e costs = subst (λ n. Costs n x y) e costs
-
-pub costs_at_most : (a b : ℕ) (x y : View) → a ≤ b → Costs a x y → CostsAtMost b x y
-costs_at_most a b x y h costs = record {
-  way = costs.way;
-  moment = λ told by_one. omega (arith, costs.moment told by_one, moment_more a b x.moment h);
-}
-
-pub at_most_then : (a b c : ℕ) (x y z : View) → a + b ≤ c → OnlyReads x y → CostsAtMost a x y → CostsAtMost b y z → CostsAtMost c x z
-at_most_then a b c x y z h reads first second = record {
-  way = second.way ∙ first.way;
-  moment = λ told by_one.
-      let later = second.moment (still_tells x y reads told) (subst IsTrue (sym first.way) by_one) in
-      let front = moment_along b y.moment (moment_after a x.moment) (first.moment told by_one) in
-      let whole = moment_then a b x.moment in
-      let more = moment_more (a + b) c x.moment h in
-      omega (arith, later, front, whole, more);
-}
-
-pub at_most_more : (a b : ℕ) (x y : View) → a ≤ b → CostsAtMost a x y → CostsAtMost b x y
-at_most_more a b x y h costs = record {
-  way = costs.way;
-  moment = λ told by_one. omega (arith, costs.moment told by_one, moment_more a b x.moment h);
-}
-
-pub at_most_are : (a b : ℕ) (x y : View) → a ≡ b → CostsAtMost a x y → CostsAtMost b x y
-at_most_are a b x y e costs = subst (λ n. CostsAtMost n x y) e costs
-
--- ---- what stands at a member's place
-pub standing_most : (o : Option (List ℕ)) (x y : View) → Costs (calls_for o) x y → CostsAtMost 1 x y
-standing_most None x y costs = costs_at_most 1 1 x y (omega arith) costs
-standing_most (Some bytes) x y costs = costs_at_most 0 1 x y (omega arith) costs
-
-pub standing_bare : (o : Option (List ℕ)) (x y : View) → o ≡ None → Costs (calls_for o) x y → Costs 1 x y
-standing_bare o x y none costs = costs_are (calls_for o) 1 x y (ap (λ k. calls_for k) none) costs
-
--- ---- a place of which bytes are pending
-pub pending_costs : {T E : Type 0} (g : Geometry) (lost : Option ℕ) (writes : List Staged) (row member : ℕ) (bytes : List ℕ) (result : Result T E) (v : View) → member < g.members → newest_at g writes row member ≡ Some bytes → ReadCosts g lost writes row member result v v
-pending_costs g lost writes row member bytes result v inside some = record {
-  pending = λ any. costs_none v;
-  own = λ apart none. absurd (not_both (newest_at g writes row member) bytes none some);
-  others = λ gone clear. absurd (not_both (newest_at g writes row member) bytes (clear member inside) some);
-  most = costs_at_most 0 (g.members - 1) v v (omega arith) (costs_none v);
-}
-
--- a place of a member that isn't lost, with nothing pending
-pub own_costs : {T E : Type 0} (g : Geometry) (lost : Option ℕ) (writes : List Staged) (row member : ℕ) (result : Result T E) (old new : View) → lost ≢ Some member → newest_at g writes row member ≡ None → Costs 1 old new → ReadCosts g lost writes row member result old new
-own_costs g lost writes row member result old new apart none costs = record {
-  pending = λ some. absurd (some none);
-  own = λ other bare. costs;
-  others = λ gone clear. absurd (apart gone);
-  most = costs_at_most 1 (g.members - 1) old new (omega arith) costs;
-}
-
--- a place of the lost member, with nothing pending
-pub others_costs : {T E : Type 0} (g : Geometry) (lost : Option ℕ) (writes : List Staged) (row member : ℕ) (result : Result T E) (old new : View) → lost ≡ Some member → newest_at g writes row member ≡ None → (NonePending g writes row → OnOk result (Costs (g.members - 1) old new)) → CostsAtMost (g.members - 1) old new → ReadCosts g lost writes row member result old new
-others_costs g lost writes row member result old new gone none exact most = record {
-  pending = λ some. absurd (some none);
-  own = λ apart bare. absurd (apart gone);
-  others = λ again clear. exact clear;
-  most = most;
-}
-
--- ---- the two reads of a plan
--- a member that isn't lost is read once at most
-own_most : {T E : Type 0} (g : Geometry) (lost : Option ℕ) (writes : List Staged) (row m : ℕ) (result : Result T E) (x y : View) → lost ≢ Some m → ReadCosts g lost writes row m result x y → CostsAtMost 1 x y
-own_most g lost writes row m result x y apart costs =
-    elim (some_or_none (newest_at g writes row m)) [
-      | inl none ↦ costs_at_most 1 1 x y (omega arith) (costs.own apart none)
-      | inr some ↦ costs_at_most 0 1 x y (omega arith) (costs.pending (λ none. not_both (newest_at g writes row m) some.0 none some.1))
-    ]
-
--- of two members at most one is lost
-two_reads : {T E : Type 0} (g : Geometry) (lost : Option ℕ) (writes : List Staged) (row m k : ℕ) (first second : Result T E) (x y z : View) → m ≢ k → OnlyReads x y → ReadCosts g lost writes row m first x y → ReadCosts g lost writes row k second y z → CostsAtMost g.members x z
-two_reads g None writes row m k first second x y z apart reads one two =
-    at_most_then 1 1 g.members x y z (omega arith) reads (own_most g None writes row m first x y (λ e. absurd (cc)) one) (own_most g None writes row k second y z (λ e. absurd (cc)) two)
-two_reads g (Some gone) writes row m k first second x y z apart reads one two =
-    elim (cases_eq gone m) [
-      | inl e ↦ at_most_then (g.members - 1) 1 g.members x y z (omega arith) reads one.most (own_most g (Some gone) writes row k second y z (λ f. apart (both e f)) two)
-      | inr h ↦ at_most_then 1 (g.members - 1) g.members x y z (omega arith) reads (own_most g (Some gone) writes row m first x y (λ f. h (the_same f)) one) two.most
-    ]
-  where
-    the_same : {n : ℕ} → Some gone ≡ Some n → gone ≡ n
-    the_same f = cc
-
-    both : gone ≡ m → Some gone ≡ Some k → m ≡ k
-    both e f = cc
+pub takes_are : {T E : Type 0} (a b : ℕ) (result : Result T E) (x y : View) → a ≡ b → TakesCalls a result x y → TakesCalls b result x y
+takes_are {T} {E} a b result x y e takes = subst (λ (n : ℕ). TakesCalls {T = T} {E = E} n result x y) e takes
 
 on_ok_always : {T E : Type 0} (result : Result T E) (P : Type 0) → P → OnOk result P
 on_ok_always (Ok v) P p = p
 on_ok_always (Err e) P p = tt
 
-pub plan_costs : {T E : Type 0} (g : Geometry) (lost : Option ℕ) (writes : List Staged) (block row m k : ℕ) (first second result : Result T E) (x y z : View) → (block_place g block).row ≡ row → m < g.members → k < g.members → m ≢ k → OnlyReads x y → ReadCosts g lost writes row m first x y → ReadCosts g lost writes row k second y z → PlanCosts g lost writes block result x z
-plan_costs g lost writes block row m k first second result x y z is_row in_m in_k apart reads one two = record {
-  whole = λ none clear.
-      let bare = subst (λ r. NonePending g writes r) is_row clear in
-      on_ok_always result (Costs 2 x z) (costs_then 1 1 x y z reads (one.own (λ e. no_member m none e) (bare m in_m)) (two.own (λ e. no_member k none e) (bare k in_k)));
-  most = two_reads g lost writes row m k first second x y z apart reads one two;
+-- exactly so many on every answer
+pub takes_always : {T E : Type 0} (calls : ℕ) (result : Result T E) (x y : View) → CalledTimes calls x y → TakesCalls calls result x y
+takes_always calls result x y called = record { ok = on_ok_always result (CalledTimes calls x y) called; most = called_at_most calls calls x y (omega arith) called }
+
+-- calls, and then more
+pub takes_then : {T E : Type 0} (a b : ℕ) (result : Result T E) (x y z : View) → CalledTimes a x y → TakesCalls b result y z → TakesCalls (a + b) result x z
+takes_then a b result x y z first second = record {
+  ok = on_ok_weaker result (λ (called : CalledTimes b y z). called_then a b x y z first called) second.ok;
+  most = at_most_then a b (a + b) x y z (omega arith) (called_at_most a a x y (omega arith) first) second.most;
 }
-  where
-    no_member : (n : ℕ) → lost ≡ None → lost ≡ Some n → ⊥
-    no_member n none e = cc
+
+-- a part that failed, of more
+pub takes_failed : {T E U F : Type 0} (a whole : ℕ) (part : Result T E) (result : Result U F) (why : F) (x y : View) → a ≤ whole → Err why ≡ result → TakesCalls a part x y → TakesCalls whole result x y
+takes_failed {U = U} {F = F} a whole part result why x y less is takes =
+    subst (λ (r : Result U F). TakesCalls whole r x y) is (record { ok = tt; most = at_most_more a whole x y less takes.most })
+
+-- one call of `read`
+pub read_called : {T E : Type 0} (result : Result T E) (old new : View) (d at : ℕ) (before after : List ℕ) → Reads d at before after result old new → CalledTimes 1 old new
+read_called result old new d at before after call = called_once result old new call.goes
+
+-- ---- what stands at a member's place
+pub standing_pending_calls : (o : Option (List ℕ)) (bytes : List ℕ) (v : View) → o ≡ Some bytes → CalledTimes (calls_for o) v v
+standing_pending_calls o bytes v found = called_are 0 (calls_for o) v v (sym (ap (λ (p : Option (List ℕ)). calls_for p) found)) (not_called v)
+
+pub standing_bare_calls : (o : Option (List ℕ)) (x y : View) → o ≡ None → CalledTimes 1 x y → CalledTimes (calls_for o) x y
+standing_bare_calls o x y none called = called_are 1 (calls_for o) x y (sym (ap (λ (p : Option (List ℕ)). calls_for p) none)) called
+
+-- ---- the others of a row
+module _ (g : Geometry) (writes : List Staged) (row one n : ℕ) (x y : View) (called : CalledTimes (bare_others g writes row one n) x y) where
+  pub others_next : (z : View) → n ≢ one → CalledTimes (calls_for (newest_at g writes row n)) y z → CalledTimes (bare_others g writes row one (n + 1)) x z
+  others_next z other more =
+      called_are (bare_others g writes row one n + calls_for (newest_at g writes row n)) (bare_others g writes row one (n + 1)) x z (sym (bare_more g writes row one n other))
+      (called_then (bare_others g writes row one n) (calls_for (newest_at g writes row n)) x y z called more)
+
+  pub others_skip : n ≡ one → CalledTimes (bare_others g writes row one (n + 1)) x y
+  others_skip e = called_are (bare_others g writes row one n) (bare_others g writes row one (n + 1)) x y (sym (bare_same g writes row one n e)) called
+
+  pub others_failed : {T E U F : Type 0} (part : Result T E) (result : Result U F) (why : F) (members : ℕ) (z : View) → n + 1 ≤ members → n ≢ one → Err why ≡ result → CalledTimes (calls_for (newest_at g writes row n)) y z → TakesCalls (bare_others g writes row one members) result x z
+  others_failed part result why members z below other is more =
+      let grows = bare_grows g writes row one (n + 1) members below in
+      takes_failed (bare_others g writes row one (n + 1)) (bare_others g writes row one members) part result why x z (omega arith) is
+      (takes_always (bare_others g writes row one (n + 1)) part x z (others_next z other more))
+
+  pub others_done : {T E : Type 0} (result : Result T E) (members : ℕ) → n ≡ members → TakesCalls (bare_others g writes row one members) result x y
+  others_done result members e =
+      takes_always (bare_others g writes row one members) result x y
+      (called_are (bare_others g writes row one n) (bare_others g writes row one members) x y (ap (λ (k : ℕ). bare_others g writes row one k) e) called)
+
+-- ---- a read of a place
+-- bytes are pending for it
+pub pending_calls : {T E : Type 0} (g : Geometry) (lost : Option ℕ) (writes : List Staged) (row member : ℕ) (bytes : List ℕ) (result : Result T E) (v : View) → newest_at g writes row member ≡ Some bytes → TakesCalls (reads_of g lost writes row member) result v v
+pending_calls g lost writes row member bytes result v found =
+    takes_always (reads_of g lost writes row member) result v v
+    (called_are 0 (reads_of g lost writes row member) v v (sym (reads_pending g lost writes row member bytes found)) (not_called v))
+
+-- its member isn't lost
+pub own_calls : {T E : Type 0} (g : Geometry) (lost : Option ℕ) (writes : List Staged) (row member : ℕ) (result : Result T E) (old new : View) → newest_at g writes row member ≡ None → lost ≢ Some member → CalledTimes 1 old new → TakesCalls (reads_of g lost writes row member) result old new
+own_calls g lost writes row member result old new none apart called =
+    takes_always (reads_of g lost writes row member) result old new
+    (called_are 1 (reads_of g lost writes row member) old new (sym (reads_own g lost writes row member none apart)) called)
+
+-- it is
+pub others_calls : {T E : Type 0} (g : Geometry) (lost : Option ℕ) (writes : List Staged) (row member : ℕ) (result : Result T E) (old new : View) → newest_at g writes row member ≡ None → lost ≡ Some member → TakesCalls (bare_others g writes row member g.members) result old new → TakesCalls (reads_of g lost writes row member) result old new
+others_calls g lost writes row member result old new none gone takes =
+    takes_are (bare_others g writes row member g.members) (reads_of g lost writes row member) result old new (sym (reads_others g lost writes row member none gone)) takes
+
+-- ---- the two reads of a plan
+reads_are : (g : Geometry) (lost : Option ℕ) (writes : List Staged) (block : ℕ) (place : Place) (member : ℕ) → place ≡ block_place g block → member ≡ parity_member g place.row → reads_of g lost writes place.row place.member + reads_of g lost writes place.row member ≡ plan_reads g lost writes block
+reads_are g lost writes block place member is_place is_member =
+    ap (λ (m : ℕ). reads_of g lost writes place.row place.member + reads_of g lost writes place.row m) is_member
+    ∙ ap (λ (p : Place). reads_of g lost writes p.row p.member + reads_of g lost writes p.row (parity_member g p.row)) is_place
+
+module _ (g : Geometry) (lost : Option ℕ) (writes : List Staged) (block : ℕ) (place : Place) (member : ℕ) (is_place : place ≡ block_place g block) (is_member : member ≡ parity_member g place.row) where
+  -- the first one failed
+  pub plan_failed_first : {T E U F : Type 0} (first : Result T E) (result : Result U F) (why : F) (x y : View) → Err why ≡ result → TakesCalls (reads_of g lost writes place.row place.member) first x y → TakesCalls (plan_reads g lost writes block) result x y
+  plan_failed_first first result why x y is one =
+      let sum = reads_are g lost writes block place member is_place is_member in
+      takes_failed (reads_of g lost writes place.row place.member) (plan_reads g lost writes block) first result why x y (omega arith) is one
+
+  -- so did the second, or neither did
+  pub plan_both : {T E : Type 0} (second : Result T E) (x y z : View) → CalledTimes (reads_of g lost writes place.row place.member) x y → TakesCalls (reads_of g lost writes place.row member) second y z → TakesCalls (plan_reads g lost writes block) second x z
+  plan_both second x y z one two =
+      takes_are (reads_of g lost writes place.row place.member + reads_of g lost writes place.row member) (plan_reads g lost writes block) second x z
+      (reads_are g lost writes block place member is_place is_member)
+      (takes_then (reads_of g lost writes place.row place.member) (reads_of g lost writes place.row member) second x y z one two)
+
+  pub plan_done : {T E : Type 0} (result : Result T E) (x y z : View) → CalledTimes (reads_of g lost writes place.row place.member) x y → CalledTimes (reads_of g lost writes place.row member) y z → TakesCalls (plan_reads g lost writes block) result x z
+  plan_done result x y z one two =
+      plan_both result x y z one (takes_always (reads_of g lost writes place.row member) result y z two)

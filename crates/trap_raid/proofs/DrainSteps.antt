@@ -1,7 +1,8 @@
 -- The steps of a drain, one after the other.
-use Rattle.std.proofs.Common.{◌≡◌, ℕ, suc, ◌+◌, ◌-◌, ◌<◌, ◌≤◌, List, [], ◌∷◌, ◌++◌, length, take, drop, Option, IsTrue, ap, sym, subst, ◌∙◌, arith}
+use Rattle.std.proofs.Common.{◌≡◌, ℕ, suc, ◌+◌, ◌-◌, ◌<◌, ◌≤◌, min, max, inl, inr, List, [], ◌∷◌, ◌++◌, length, take, drop, Option, IsTrue, ap, sym, subst, ◌∙◌, arith}
+use Rattle.std.proofs.lemmas.Bool.{cases_lt}
 use Rattle.std.proofs.Math.Seq.{drop-cons, drop-length}
-use Rattle.std.proofs.lemmas.List.{take-append-drop, drop-drop}
+use Rattle.std.proofs.lemmas.List.{take-append-drop, drop-drop, drop_all}
 use Rattle.trap_model.specs.Image.{volume}
 use Rattle.trap_model.specs.declared.numbers.Geometry.{Geometry}
 use Rattle.trap_bank.specs.Disks.{Disks, Contents, View, Within, Differs, Torn, region}
@@ -14,8 +15,9 @@ use Rattle.trap_map.specs.declared.places.Place.{Place}
 use Rattle.trap_stage.specs.Staged.{Staged}
 use Rattle.trap_stage.specs.Slots.{Stage, last_of}
 use Rattle.trap_stage.specs.Found.{no_write, staged_numbered}
-use Rattle.trap_raid.specs.Members.{Counts}
+use Rattle.trap_raid.specs.Members.{Counts, DrainFits}
 use Rattle.trap_raid.specs.Draining.{writes_to, Drains, InDrained, InCounted, IsDrainedTo, PlaceWritten}
+use Rattle.trap_raid.proofs.FitLemmas.{fits_newer, fits_older}
 use Rattle.trap_raid.proofs.DrainLemmas.{drained_newer, drained_older, drains_then, drains_none, block_drained, parity_drained, both_written}
 
 -- ---- a place that counts
@@ -117,11 +119,12 @@ parity_fails g lost rebuilt staged place at_parity failed below is_place is_pari
 
 -- ---- one write after the other
 -- the writes up to a number are the last of those up to a later one
-pub writes_to-split : (stage : Stage) (number upto : ℕ) → number ≤ upto → upto ≤ last_of stage → writes_to stage upto ≡ take (upto - number) (writes_to stage upto) ++ writes_to stage number
+pub writes_to-split : (stage : Stage) (number upto : ℕ) → number ≤ upto → number ≤ last_of stage → writes_to stage upto ≡ take (min upto (last_of stage) - number) (writes_to stage upto) ++ writes_to stage number
 writes_to-split stage number upto low high =
-    sym (take-append-drop (upto - number) (writes_to stage upto))
-    ∙ ap (λ (rest : List Staged). take (upto - number) (writes_to stage upto) ++ rest)
-    (drop-drop (upto - number) (last_of stage - upto) stage.pending ∙ ap (λ (n : ℕ). drop n stage.pending) (omega arith))
+    let newer = min upto (last_of stage) - number in
+    sym (take-append-drop newer (writes_to stage upto))
+    ∙ ap (λ (rest : List Staged). take newer (writes_to stage upto) ++ rest)
+    (drop-drop newer (last_of stage - upto) stage.pending ∙ ap (λ (n : ℕ). drop n stage.pending) (omega arith))
 
 -- the next of them
 pub writes_to-next : (stage : Stage) (number : ℕ) → stage.drained ≤ number → number < last_of stage → writes_to stage (number + 1) ≡ staged_numbered stage (number + 1) ∷ writes_to stage number
@@ -136,25 +139,41 @@ writes_to-next stage number low high =
 pub writes_to-none : (stage : Stage) → writes_to stage stage.drained ≡ []
 writes_to-none stage = ap (λ (n : ℕ). drop n stage.pending) (omega arith) ∙ drop-length stage.pending
 
+-- all of them, where a run over the numbers has ended
+pub writes_to-end : (stage : Stage) (number upto : ℕ) → stage.drained ≤ number → min upto (last_of stage) ≤ number → number ≤ max stage.drained (min upto (last_of stage)) → writes_to stage number ≡ writes_to stage upto
+writes_to-end stage number upto low end high = elim (cases_lt upto stage.drained) [
+  | inl none ↦ drop_all (last_of stage - number) stage.pending (omega arith) ∙ sym (drop_all (last_of stage - upto) stage.pending (omega arith))
+  | inr some ↦ ap (λ (n : ℕ). drop n stage.pending) (omega arith)
+]
+
 -- no write yet
 pub drain_start : (g : Geometry) (lost : Option ℕ) (rebuilt : ℕ) (stage : Stage) (upto : ℕ) (v : View) → Moves v v (Differs (InDrained g lost rebuilt (writes_to stage upto))) (Drains g lost rebuilt (writes_to stage stage.drained))
 drain_start g lost rebuilt stage upto v = no_moves v (Differs (InDrained g lost rebuilt (writes_to stage upto))) (Drains g lost rebuilt (writes_to stage stage.drained))
     (λ x was. subst (λ (writes : List Staged). Drains g lost rebuilt writes x.disks x.disks) (sym (writes_to-none stage)) (drains_none g lost rebuilt x.disks))
 
-module _ (g : Geometry) (lost : Option ℕ) (rebuilt : ℕ) (stage : Stage) (number upto : ℕ) (low : stage.drained ≤ number) (inside : number < upto) (high : upto ≤ last_of stage) where
+module _ (g : Geometry) (lost : Option ℕ) (rebuilt : ℕ) (stage : Stage) (number upto : ℕ) (low : stage.drained ≤ number) (inside : number < upto) (high : number < last_of stage) where
   -- what the writes so far cover, all of them cover
   older_in : (e i : ℕ) → InDrained g lost rebuilt (writes_to stage number) e i → InDrained g lost rebuilt (writes_to stage upto) e i
   older_in e i covered =
-      subst (λ (writes : List Staged). InDrained g lost rebuilt writes e i) (sym (writes_to-split stage number upto (omega arith) high))
-      (drained_older g lost rebuilt (take (upto - number) (writes_to stage upto)) (writes_to stage number) e i covered)
+      subst (λ (writes : List Staged). InDrained g lost rebuilt writes e i) (sym (writes_to-split stage number upto (omega arith) (omega arith)))
+      (drained_older g lost rebuilt (take (min upto (last_of stage) - number) (writes_to stage upto)) (writes_to stage number) e i covered)
 
   -- so with the next write
   next_in : (e i : ℕ) → InDrained g lost rebuilt (staged_numbered stage (number + 1) ∷ []) e i → InDrained g lost rebuilt (writes_to stage upto) e i
   next_in e i covered =
-      subst (λ (writes : List Staged). InDrained g lost rebuilt writes e i) (sym (writes_to-split stage (number + 1) upto (omega arith) high))
-      (drained_older g lost rebuilt (take (upto - (number + 1)) (writes_to stage upto)) (writes_to stage (number + 1)) e i
-      (subst (λ (writes : List Staged). InDrained g lost rebuilt writes e i) (sym (writes_to-next stage number low (omega arith)))
+      subst (λ (writes : List Staged). InDrained g lost rebuilt writes e i) (sym (writes_to-split stage (number + 1) upto (omega arith) (omega arith)))
+      (drained_older g lost rebuilt (take (min upto (last_of stage) - (number + 1)) (writes_to stage upto)) (writes_to stage (number + 1)) e i
+      (subst (λ (writes : List Staged). InDrained g lost rebuilt writes e i) (sym (writes_to-next stage number low high))
       (drained_newer g lost rebuilt (staged_numbered stage (number + 1) ∷ []) (writes_to stage number) e i covered)))
+
+  -- the disks fit for it
+  pub fits_next : (v : View) → DrainFits g lost rebuilt (writes_to stage upto) v → DrainFits g lost rebuilt (staged_numbered stage (number + 1) ∷ []) v
+  fits_next v fits =
+      let newer = take (min upto (last_of stage) - (number + 1)) (writes_to stage upto) in
+      fits_newer g lost rebuilt (staged_numbered stage (number + 1) ∷ []) (writes_to stage number) v
+      (subst (λ (writes : List Staged). DrainFits g lost rebuilt writes v) (writes_to-next stage number low high)
+      (fits_older g lost rebuilt newer (writes_to stage (number + 1)) v
+      (subst (λ (writes : List Staged). DrainFits g lost rebuilt writes v) (writes_to-split stage (number + 1) upto (omega arith) (omega arith)) fits)))
 
   so_far : (x y : Disks) → Drains g lost rebuilt (writes_to stage number) x y → Differs (InDrained g lost rebuilt (writes_to stage upto)) x y
   so_far x y drains = differs_mono (InDrained g lost rebuilt (writes_to stage number)) (InDrained g lost rebuilt (writes_to stage upto)) x y older_in drains.differs
@@ -170,7 +189,7 @@ module _ (g : Geometry) (lost : Option ℕ) (rebuilt : ℕ) (stage : Stage) (num
       (λ x y was torn. torn)
       (λ x y z was drains mid torn. differs_again (InDrained g lost rebuilt (writes_to stage upto)) x.disks y.disks z.disks (so_far x.disks y.disks drains)
       (differs_mono (InDrained g lost rebuilt (staged_numbered stage (number + 1) ∷ [])) (InDrained g lost rebuilt (writes_to stage upto)) y.disks z.disks next_in torn))
-      (λ x y z was drains mid more. subst (λ (writes : List Staged). Drains g lost rebuilt writes x.disks z.disks) (sym (writes_to-next stage number low (omega arith)))
+      (λ x y z was drains mid more. subst (λ (writes : List Staged). Drains g lost rebuilt writes x.disks z.disks) (sym (writes_to-next stage number low high))
       (drains_then g lost rebuilt (staged_numbered stage (number + 1) ∷ []) (writes_to stage number) x.disks y.disks z.disks drains more))
 
   -- a write that was cut short

@@ -1,6 +1,7 @@
 pub mod OptionLemmas
 pub mod ReadLemmas
 pub mod TableLemmas
+pub mod StandingLemmas
 pub mod CostLemmas
 pub mod FitLemmas
 pub mod DrainLemmas

@@ -14,7 +14,7 @@ use Rattle.trap_map.specs.Table.{row_parity, table}
 use Rattle.trap_stage.proofs.Overlays.{laid_over-append, laid_over_same, laid_over_next}
 use Rattle.trap_stage.proofs.Standing.{stand_from_writes}
 use Rattle.trap_stage.specs.Staged.{Staged, newest_at, laid_over, image_after_writes, AreWrites}
-use Rattle.trap_raid.specs.Members.{Counts, MembersFit, StandFor, IsMember, IsOut, IsTrusted, MembersHold, InHeaders, InPlaces, Covered, member_place}
+use Rattle.trap_raid.specs.Members.{Counts, MembersFit, HoldImage, IsMember, IsOut, IsTrusted, MembersHold, InHeaders, InPlaces, Covered, member_place}
 use Rattle.trap_raid.specs.Draining.{AreDrained, Drains, InDrained}
 use Rattle.trap_raid.proofs.FitLemmas.{counts_first, others_count}
 use Rattle.trap_raid.proofs.DrainLemmas.{one_place, covered_older}
@@ -126,9 +126,9 @@ members_there g lost rebuilt v w lawful left fit m inside apart =
     there_by_size (w.disks (m + 1)) there.0 (left.torn.disks.sizes (m + 1) ∙ lawful.sized left.told (m + 1) ∙ there.1)
 
 -- the places stand for the image's table
-pub stand_for : (g : Geometry) (lost : Option ℕ) (rebuilt : ℕ) (writes : List Staged) (before image : List (List ℕ)) (x : Disks) → MembersHold g lost rebuilt writes image x → IsImage g before → AreWrites g before writes → image ≡ image_after_writes before writes → ((m : ℕ) → m < g.members → lost ≢ Some m → x (m + 1) ≢ None) → StandFor g lost writes (member_place g x) image
+pub stand_for : (g : Geometry) (lost : Option ℕ) (rebuilt : ℕ) (writes : List Staged) (before image : List (List ℕ)) (x : Disks) → MembersHold g lost rebuilt writes image x → IsImage g before → AreWrites g before writes → image ≡ image_after_writes before writes → ((m : ℕ) → m < g.members → lost ≢ Some m → x (m + 1) ≢ None) → HoldImage g lost writes (member_place g x) image
 stand_for g lost rebuilt writes before image x holds is_image are after there =
-    let P : List (List ℕ) → Type 0 = λ (other : List (List ℕ)). StandFor g lost writes (member_place g x) other in
+    let P : List (List ℕ) → Type 0 = λ (other : List (List ℕ)). HoldImage g lost writes (member_place g x) other in
     subst P (sym after)
     (stand_from_writes g (λ row m. lost ≢ Some m) before writes (member_place g x) is_image are
     (λ row m below inside apart.

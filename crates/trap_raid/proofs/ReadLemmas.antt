@@ -1,37 +1,16 @@
 -- Calls that only read, one after the other.
-use Rattle.std.proofs.Common.{◌≡◌, ◌≢◌, ℕ, ◌+◌, List, Option, IsTrue, Result, add-one, refl, sym, ap, subst, ◌∙◌, arith}
+use Rattle.std.proofs.Common.{◌≡◌, ◌≢◌, ℕ, ◌+◌, List, Option, IsTrue, add-one, sym, ap, subst, ◌∙◌, arith}
 use Rattle.trap_block.specs.Xor.{xor, xor_but}
 use Rattle.trap_block.proofs.OverLemmas.{xor_but_here, xor_but_there}
 use Rattle.trap_model.specs.declared.numbers.Geometry.{Geometry}
 use Rattle.trap_bank.specs.Disks.{Contents, View}
-use Rattle.trap_bank.specs.Calls.{Reads}
-use Rattle.trap_bank.specs.Steps.{Same}
-use Rattle.trap_bank.proofs.Moves.{read_steps, same_then, no_moves}
 use Rattle.trap_stage.specs.Staged.{Staged, laid_over}
 use Rattle.trap_raid.specs.Members.{RowFits, PlaceFits, member_place}
-use Rattle.trap_raid.specs.Reads.{OnlyReads, HasFailed}
+use Rattle.trap_raid.specs.Reads.{OnlyReads, FailedMember}
 
 -- one member more, read into the scratch block
 pub xor_but_more : (size one n : ℕ) (block_of : ℕ → List ℕ) → n ≢ one → xor_but size one block_of (n + 1) ≡ xor (xor_but size one block_of n) (block_of n)
 xor_but_more size one n block_of h = rw add-one (xor_but_there size one n block_of h)
-
--- ---- runs
-pub only_reads_one : {T E : Type 0} (result : Result T E) (old new : View) (d at : ℕ) (before after : List ℕ) → Reads d at before after result old new → OnlyReads old new
-only_reads_one result old new d at before after call = record {
-  same = call.same;
-  sizes = call.sizes;
-  moves = read_steps result old new d at before after call;
-}
-
-pub only_reads_none : (v : View) → OnlyReads v v
-only_reads_none v = record { same = λ told. refl; sizes = λ e. refl; moves = no_moves v Same Same (λ x was. refl) }
-
-pub only_reads_then : (a b c : View) → OnlyReads a b → OnlyReads b c → OnlyReads a c
-only_reads_then a b c first second = record {
-  same = λ told. second.same (subst IsTrue (sym first.moves.tells) told) ∙ first.same told;
-  sizes = λ e. second.sizes e ∙ first.sizes e;
-  moves = same_then a b c first.moves second.moves;
-}
 
 -- it tells as it did
 pub still_tells : (old new : View) → OnlyReads old new → IsTrue old.tells → IsTrue new.tells
@@ -48,7 +27,7 @@ place_fits_along g lost writes old new row member reads fits = record {
 }
 
 -- ---- a failure of a part is one of the whole
-pub failed_after : (g : Geometry) (lost : Option ℕ) (a b c : View) (member : ℕ) → OnlyReads a b → HasFailed g lost b c member → HasFailed g lost a c member
+pub failed_after : (g : Geometry) (lost : Option ℕ) (a b c : View) (member : ℕ) → OnlyReads a b → FailedMember g lost b c member → FailedMember g lost a c member
 failed_after g lost a b c member reads failed = record {
   inside = failed.inside;
   apart = failed.apart;

@@ -13,12 +13,12 @@ use Rattle.trap_map.proofs.PlaceLemmas.{block_is_not_parity}
 use Rattle.trap_map.proofs.TableLemmas.{table_at_block, table_at_parity, table_from_others, parity_after_write}
 use Rattle.trap_bank.specs.Disks.{Contents}
 use Rattle.trap_stage.specs.Staged.{Staged, newest_at, laid_over}
-use Rattle.trap_raid.specs.Members.{StandFor, member_place}
+use Rattle.trap_raid.specs.Members.{HoldImage, member_place}
 use Rattle.trap_raid.specs.Plan.{IsPlan}
 
 -- ---- from places that stand for the table
 -- what stands at a member that isn't lost
-pub laid_over_stands : (g : Geometry) (lost : Option ℕ) (writes : List Staged) (place : ℕ → ℕ → List ℕ) (image : List (List ℕ)) → StandFor g lost writes place image → (row member : ℕ) → row < g.rows → member < g.members → lost ≢ Some member → laid_over g writes place row member ≡ table g image row member
+pub laid_over_stands : (g : Geometry) (lost : Option ℕ) (writes : List Staged) (place : ℕ → ℕ → List ℕ) (image : List (List ℕ)) → HoldImage g lost writes place image → (row member : ℕ) → row < g.rows → member < g.members → lost ≢ Some member → laid_over g writes place row member ≡ table g image row member
 laid_over_stands g lost writes place image stands row member below inside apart =
     either (newest_at g writes row member) (place row member) (table g image row member) (lost ≢ Some member) apart (stands row member below inside)
   where
@@ -27,7 +27,7 @@ laid_over_stands g lost writes place image stands row member below inside apart 
     either (Some z) x y P p h = h
 
 -- the others' places give the lost member's place
-pub others_stand : (g : Geometry) (lost : Option ℕ) (writes : List Staged) (place : ℕ → ℕ → List ℕ) (image : List (List ℕ)) → IsImage g image → StandFor g lost writes place image → (row member : ℕ) → row < g.rows → member < g.members → lost ≡ Some member → xor_but g.block member (laid_over g writes place row) g.members ≡ table g image row member
+pub others_stand : (g : Geometry) (lost : Option ℕ) (writes : List Staged) (place : ℕ → ℕ → List ℕ) (image : List (List ℕ)) → IsImage g image → HoldImage g lost writes place image → (row member : ℕ) → row < g.rows → member < g.members → lost ≡ Some member → xor_but g.block member (laid_over g writes place row) g.members ≡ table g image row member
 others_stand g lost writes place image is_image stands row member below inside gone =
     xor_but_same g.block member g.members (laid_over g writes place row) (table g image row)
     (λ m less apart. laid_over_stands g lost writes place image stands row m below less (λ e. apart (same_lost lost m member e gone)))
@@ -37,12 +37,12 @@ others_stand g lost writes place image is_image stands row member below inside g
     same_lost lost m n e f = cc
 
 -- pending bytes
-pub pending_stands : (g : Geometry) (lost : Option ℕ) (writes : List Staged) (place : ℕ → ℕ → List ℕ) (image : List (List ℕ)) → StandFor g lost writes place image → (row member : ℕ) (bytes : List ℕ) → row < g.rows → member < g.members → newest_at g writes row member ≡ Some bytes → bytes ≡ table g image row member
+pub pending_stands : (g : Geometry) (lost : Option ℕ) (writes : List Staged) (place : ℕ → ℕ → List ℕ) (image : List (List ℕ)) → HoldImage g lost writes place image → (row member : ℕ) (bytes : List ℕ) → row < g.rows → member < g.members → newest_at g writes row member ≡ Some bytes → bytes ≡ table g image row member
 pending_stands g lost writes place image stands row member bytes below inside found =
     MatchOption-at_some (lost ≢ Some member → place row member ≡ table g image row member) (λ (b : List ℕ). b ≡ table g image row member) bytes found (stands row member below inside)
 
 -- a member's bytes, where none are pending
-pub member_stands : (g : Geometry) (lost : Option ℕ) (writes : List Staged) (place : ℕ → ℕ → List ℕ) (image : List (List ℕ)) → StandFor g lost writes place image → (row member : ℕ) → row < g.rows → member < g.members → newest_at g writes row member ≡ None → lost ≢ Some member → place row member ≡ table g image row member
+pub member_stands : (g : Geometry) (lost : Option ℕ) (writes : List Staged) (place : ℕ → ℕ → List ℕ) (image : List (List ℕ)) → HoldImage g lost writes place image → (row member : ℕ) → row < g.rows → member < g.members → newest_at g writes row member ≡ None → lost ≢ Some member → place row member ≡ table g image row member
 member_stands g lost writes place image stands row member below inside none apart =
     MatchOption-at_none (lost ≢ Some member → place row member ≡ table g image row member) (λ (b : List ℕ). b ≡ table g image row member) none (stands row member below inside) apart
 
@@ -71,7 +71,7 @@ plan_from_reads g image block place member fresh first second delta parity is_im
     }
 
 -- places of disks that were only read stand for what they stood for
-pub stand_along : (g : Geometry) (lost : Option ℕ) (writes : List Staged) (old new : Contents) (image : List (List ℕ)) → new ≡ old → StandFor g lost writes (member_place g old.disks) image → StandFor g lost writes (member_place g new.disks) image
+pub stand_along : (g : Geometry) (lost : Option ℕ) (writes : List Staged) (old new : Contents) (image : List (List ℕ)) → new ≡ old → HoldImage g lost writes (member_place g old.disks) image → HoldImage g lost writes (member_place g new.disks) image
 stand_along g lost writes old new image same stands =
-    let P : Contents → Type 0 = λ (c : Contents). StandFor g lost writes (member_place g c.disks) image in
+    let P : Contents → Type 0 = λ (c : Contents). HoldImage g lost writes (member_place g c.disks) image in
     subst P (sym same) stands

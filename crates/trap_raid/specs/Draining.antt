@@ -1,13 +1,12 @@
 -- What a drain does to the members.
-use Rattle.std.specs.Prelude.{◌≡◌, ℕ, ◌+◌, ◌-◌, ◌<◌, List, [], ◌∷◌, drop, Option, Some, None, Result, OnOk, ◌&&◌, ◌==◌, nat_le, if◌then◌else◌}
+use Rattle.std.specs.Prelude.{◌≡◌, ℕ, ◌+◌, ◌-◌, ◌<◌, List, [], ◌∷◌, drop, Option, Some, None, ◌&&◌, ◌==◌, nat_le, if◌then◌else◌}
 use Rattle.trap_model.specs.declared.numbers.Geometry.{Geometry}
-use Rattle.trap_bank.specs.Disks.{Disks, View, Area, Within, Differs}
+use Rattle.trap_bank.specs.Disks.{Disks, Area, Within, Differs}
 use Rattle.trap_format.specs.MemberDisk.{row_at}
 use Rattle.trap_map.specs.Layout.{parity_member, block_place}
 use Rattle.trap_stage.specs.Staged.{Staged, newest_at}
 use Rattle.trap_stage.specs.Slots.{Stage, last_of}
 use Rattle.trap_raid.specs.Members.{Counts, Covered, member_place}
-use Rattle.trap_raid.specs.Reads.{Costs, CostsAtMost}
 
 -- the pending writes up to a number
 abbrev pub writes_to : Stage → ℕ → List Staged
@@ -70,9 +69,3 @@ abbrev pub drain_calls : Geometry → Option ℕ → ℕ → List Staged → ℕ
 drain_calls g lost rebuilt [] = 0
 drain_calls g lost rebuilt (staged ∷ older) =
     write_calls g lost rebuilt staged + drain_calls g lost rebuilt older
-
--- the bank was called exactly so often where all went well, and never more often
-pub record CostsWhole {T E : Type 0} (calls : ℕ) (result : Result T E)
-    (old new : View) : Type 0 where
-  pub whole : OnOk result (Costs calls old new)
-  pub most : CostsAtMost calls old new

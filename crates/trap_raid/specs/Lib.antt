@@ -1,5 +1,6 @@
 pub mod Condition
 pub mod Members
+pub mod Standing
 pub mod Reads
 pub mod Plan
 pub mod Draining

@@ -29,16 +29,19 @@ BareFits g writes v row member = newest_at g writes row member ≡ None → RowF
 -- so do the disks that stand for a place, unless bytes are pending for it: its member's own, or
 -- where that one is lost, those of all others, each unless bytes are pending for its own place of
 -- the row
-pub record PlaceFits (g : Geometry) (lost : Option ℕ) (writes : List Staged) (v : View) (row member : ℕ) : Type 0 where
+pub record PlaceFits (g : Geometry) (lost : Option ℕ) (writes : List Staged) (v : View)
+    (row member : ℕ) : Type 0 where
   pub own : lost ≢ Some member → BareFits g writes v row member
   pub others : lost ≡ Some member → newest_at g writes row member ≡ None
       → (m : ℕ) → m < g.members → m ≢ member → BareFits g writes v row m
 
 -- so do those for a block's place and for the parity of its row
-pub record BlockFits (g : Geometry) (lost : Option ℕ) (writes : List Staged) (v : View) (block : ℕ) : Type 0 where
+pub record BlockFits (g : Geometry) (lost : Option ℕ) (writes : List Staged) (v : View) (block : ℕ)
+    : Type 0 where
   pub place : PlaceFits g lost writes v (block_place g block).row (block_place g block).member
   pub parity :
-      PlaceFits g lost writes v (block_place g block).row (parity_member g (block_place g block).row)
+      PlaceFits g lost writes v (block_place g block).row
+      (parity_member g (block_place g block).row)
 
 -- a row of a member counts: all of them do, but of the lost member those alone that are rebuilt
 abbrev pub Counts : Option ℕ → ℕ → ℕ → ℕ → Type 0
@@ -47,12 +50,20 @@ Counts lost rebuilt row member = lost ≡ Some member → row < rebuilt
 -- the disks of which some row counts are there and have all rows
 abbrev pub MembersFit : Geometry → Option ℕ → ℕ → View → Type 0
 MembersFit g lost rebuilt v =
-    (member : ℕ) → member < g.members → Counts lost rebuilt 0 member → Fits v (member + 1) (row_at g g.rows)
+    (member : ℕ) → member < g.members → Counts lost rebuilt 0 member
+    → Fits v (member + 1) (row_at g g.rows)
+
+-- the disks of the places that count and that these writes cover reach to the end of their rows
+abbrev pub DrainFits : Geometry → Option ℕ → ℕ → List Staged → View → Type 0
+DrainFits g lost rebuilt writes v =
+    (row m : ℕ) (bytes : List ℕ) → row < g.rows → m < g.members → Counts lost rebuilt row m
+    → newest_at g writes row m ≡ Some bytes → RowFits g v row m
 
 -- places that are the table's, pending bytes laid over them, but perhaps for those of the lost
 -- member
-abbrev pub StandFor : Geometry → Option ℕ → List Staged → (ℕ → ℕ → List ℕ) → List (List ℕ) → Type 0
-StandFor g lost writes place image = StandWhere g (λ row member. lost ≢ Some member) writes place image
+abbrev pub HoldImage : Geometry → Option ℕ → List Staged → (ℕ → ℕ → List ℕ) → List (List ℕ) → Type 0
+HoldImage g lost writes place image =
+    StandWhere g (λ row member. lost ≢ Some member) writes place image
 
 -- the member's disk has its exact length and header
 pub record IsMember (g : Geometry) (disks : Disks) (member : ℕ) : Type 0 where
@@ -64,7 +75,8 @@ abbrev pub IsOut : Option ℕ → Disks → ℕ → Type 0
 IsOut lost disks member = (lost ≡ Some member) ⊎ (disks (member + 1) ≡ None)
 
 -- a place is trusted where its member's disk has its exact length and header, and the row counts
-pub record IsTrusted (g : Geometry) (lost : Option ℕ) (rebuilt : ℕ) (disks : Disks) (row member : ℕ) : Type 0 where
+pub record IsTrusted (g : Geometry) (lost : Option ℕ) (rebuilt : ℕ) (disks : Disks) (row member : ℕ)
+    : Type 0 where
   pub made : IsMember g disks member
   pub counts : Counts lost rebuilt row member
 
@@ -72,7 +84,8 @@ pub record IsTrusted (g : Geometry) (lost : Option ℕ) (rebuilt : ℕ) (disks :
 -- trusted place reads as the image's table, the newest pending bytes laid over it.
 pub record MembersHold (g : Geometry) (lost : Option ℕ) (rebuilt : ℕ) (writes : List Staged)
     (image : List (List ℕ)) (disks : Disks) : Type 0 where
-  pub one_out : (m k : ℕ) → m < g.members → k < g.members → IsOut lost disks m → IsOut lost disks k → m ≡ k
+  pub one_out : (m k : ℕ) → m < g.members → k < g.members → IsOut lost disks m → IsOut lost disks k
+      → m ≡ k
   pub made : (m : ℕ) → m < g.members → (IsOut lost disks m → ⊥) → IsMember g disks m
   pub places : (row m : ℕ) → row < g.rows → m < g.members → IsTrusted g lost rebuilt disks row m
       → laid_over g writes (member_place g disks) row m ≡ table g image row m
@@ -85,7 +98,8 @@ pub record InHeaders (g : Geometry) (lost : Option ℕ) (rebuilt : ℕ) (e i : �
   pub within : Within (member + 1) 0 16 e i
 
 -- the positions of the places that count and for which nothing is pending
-pub record InPlaces (g : Geometry) (lost : Option ℕ) (rebuilt : ℕ) (writes : List Staged) (e i : ℕ) : Type 0 where
+pub record InPlaces (g : Geometry) (lost : Option ℕ) (rebuilt : ℕ) (writes : List Staged) (e i : ℕ)
+    : Type 0 where
   pub row : ℕ
   pub member : ℕ
   pub in_rows : row < g.rows

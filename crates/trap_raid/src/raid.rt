@@ -4,14 +4,15 @@ ghost use Rattle.std.specs.Prelude.{◌≡◌, ◌<◌, ◌≤◌, ℕ, List, Op
 ghost use Rattle.std.specs.Option.{ForSome};
 ghost use Rattle.trap_model.specs.Image.{volume};
 ghost use Rattle.trap_map.specs.Table.{table};
+ghost use Rattle.trap_bank.specs.Called.{TakesCalls};
 ghost use Rattle.trap_bank.specs.Disks.{Differs, Torn};
 ghost use Rattle.trap_bank.specs.Steps.{Moves};
 ghost use Rattle.trap_model.specs.Image.{IsImage};
-ghost use Rattle.trap_stage.specs.Slots.{last_of};
-ghost use Rattle.trap_raid.specs.Members.{Counts, IsPlace, PlaceFits, BlockFits, MembersFit, StandFor, member_place};
-ghost use Rattle.trap_raid.specs.Draining.{writes_to, Drains, InDrained, IsDrainedTo, CostsWhole, drain_calls};
-ghost use Rattle.trap_raid.specs.Reads.{OnlyReads, HasFailed, IsReadFor, IsReadForBlock, ReadCosts, PlanCosts};
-ghost use Rattle.trap_raid.specs.Plan.{AreBlocks, IsPlan};
+ghost use Rattle.trap_raid.specs.Members.{Counts, IsPlace, PlaceFits, BlockFits, DrainFits, HoldImage, member_place};
+ghost use Rattle.trap_raid.specs.Draining.{writes_to, Drains, InDrained, IsDrainedTo, drain_calls};
+ghost use Rattle.trap_raid.specs.Reads.{OnlyReads, FailedMember, IsReadFor, IsReadForBlock};
+ghost use Rattle.trap_raid.specs.Standing.{standing_at, reads_of, plan_reads};
+ghost use Rattle.trap_raid.specs.Plan.{AreBlocks, IsPlan, IsPlanFrom};
 
 use crate::MemberFailed;
 use crate::reads::{read_member, read_others};
@@ -94,16 +95,22 @@ impl Raid {
             place.row place.member }
         requires into { length into.old ≡ self.now.g.block }
         requires scratch { length scratch.old ≡ self.now.g.block }
+        ensures bytes { IsTrue (B.view bank.old).tells
+            → OnOk result (into.new ≡ standing_at self.now.g
+            self.now.lost stage.now.pending (member_place self.now.g (B.view bank.old).now.disks)
+            place.row place.member) }
         ensures table { IsTrue (B.view bank.old).tells → (image : List (List ℕ))
             → IsImage self.now.g image
-            → StandFor self.now.g self.now.lost stage.now.pending
+            → HoldImage self.now.g self.now.lost stage.now.pending
             (member_place self.now.g (B.view bank.old).now.disks) image
             → OnOk result (into.new ≡ table self.now.g image place.row place.member) }
         ensures cause { IfErr result (λ failed.
-            HasFailed self.now.g self.now.lost (B.view bank.old) (B.view bank.new) failed.member) }
+            FailedMember self.now.g self.now.lost (B.view bank.old) (B.view bank.new)
+            failed.member) }
         ensures read { IfErr result (λ failed. IsReadFor self.now.g self.now.lost stage.now.pending
             place.row place.member failed.member) }
-        ensures cost { ReadCosts self.now.g self.now.lost stage.now.pending place.row place.member
+        ensures calls { TakesCalls
+            (reads_of self.now.g self.now.lost stage.now.pending place.row place.member)
             result (B.view bank.old) (B.view bank.new) }
 
         // Stopped at any moment, the disks are as they were.
@@ -135,19 +142,25 @@ impl Raid {
     ) -> Result<(), MemberFailed>
         requires stage { stage.now.g ≡ self.now.g }
         requires block { block < volume self.now.g }
-        requires disks { BlockFits self.now.g self.now.lost stage.now.pending (B.view bank.old) block }
+        requires disks { BlockFits self.now.g self.now.lost stage.now.pending (B.view bank.old)
+            block }
         requires blocks { AreBlocks self.now.g fresh.now delta.old parity.old scratch.old }
+        ensures bytes { IsTrue (B.view bank.old).tells → OnOk result (IsPlanFrom self.now.g
+            (standing_at self.now.g self.now.lost stage.now.pending
+            (member_place self.now.g (B.view bank.old).now.disks))
+            block fresh.now delta.new parity.new) }
         ensures plan { IsTrue (B.view bank.old).tells → (image : List (List ℕ))
             → IsImage self.now.g image
-            → StandFor self.now.g self.now.lost stage.now.pending
+            → HoldImage self.now.g self.now.lost stage.now.pending
             (member_place self.now.g (B.view bank.old).now.disks) image
             → OnOk result (IsPlan self.now.g image block fresh.now delta.new parity.new) }
         ensures cause { IfErr result (λ failed.
-            HasFailed self.now.g self.now.lost (B.view bank.old) (B.view bank.new) failed.member) }
+            FailedMember self.now.g self.now.lost (B.view bank.old) (B.view bank.new)
+            failed.member) }
         ensures read { IfErr result (λ failed.
             IsReadForBlock self.now.g self.now.lost stage.now.pending block failed.member) }
-        ensures cost { PlanCosts self.now.g self.now.lost stage.now.pending block result
-            (B.view bank.old) (B.view bank.new) }
+        ensures calls { TakesCalls (plan_reads self.now.g self.now.lost stage.now.pending block)
+            result (B.view bank.old) (B.view bank.new) }
 
         // Stopped at any moment, the disks are as they were.
         ensures any_moment { OnlyReads (B.view bank.old) (B.view bank.new) }
@@ -169,9 +182,8 @@ impl Raid {
     /// pending: the caller puts a head with the new number first.
     pub fn drain<B: Bank>(&self, bank: &mut B, stage: &Stage, upto: u64) -> Result<(), MemberFailed>
         requires stage { stage.now.g ≡ self.now.g }
-        requires low { stage.now.drained ≤ upto }
-        requires high { upto ≤ last_of stage.now }
-        requires disks { MembersFit self.now.g self.now.lost self.now.rebuilt (B.view bank.old) }
+        requires disks { DrainFits self.now.g self.now.lost self.now.rebuilt
+            (writes_to stage.now upto) (B.view bank.old) }
         ensures ok { OnOk result (Moves (B.view bank.old) (B.view bank.new)
             (Differs (InDrained self.now.g self.now.lost self.now.rebuilt
             (writes_to stage.now upto)))
@@ -180,7 +192,7 @@ impl Raid {
             → Torn (InDrained self.now.g self.now.lost self.now.rebuilt
             (writes_to stage.now upto)) (B.view bank.old).now (B.view bank.new).now }
         ensures sizes { (e : ℕ) → (B.view bank.new).sizes e ≡ (B.view bank.old).sizes e }
-        ensures cause { IfErr result (λ failed. HasFailed self.now.g None
+        ensures cause { IfErr result (λ failed. FailedMember self.now.g None
             (B.view bank.old) (B.view bank.new) failed.member) }
         ensures counts { IfErr result (λ failed.
             Counts self.now.lost self.now.rebuilt 0 failed.member) }
@@ -189,7 +201,7 @@ impl Raid {
         ensures place { IfErr result (λ failed.
             IsDrainedTo self.now.g self.now.lost self.now.rebuilt (writes_to stage.now upto)
             failed.member) }
-        ensures cost { CostsWhole (drain_calls self.now.g self.now.lost self.now.rebuilt
+        ensures calls { TakesCalls (drain_calls self.now.g self.now.lost self.now.rebuilt
             (writes_to stage.now upto)) result (B.view bank.old) (B.view bank.new) }
 
         // Stopped at any moment, no byte has changed but in places that count and that these writes
@@ -200,7 +212,7 @@ impl Raid {
             (Differs (InDrained self.now.g self.now.lost self.now.rebuilt
             (writes_to stage.now upto))) }
     {
-        for number in stage.drained()..upto {
+        for number in stage.drained()..upto.min(stage.last()) {
             let (block, bytes, parity) = stage.slot(number + 1);
             write_slot(&self.g, bank, self.lost, self.rebuilt, block, bytes, parity)?;
         }

@@ -1,10 +1,12 @@
 //! What stands at a place, from the pending writes and the members' disks.
 
-ghost use Rattle.std.specs.Prelude.{◌≡◌, ◌≢◌, ℕ, ◌-◌, ◌<◌, Option, Some, None, length, IsTrue, OnOk, IfErr};
+ghost use Rattle.std.specs.Prelude.{◌≡◌, ◌≢◌, ℕ, ◌<◌, Option, Some, None, length, IsTrue, OnOk, IfErr};
+ghost use Rattle.trap_bank.specs.Called.{CalledTimes, TakesCalls};
 ghost use Rattle.trap_block.specs.Xor.{xor_but};
 ghost use Rattle.trap_stage.specs.Staged.{newest_at, laid_over};
 ghost use Rattle.trap_raid.specs.Members.{IsPlace, RowFits, BareFits, member_place};
-ghost use Rattle.trap_raid.specs.Reads.{OnlyReads, HasFailed, Costs, CostsAtMost, NonePending, calls_for};
+ghost use Rattle.trap_raid.specs.Reads.{OnlyReads, FailedMember};
+ghost use Rattle.trap_raid.specs.Standing.{calls_for, bare_others};
 
 use trap_bank::{Bank, Failed};
 use trap_block::xor_into;
@@ -33,8 +35,8 @@ pub(crate) fn read_member<B: Bank>(
     ensures bytes { IsTrue (B.view bank.old).tells → OnOk result
         (into.new ≡ member_place g.now (B.view bank.old).now.disks place.row place.member) }
     ensures cause { IfErr result (λ failed. (failed.member ≡ place.member)
-        × HasFailed g.now None (B.view bank.old) (B.view bank.new) failed.member) }
-    ensures cost { Costs 1 (B.view bank.old) (B.view bank.new) }
+        × FailedMember g.now None (B.view bank.old) (B.view bank.new) failed.member) }
+    ensures calls { CalledTimes 1 (B.view bank.old) (B.view bank.new) }
     ensures any_moment { OnlyReads (B.view bank.old) (B.view bank.new) }
 {
     let at = MEMBER_HEADER_BYTES + u64::from(place.row) * u64::from(g.block);
@@ -60,13 +62,15 @@ pub(crate) fn read_standing<B: Bank>(
     requires disk { BareFits g.now stage.now.pending (B.view bank.old) place.row place.member }
     requires into { length into.old ≡ g.now.block }
     ensures bytes { IsTrue (B.view bank.old).tells → OnOk result
-        (into.new ≡ laid_over g.now stage.now.pending (member_place g.now (B.view bank.old).now.disks)
+        (into.new ≡ laid_over g.now stage.now.pending
+        (member_place g.now (B.view bank.old).now.disks)
         place.row place.member) }
     ensures cause { IfErr result (λ failed. (failed.member ≡ place.member)
-        × HasFailed g.now None (B.view bank.old) (B.view bank.new) failed.member) }
+        × FailedMember g.now None (B.view bank.old) (B.view bank.new) failed.member) }
     ensures bare { IfErr result (λ failed.
         newest_at g.now stage.now.pending place.row place.member ≡ None) }
-    ensures cost { Costs (calls_for (newest_at g.now stage.now.pending place.row place.member))
+    ensures calls { CalledTimes
+        (calls_for (newest_at g.now stage.now.pending place.row place.member))
         (B.view bank.old) (B.view bank.new) }
     ensures any_moment { OnlyReads (B.view bank.old) (B.view bank.new) }
 {
@@ -96,15 +100,16 @@ pub(crate) fn read_others<B: Bank>(
     requires into { length into.old ≡ g.now.block }
     requires scratch { length scratch.old ≡ g.now.block }
     ensures others { IsTrue (B.view bank.old).tells → OnOk result (into.new ≡ xor_but g.now.block
-        place.member (laid_over g.now stage.now.pending (member_place g.now (B.view bank.old).now.disks)
+        place.member (laid_over g.now stage.now.pending
+        (member_place g.now (B.view bank.old).now.disks)
         place.row) g.now.members) }
     ensures cause { IfErr result (λ failed.
-        HasFailed g.now (Some place.member) (B.view bank.old) (B.view bank.new) failed.member) }
+        FailedMember g.now (Some place.member) (B.view bank.old) (B.view bank.new) failed.member) }
     ensures bare { IfErr result (λ failed.
         newest_at g.now stage.now.pending place.row failed.member ≡ None) }
-    ensures cost { NonePending g.now stage.now.pending place.row
-        → OnOk result (Costs (g.now.members - 1) (B.view bank.old) (B.view bank.new)) }
-    ensures cost_at_most { CostsAtMost (g.now.members - 1) (B.view bank.old) (B.view bank.new) }
+    ensures calls { TakesCalls
+        (bare_others g.now stage.now.pending place.row place.member g.now.members)
+        result (B.view bank.old) (B.view bank.new) }
     ensures any_moment { OnlyReads (B.view bank.old) (B.view bank.new) }
 {
     into.fill(0);

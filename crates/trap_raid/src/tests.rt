@@ -66,7 +66,7 @@ fn place_bytes(rt: &impl Abort, row: &[u32], member: usize) -> [u8; 16]
     contents(block)
 }
 
-/// Whether the disk is there and has so many bytes.
+/// Whether the disk is there and has that many bytes.
 pub(crate) fn is_long<B: Bank>(bank: &B, d: u8, end: u64) -> bool
     requires { d ≤ 20 }
     ensures { IsTrue result → Fits (B.view bank.now) d end }
@@ -77,7 +77,7 @@ pub(crate) fn is_long<B: Bank>(bank: &B, d: u8, end: u64) -> bool
     }
 }
 
-/// Whether a member is the lost one, or its disk has so many bytes.
+/// Whether a member is the lost one, or its disk has that many bytes.
 fn is_member_long<B: Bank>(bank: &B, lost: Option<u8>, member: u8, end: u64) -> bool
     requires { member < 20 }
     ensures { IsTrue result → lost ≢ Some member → Fits (B.view bank.now) (member + 1) end }
@@ -142,7 +142,8 @@ pub(crate) fn mount_empty<B: Bank>(
     bank: &mut B,
     g: &Geometry,
 ) -> Result<Stage, StageFault>
-    ensures { IfOk result (λ stage. (stage.g ≡ g.now) × (stage.drained ≡ 0) × (stage.pending ≡ [])) }
+    ensures { IfOk result (λ stage. (stage.g ≡ g.now) × (stage.drained ≡ 0)
+        × (stage.pending ≡ [])) }
 {
     assert!(rt; is_long(bank, 0, ring_start(g)));
     Stage::mount(alloc, bank, g, 0, 0)

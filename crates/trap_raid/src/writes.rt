@@ -1,17 +1,16 @@
 //! Writes of the members' places.
 
-ghost use Rattle.std.specs.Prelude.{◌≡◌, ◌↔◌, ◌+◌, ◌<◌, ◌≤◌, ℕ, List, [], ◌∷◌, None, length, IsTrue, OnOk, OnErr, IfErr};
-ghost use Rattle.trap_bank.specs.Calls.{Fits};
-ghost use Rattle.trap_bank.specs.Disks.{Differs, Torn, Within};
-ghost use Rattle.trap_bank.specs.Faults.{Rose};
-ghost use Rattle.trap_bank.specs.Steps.{Moves, PlacedThrough};
+ghost use Rattle.std.specs.Prelude.{◌≡◌, ◌↔◌, ◌<◌, ℕ, List, [], ◌∷◌, None, length, IsTrue, OnOk, IfErr};
+ghost use Rattle.trap_bank.specs.Called.{TakesCalls};
+ghost use Rattle.trap_bank.specs.Disks.{Differs, Torn};
+ghost use Rattle.trap_bank.specs.Steps.{Moves};
 ghost use Rattle.trap_model.specs.Image.{volume};
-ghost use Rattle.trap_raid.specs.Members.{IsPlace, Counts, MembersFit};
-ghost use Rattle.trap_raid.specs.Draining.{Drains, InDrained, InCounted, IsDrainedTo, PlaceWritten, CostsWhole, place_calls, write_calls};
-ghost use Rattle.trap_raid.specs.Reads.{HasFailed};
+ghost use Rattle.trap_raid.specs.Members.{IsPlace, Counts, RowFits, DrainFits};
+ghost use Rattle.trap_raid.specs.Draining.{Drains, InDrained, InCounted, IsDrainedTo, PlaceWritten, place_calls, write_calls};
+ghost use Rattle.trap_raid.specs.Reads.{FailedMember};
 
 use crate::MemberFailed;
-use trap_bank::{Bank, Failed};
+use trap_bank::{Bank, Failed, write_through};
 use trap_format::layout::MEMBER_HEADER_BYTES;
 use trap_map::{Place, parity_of, place_of};
 use trap_model::Geometry;
@@ -21,28 +20,6 @@ fn counts(lost: Option<u8>, rebuilt: u32, place: Place) -> bool
     ensures { IsTrue result ↔ Counts lost rebuilt place.row place.member }
 {
     lost != Some(place.member) || place.row < rebuilt
-}
-
-/// Writes the bytes at a byte offset of a disk, and syncs it.
-fn write_and_sync<B: Bank>(bank: &mut B, d: u8, at: u64, bytes: &[u8]) -> Result<(), Failed>
-    requires disk { d ≤ 20 }
-    requires room { Fits (B.view bank.old) d (at + length bytes.now) }
-    ensures ok { OnOk result (Moves (B.view bank.old) (B.view bank.new)
-        (Differs (Within d at (length bytes.now)))
-        (PlacedThrough (B.view bank.new) d at bytes.now)) }
-    ensures contents { IsTrue (B.view bank.old).tells
-        → Torn (Within d at (length bytes.now)) (B.view bank.old).now (B.view bank.new).now }
-    ensures sizes { (e : ℕ) → (B.view bank.new).sizes e ≡ (B.view bank.old).sizes e }
-    ensures cause { OnErr result (Rose ((B.view bank.old).faults d) ((B.view bank.new).faults d)) }
-    ensures cost { CostsWhole 2 result (B.view bank.old) (B.view bank.new) }
-
-    // Stopped at any moment, nothing outside the range has changed.
-    ensures any_moment { Moves (B.view bank.old) (B.view bank.new)
-        (Differs (Within d at (length bytes.now))) (Differs (Within d at (length bytes.now))) }
-{
-    bank.write(d, at, bytes)?;
-    bank.sync(d)?;
-    Ok(())
 }
 
 /// Writes the bytes of a place, where it counts.
@@ -56,7 +33,8 @@ pub(crate) fn write_place<B: Bank>(
 ) -> Result<(), MemberFailed>
     requires place { IsPlace g.now place }
     requires size { length bytes.now ≡ g.now.block }
-    requires disks { MembersFit g.now lost rebuilt (B.view bank.old) }
+    requires disk { Counts lost rebuilt place.row place.member
+        → RowFits g.now (B.view bank.old) place.row place.member }
     ensures ok { OnOk result (Moves (B.view bank.old) (B.view bank.new)
         (Differs (InCounted g.now lost rebuilt place.row place.member))
         (PlaceWritten g.now lost rebuilt place.row place.member bytes.now)) }
@@ -65,10 +43,10 @@ pub(crate) fn write_place<B: Bank>(
         (B.view bank.old).now (B.view bank.new).now }
     ensures sizes { (e : ℕ) → (B.view bank.new).sizes e ≡ (B.view bank.old).sizes e }
     ensures cause { IfErr result (λ failed.
-        HasFailed g.now None (B.view bank.old) (B.view bank.new) failed.member) }
+        FailedMember g.now None (B.view bank.old) (B.view bank.new) failed.member) }
     ensures place { IfErr result (λ failed.
         (failed.member ≡ place.member) × Counts lost rebuilt place.row place.member) }
-    ensures cost { CostsWhole (place_calls lost rebuilt place.row place.member) result
+    ensures calls { TakesCalls (place_calls lost rebuilt place.row place.member) result
         (B.view bank.old) (B.view bank.new) }
 
     // Stopped at any moment, no other place has changed, nor this one where it doesn't count.
@@ -81,7 +59,7 @@ pub(crate) fn write_place<B: Bank>(
     }
     let at = MEMBER_HEADER_BYTES + u64::from(place.row) * u64::from(g.block);
     // The place is stable before the head has the write drained, and its slot may be filled again.
-    match write_and_sync(bank, place.member + 1, at, bytes) {
+    match write_through(bank, place.member + 1, at, bytes) {
         Ok(()) => Ok(()),
         Err(Failed) => Err(MemberFailed {
             member: place.member,
@@ -102,22 +80,35 @@ pub(crate) fn write_slot<B: Bank>(
     requires block { block < volume g.now }
     requires size { length bytes.now ≡ g.now.block }
     requires parity_size { length parity.now ≡ g.now.block }
-    requires disks { MembersFit g.now lost rebuilt (B.view bank.old) }
+    requires disks { DrainFits g.now lost rebuilt
+        ((record {
+          block = block;
+          bytes = bytes.now;
+          parity = parity.now;
+        }) ∷ []) (B.view bank.old) }
     ensures ok { OnOk result (Moves (B.view bank.old) (B.view bank.new)
         (Differs (InDrained g.now lost rebuilt
         ((record { block = block; bytes = bytes.now; parity = parity.now }) ∷ [])))
-        (Drains g.now lost rebuilt ((record { block = block; bytes = bytes.now; parity = parity.now }) ∷ []))) }
+        (Drains g.now lost rebuilt ((record {
+          block = block;
+          bytes = bytes.now;
+          parity = parity.now;
+        }) ∷ []))) }
     ensures contents { IsTrue (B.view bank.old).tells
         → Torn (InDrained g.now lost rebuilt
         ((record { block = block; bytes = bytes.now; parity = parity.now }) ∷ []))
         (B.view bank.old).now (B.view bank.new).now }
     ensures sizes { (e : ℕ) → (B.view bank.new).sizes e ≡ (B.view bank.old).sizes e }
     ensures cause { IfErr result (λ failed.
-        HasFailed g.now None (B.view bank.old) (B.view bank.new) failed.member) }
+        FailedMember g.now None (B.view bank.old) (B.view bank.new) failed.member) }
     ensures place { IfErr result (λ failed. IsDrainedTo g.now lost rebuilt
         ((record { block = block; bytes = bytes.now; parity = parity.now }) ∷ []) failed.member) }
-    ensures cost { CostsWhole
-        (write_calls g.now lost rebuilt (record { block = block; bytes = bytes.now; parity = parity.now }))
+    ensures calls { TakesCalls
+        (write_calls g.now lost rebuilt (record {
+          block = block;
+          bytes = bytes.now;
+          parity = parity.now;
+        }))
         result (B.view bank.old) (B.view bank.new) }
 
     // Stopped at any moment, no byte has changed but in those of these two places that count.

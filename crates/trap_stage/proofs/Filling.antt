@@ -10,7 +10,7 @@ use Rattle.trap_model.specs.Image.{volume}
 use Rattle.trap_model.specs.declared.numbers.Geometry.{Geometry}
 use Rattle.trap_stage.specs.Staged.{Staged, IsStaged}
 use Rattle.trap_stage.specs.Slots.{slot_start, slot_area, slot_bytes}
-use Rattle.trap_stage.specs.Held.{slot_held, staged_from, staged_held, writes_held, IsHeld}
+use Rattle.trap_stage.specs.Held.{slot_held, staged_from, staged_held, writes_held, HoldsWrites}
 use Rattle.trap_stage.specs.Mounting.{OthersStay}
 use Rattle.trap_stage.proofs.SlotAreas.{round_apart}
 use Rattle.trap_stage.proofs.HeldSlots.{writes_same}
@@ -37,7 +37,7 @@ others_held g drained last q old new next free others p low high =
     others p (round_apart p q g.slots some (omega arith) (omega arith))
 
 -- whatever stands in it, the pending writes stay
-pub still_held : (g : Geometry) (drained last q : ℕ) (old new : List ℕ) → q ≡ last + 1 → last < drained + g.slots → length new ≡ length old → OthersStay g q old new → IsHeld g drained last old → IsHeld g drained last new
+pub still_held : (g : Geometry) (drained last q : ℕ) (old new : List ℕ) → q ≡ last + 1 → last < drained + g.slots → length new ≡ length old → OthersStay g q old new → HoldsWrites g drained last old → HoldsWrites g drained last new
 still_held g drained last q old new next free len others held = record {
   order = held.order;
   most = held.most;
@@ -52,7 +52,7 @@ still_writes g drained last q old new order next free others =
     writes_same g old new drained (last - drained) (λ p low high. others_held g drained last q old new next free others p low (omega arith))
 
 -- with a write spelled into it there is one more
-pub more_held : (g : Geometry) (drained last q : ℕ) (old new : List ℕ) (staged : Staged) → q ≡ last + 1 → q < 2 ^ 64 → last < drained + g.slots → length new ≡ length old → OthersStay g q old new → slot_held g new q ≡ slot_bytes q staged → IsStaged g staged → IsHeld g drained last old → IsHeld g drained q new
+pub more_held : (g : Geometry) (drained last q : ℕ) (old new : List ℕ) (staged : Staged) → q ≡ last + 1 → q < 2 ^ 64 → last < drained + g.slots → length new ≡ length old → OthersStay g q old new → slot_held g new q ≡ slot_bytes q staged → IsStaged g staged → HoldsWrites g drained last old → HoldsWrites g drained q new
 more_held g drained last q old new staged next fits free len others filled sound held =
     let order = held.order in
     let again : staged_held g new q ≡ staged = ap (λ (l : List ℕ). staged_from g l) filled ∙ staged_again g q staged sound in

@@ -11,7 +11,7 @@ use Rattle.trap_format.specs.LogDisk.{slot_len}
 use Rattle.trap_model.specs.Image.{volume}
 use Rattle.trap_model.specs.declared.numbers.Geometry.{Geometry}
 use Rattle.trap_stage.specs.Staged.{IsStaged}
-use Rattle.trap_stage.specs.Held.{slot_offset, slot_held, staged_from, staged_held, writes_held, IsHeld}
+use Rattle.trap_stage.specs.Held.{slot_offset, slot_held, staged_from, staged_held, writes_held, HoldsWrites}
 use Rattle.trap_stage.specs.Found.{no_write}
 use Rattle.trap_stage.proofs.SlotAreas.{places_apart}
 
@@ -92,7 +92,7 @@ staged_sound g slot len inside = record {
   parity = (let rest = length-drop (12 + g.block) slot in omega arith);
 }
 
-pub held_sound : (g : Geometry) (drained last : ℕ) (slots : List ℕ) (q : ℕ) → IsHeld g drained last slots → drained < q → q ≤ last → IsStaged g (staged_held g slots q)
+pub held_sound : (g : Geometry) (drained last : ℕ) (slots : List ℕ) (q : ℕ) → HoldsWrites g drained last slots → drained < q → q ≤ last → IsStaged g (staged_held g slots q)
 held_sound g drained last slots q held low high = staged_sound g (slot_held g slots q) (length-slot_held g slots q held.size) (held.blocks q low high)
 
 pub length-writes_held : (g : Geometry) (slots : List ℕ) (drained k : ℕ) → length (writes_held g slots drained k) ≡ k

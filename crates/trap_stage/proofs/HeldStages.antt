@@ -6,8 +6,8 @@ use Rattle.std.proofs.lemmas.List.{take_all}
 use Rattle.trap_bank.specs.Disks.{Disks}
 use Rattle.trap_model.specs.declared.numbers.Geometry.{Geometry}
 use Rattle.trap_stage.specs.Slots.{Stage, last_of}
-use Rattle.trap_stage.specs.Held.{staged_held, writes_held, IsHeld, AllSpell}
-use Rattle.trap_stage.specs.Mounting.{AreRead}
+use Rattle.trap_stage.specs.Held.{staged_held, writes_held, HoldsWrites, AllSpell}
+use Rattle.trap_stage.specs.Mounting.{AreSlotsRead}
 use Rattle.trap_stage.specs.Found.{IsFound, IsStage, no_write, staged_numbered}
 use Rattle.trap_stage.proofs.HeldSlots.{length-writes_held, all_sound, held_sound, write_numbered, writes_later}
 use Rattle.trap_stage.proofs.Mounts.{are_held}
@@ -19,7 +19,7 @@ stage_held g drained last slots = record { g = g; drained = drained; pending = w
 pub last_held : (g : Geometry) (drained last : ℕ) (slots : List ℕ) → drained ≤ last → last_of (stage_held g drained last slots) ≡ last
 last_held g drained last slots order = let count = length-writes_held g slots drained (last - drained) in omega arith
 
-pub stage_sound : (g : Geometry) (drained last : ℕ) (slots : List ℕ) → IsHeld g drained last slots → IsStage (stage_held g drained last slots)
+pub stage_sound : (g : Geometry) (drained last : ℕ) (slots : List ℕ) → HoldsWrites g drained last slots → IsStage (stage_held g drained last slots)
 stage_sound g drained last slots held =
     let order = held.order in
     let most = held.most in
@@ -65,7 +65,7 @@ forgotten g drained last drained_to last_to q slots order to end =
         ∙ ap (λ (n : ℕ). writes_held g slots drained_to n) (sym still)
 
 -- a stage whose slots were read is found
-pub held_found : (g : Geometry) (drained last : ℕ) (slots : List ℕ) (disks : Disks) → drained ≤ last → AllSpell g slots drained last → AreRead g slots drained last disks → IsFound g drained last disks (stage_held g drained last slots)
+pub held_found : (g : Geometry) (drained last : ℕ) (slots : List ℕ) (disks : Disks) → drained ≤ last → AllSpell g slots drained last → AreSlotsRead g slots drained last disks → IsFound g drained last disks (stage_held g drained last slots)
 held_found g drained last slots disks order spell read = record {
   g_ = refl;
   drained_ = refl;

@@ -1,8 +1,10 @@
 -- Reading the slots one after the other.
-use Rattle.std.proofs.Common.{◌≡◌, ℕ, zero, suc, ◌+◌, ◌<◌, ◌≤◌, List, length, IsTrue, refl, ap, sym, ◌∙◌, subst, ⊎_elim, arith}
+use Rattle.std.proofs.Common.{◌≡◌, ℕ, zero, suc, ◌+◌, ◌-◌, ◌<◌, ◌≤◌, List, length, IsTrue, refl, ap, sym, ◌∙◌, subst, ⊎_elim, arith}
 use Rattle.std.proofs.lemmas.Bool.{cases_eq}
 use Rattle.trap_bank.specs.Disks.{Disks, Contents, View, region}
 use Rattle.trap_bank.specs.Steps.{Moves, Same}
+use Rattle.trap_bank.specs.Called.{CalledTimes, CalledAtMost}
+use Rattle.trap_bank.proofs.Called.{not_called, called_then, called_at_most}
 use Rattle.trap_bank.proofs.Moves.{same_then, no_moves}
 use Rattle.trap_format.specs.LogDisk.{slot_len}
 use Rattle.trap_model.specs.Image.{volume}
@@ -10,8 +12,8 @@ use Rattle.trap_model.specs.declared.numbers.Geometry.{Geometry}
 use Rattle.trap_stage.specs.Staged.{Staged}
 use Rattle.trap_stage.specs.Slots.{slot_start, slot_bytes, SlotHas, SlotsAre}
 use Rattle.trap_stage.specs.Held.{slot_held, staged_from, staged_held, writes_held, SpellsNumber, AllSpell}
-use Rattle.trap_stage.specs.Mounting.{AreRead, OthersStay}
-use Rattle.trap_stage.specs.Found.{IsSlot, IsDamaged}
+use Rattle.trap_stage.specs.Mounting.{AreSlotsRead, OthersStay}
+use Rattle.trap_stage.specs.Found.{IsSlot, IsDamagedSlot}
 use Rattle.trap_stage.proofs.SlotAreas.{round_apart}
 use Rattle.trap_stage.proofs.HeldSlots.{length-writes_held}
 use Rattle.trap_stage.proofs.HeldSpellings.{staged_again}
@@ -20,10 +22,12 @@ use Rattle.trap_stage.proofs.HeldSpellings.{staged_again}
 pub record ReadsTo (g : Geometry) (drained upto : ℕ) (old new : View) (slots : List ℕ) : Type 0 where
   pub spelled : AllSpell g slots drained upto
   pub blocks : (q : ℕ) → drained < q → q ≤ upto → (staged_held g slots q).block < volume g
-  pub read : IsTrue old.tells → AreRead g slots drained upto old.now.disks
+  pub read : IsTrue old.tells → AreSlotsRead g slots drained upto old.now.disks
   pub contents : IsTrue old.tells → new.now ≡ old.now
   pub sizes : (e : ℕ) → new.sizes e ≡ old.sizes e
   pub moves : Moves old new Same Same
+  pub order : drained ≤ upto
+  pub calls : CalledTimes (upto - drained) old new
 
 pub reads_none : (g : Geometry) (drained : ℕ) (v : View) (slots : List ℕ) → ReadsTo g drained drained v v slots
 reads_none g drained v slots = record {
@@ -33,6 +37,8 @@ reads_none g drained v slots = record {
   contents = λ told. refl;
   sizes = λ e. refl;
   moves = no_moves v Same Same (λ x was. refl);
+  order = omega arith;
+  calls = subst (λ (n : ℕ). CalledTimes n v v) (omega arith) (not_called v);
 }
 
 -- what reading one more slot gives
@@ -44,6 +50,7 @@ pub record ReadsOne (g : Geometry) (q : ℕ) (old new : View) (before after : Li
   pub contents : IsTrue old.tells → new.now ≡ old.now
   pub sizes : (e : ℕ) → new.sizes e ≡ old.sizes e
   pub moves : Moves old new Same Same
+  pub calls : CalledTimes 1 old new
 
 -- each number before the next one, or that one itself
 next_or : (P : ℕ → Type 0) (drained upto q : ℕ) → P (upto + 1) → ((p : ℕ) → drained < p → p ≤ upto → P p) → drained < q → q ≤ upto + 1 → P q
@@ -64,6 +71,8 @@ reads_more g drained upto a b c before after round to one = record {
   contents = λ told. one.contents (below told) ∙ to.contents told;
   sizes = λ e. one.sizes e ∙ to.sizes e;
   moves = same_then a b c to.moves one.moves;
+  order = (let order = to.order in omega arith);
+  calls = subst (λ (n : ℕ). CalledTimes n a c) (let order = to.order in omega arith) (called_then (upto - drained) 1 a b c to.calls one.calls);
 }
   where
     below : IsTrue a.tells → IsTrue b.tells
@@ -74,12 +83,17 @@ reads_more g drained upto a b c before after round to one = record {
         let some : 0 < g.slots = omega (arith, g.within.slots_least) in
         one.others p (round_apart p (upto + 1) g.slots some (omega arith) (omega arith))
 
+-- where one more read fails, no more calls were made than there are slots to read
+pub calls_most : (g : Geometry) (drained upto last : ℕ) (a b c : View) (slots : List ℕ) → upto + 1 ≤ last → ReadsTo g drained upto a b slots → CalledTimes 1 b c → CalledAtMost (last - drained) a c
+calls_most g drained upto last a b c slots high to one =
+    called_at_most (upto - drained + 1) (last - drained) a c (let order = to.order in omega arith) (called_then (upto - drained) 1 a b c to.calls one)
+
 -- a slot that was read and spells a write holds one
 pub read_is_slot : (g : Geometry) (q : ℕ) (slots : List ℕ) (disks : Disks) → SpellsNumber g q (slot_held g slots q) → slot_held g slots q ≡ region disks 0 (slot_start g q) (slot_len g) → IsSlot g q disks
 read_is_slot g q slots disks spelled read = (spelled.0, spelled.1, sym read ∙ spelled.2)
 
--- the first damaged slot is that of the number behind those that were read
-pub damaged_next : (g : Geometry) (drained upto last : ℕ) (a b : View) (slots : List ℕ) (offset : ℕ) → drained ≤ upto → upto + 1 ≤ last → ReadsTo g drained upto a b slots → IsTrue a.tells → (IsTrue b.tells → (IsSlot g (upto + 1) b.now.disks → ⊥) × (offset ≡ slot_start g (upto + 1))) → IsDamaged g drained last a.now.disks offset
+-- the first damaged slot is that of the number after those that were read
+pub damaged_next : (g : Geometry) (drained upto last : ℕ) (a b : View) (slots : List ℕ) (offset : ℕ) → drained ≤ upto → upto + 1 ≤ last → ReadsTo g drained upto a b slots → IsTrue a.tells → (IsTrue b.tells → (IsSlot g (upto + 1) b.now.disks → ⊥) × (offset ≡ slot_start g (upto + 1))) → IsDamagedSlot g drained last a.now.disks offset
 damaged_next g drained upto last a b slots offset low high to told why =
     let damaged = why (subst IsTrue (sym to.moves.tells) told) in
     record {
@@ -92,7 +106,7 @@ damaged_next g drained upto last a b slots offset low high to told why =
     }
 
 -- the slots hold the writes that are read from memory
-pub are_held : (g : Geometry) (slots : List ℕ) (drained k last : ℕ) (disks : Disks) → drained + k ≤ last → AllSpell g slots drained last → AreRead g slots drained last disks → SlotsAre g drained (writes_held g slots drained k) disks
+pub are_held : (g : Geometry) (slots : List ℕ) (drained k last : ℕ) (disks : Disks) → drained + k ≤ last → AllSpell g slots drained last → AreSlotsRead g slots drained last disks → SlotsAre g drained (writes_held g slots drained k) disks
 are_held g slots drained zero last disks high spell read = tt
 are_held g slots drained (suc k) last disks high spell read =
     let q = drained + suc k in

@@ -7,7 +7,7 @@ use Rattle.trap_bank.specs.Disks.{Disks}
 use Rattle.trap_model.specs.declared.numbers.Geometry.{Geometry}
 use Rattle.trap_stage.specs.Staged.{Staged, IsStaged}
 use Rattle.trap_stage.specs.Slots.{Stage, slot_start, SlotHas, SlotsAre}
-use Rattle.trap_stage.specs.Found.{IsSlot, IsDamaged, IsFound}
+use Rattle.trap_stage.specs.Found.{IsSlot, IsDamagedSlot, IsFound}
 use Rattle.trap_stage.proofs.SlotSpellings.{slots_same, stage_with}
 
 -- slots that hold writes of the array are sound, each of them
@@ -19,7 +19,7 @@ each_is_slot g drained (x ∷ xs) disks all are q low high = ⊎_elim
     (cases_eq q (drained + length xs + 1))
 
 -- where a stage is found no slot is damaged
-pub found_not_damaged : (g : Geometry) (drained last : ℕ) (disks : Disks) (stage : Stage) (offset : ℕ) → All (IsStaged g) stage.pending → IsFound g drained last disks stage → IsDamaged g drained last disks offset → ⊥
+pub found_not_damaged : (g : Geometry) (drained last : ℕ) (disks : Disks) (stage : Stage) (offset : ℕ) → All (IsStaged g) stage.pending → IsFound g drained last disks stage → IsDamagedSlot g drained last disks offset → ⊥
 found_not_damaged g drained last disks stage offset all found damaged =
     let low = damaged.low in
     let high = damaged.high in
@@ -38,7 +38,7 @@ found_same g drained last disks a b all_a all_b found_a found_b =
     ap (λ k. stage_with k a.drained a.pending) geometry ∙ ap (λ n. stage_with b.g n a.pending) number ∙ ap (λ ws. stage_with b.g b.drained ws) pending
 
 -- one slot is the first that is damaged
-pub first_damaged : (g : Geometry) (drained last : ℕ) (disks : Disks) (a b : ℕ) → IsDamaged g drained last disks a → IsDamaged g drained last disks b → a ≡ b
+pub first_damaged : (g : Geometry) (drained last : ℕ) (disks : Disks) (a b : ℕ) → IsDamagedSlot g drained last disks a → IsDamagedSlot g drained last disks b → a ≡ b
 first_damaged g drained last disks a b first second = ⊎_elim
     (λ (same : first.number ≡ second.number). first.place ∙ ap (λ (n : ℕ). slot_start g n) same ∙ sym second.place)
     (λ apart. ⊎_elim

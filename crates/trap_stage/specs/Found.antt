@@ -19,7 +19,8 @@ IsSlot g q disks = (staged : Staged) × IsStaged g staged × SlotHas g q staged 
 
 -- the slot of a number above the drained ones is the first that doesn't hold a write of the array
 -- with its number, and it begins at this offset of disk 0
-pub record IsDamaged (g : Geometry) (drained last : ℕ) (disks : Disks) (offset : ℕ) : Type 0 where
+pub record IsDamagedSlot (g : Geometry) (drained last : ℕ) (disks : Disks) (offset : ℕ)
+    : Type 0 where
   pub number : ℕ
   pub low : drained < number
   pub high : number ≤ last

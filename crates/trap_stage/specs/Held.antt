@@ -27,13 +27,14 @@ staged_from g slot = record {
 abbrev pub staged_held : Geometry → List ℕ → ℕ → Staged
 staged_held g slots q = staged_from g (slot_held g slots q)
 
--- those of so many numbers above one, the newest first
+-- those of that many numbers above one, the newest first
 abbrev pub writes_held : Geometry → List ℕ → ℕ → ℕ → List Staged
 writes_held g slots drained zero = []
-writes_held g slots drained (suc k) = staged_held g slots (drained + suc k) ∷ writes_held g slots drained k
+writes_held g slots drained (suc k) =
+    staged_held g slots (drained + suc k) ∷ writes_held g slots drained k
 
--- so many slots, and a write of the array in each of the numbers above `drained` and up to `last`
-pub record IsHeld (g : Geometry) (drained last : ℕ) (slots : List ℕ) : Type 0 where
+-- that many slots, and a write of the array in each of the numbers above `drained` and up to `last`
+pub record HoldsWrites (g : Geometry) (drained last : ℕ) (slots : List ℕ) : Type 0 where
   pub order : drained ≤ last
   pub most : last ≤ drained + g.slots
   pub last_most : last < 2 ^ 64
@@ -46,4 +47,5 @@ SpellsNumber g q slot = (staged : Staged) × IsStaged g staged × (slot ≡ slot
 
 -- the slots of the numbers above one and up to another are such spellings
 abbrev pub AllSpell : Geometry → List ℕ → ℕ → ℕ → Type 0
-AllSpell g slots drained upto = (q : ℕ) → drained < q → q ≤ upto → SpellsNumber g q (slot_held g slots q)
+AllSpell g slots drained upto = (q : ℕ) → drained < q → q ≤ upto
+    → SpellsNumber g q (slot_held g slots q)

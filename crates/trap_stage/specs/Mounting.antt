@@ -7,9 +7,10 @@ use Rattle.trap_stage.specs.Slots.{slot_start}
 use Rattle.trap_stage.specs.Held.{slot_held}
 
 -- the slots in memory of the numbers above one and up to another are those of disk 0
-abbrev pub AreRead : Geometry → List ℕ → ℕ → ℕ → Disks → Type 0
-AreRead g slots drained upto disks =
-    (q : ℕ) → drained < q → q ≤ upto → slot_held g slots q ≡ region disks 0 (slot_start g q) (slot_len g)
+abbrev pub AreSlotsRead : Geometry → List ℕ → ℕ → ℕ → Disks → Type 0
+AreSlotsRead g slots drained upto disks =
+    (q : ℕ) → drained < q → q ≤ upto → slot_held g slots q
+    ≡ region disks 0 (slot_start g q) (slot_len g)
 
 -- no slot in memory has changed but that of this number
 abbrev pub OthersStay : Geometry → ℕ → List ℕ → List ℕ → Type 0

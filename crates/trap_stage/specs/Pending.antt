@@ -21,7 +21,7 @@ staged_in g image entry = record {
 abbrev pub staged_of : Geometry → State → ℕ → Staged
 staged_of g s q = staged_in g (image_at s q) (entry_at s q)
 
--- of so many writes above a number, the newest first
+-- of that many writes above a number, the newest first
 abbrev pub staged_above : Geometry → State → ℕ → ℕ → List Staged
 staged_above g s drained zero = []
 staged_above g s drained (suc k) = staged_of g s (drained + suc k) ∷ staged_above g s drained k

@@ -19,7 +19,8 @@ slot_area g q = Within 0 (slot_start g q) (slot_len g)
 
 -- a slot's bytes: the write's number, its block, the block's new bytes, and the parity of its row
 abbrev pub slot_bytes : ℕ → Staged → List ℕ
-slot_bytes q staged = to_be_bytes w64 q ++ to_be_bytes w32 staged.block ++ (staged.bytes ++ staged.parity)
+slot_bytes q staged = to_be_bytes w64 q ++ to_be_bytes w32 staged.block
+    ++ (staged.bytes ++ staged.parity)
 
 -- the slot of number q holds this
 abbrev pub SlotHas : Geometry → ℕ → Staged → Disks → Type 0
@@ -27,9 +28,10 @@ SlotHas g q staged disks = region disks 0 (slot_start g q) (slot_len g) ≡ slot
 
 -- the slots of all writes above number `drained` hold them
 abbrev pub SlotsHold : Geometry → State → ℕ → Disks → Type 0
-SlotsHold g s drained disks = (q : ℕ) → drained < q → q ≤ last s → SlotHas g q (staged_of g s q) disks
+SlotsHold g s drained disks = (q : ℕ) → drained < q → q ≤ last s
+    → SlotHas g q (staged_of g s q) disks
 
--- the slots hold these writes, the newest first, of which the oldest has the number behind
+-- the slots hold these writes, the newest first, of which the oldest has the number after
 -- `drained`
 abbrev pub SlotsAre : Geometry → ℕ → List Staged → Disks → Type 0
 SlotsAre g drained [] disks = Unit {0}

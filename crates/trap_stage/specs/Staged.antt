@@ -32,7 +32,8 @@ staged_at g staged row member =
 -- the newest pending bytes of a place, where the newest write stands first
 abbrev pub newest_at : Geometry → List Staged → ℕ → ℕ → Option (List ℕ)
 newest_at g [] row member = None
-newest_at g (staged ∷ older) row member = option_or (staged_at g staged row member) (newest_at g older row member)
+newest_at g (staged ∷ older) row member =
+    option_or (staged_at g staged row member) (newest_at g older row member)
 
 -- the places with the pending bytes laid over them
 abbrev pub laid_over : Geometry → List Staged → (ℕ → ℕ → List ℕ) → ℕ → ℕ → List ℕ
@@ -41,19 +42,22 @@ laid_over g writes place row member = unwrap_or (newest_at g writes row member) 
 -- the image after these writes, the newest first
 abbrev pub image_after_writes : List (List ℕ) → List Staged → List (List ℕ)
 image_after_writes before [] = before
-image_after_writes before (staged ∷ older) = slice_set (image_after_writes before older) staged.block staged.bytes
+image_after_writes before (staged ∷ older) =
+    slice_set (image_after_writes before older) staged.block staged.bytes
 
 -- each write is of a block of the array, and its parity is that of the table right after it
 abbrev pub AreWrites : Geometry → List (List ℕ) → List Staged → Type 0
 AreWrites g before [] = Unit {0}
 AreWrites g before (staged ∷ older) =
     (staged.block < volume g) × (length staged.bytes ≡ g.block)
-    × (staged.parity ≡ row_parity g (image_after_writes before (staged ∷ older)) (block_place g staged.block).row)
+    × (staged.parity
+    ≡ row_parity g (image_after_writes before (staged ∷ older)) (block_place g staged.block).row)
     × AreWrites g before older
 
 -- The places stand for the table of an image: pending bytes are the table's, and where none are
 -- pending, so are the bytes of each trusted place.
-abbrev pub StandWhere : Geometry → (ℕ → ℕ → Type 0) → List Staged → (ℕ → ℕ → List ℕ) → List (List ℕ) → Type 0
+abbrev pub StandWhere : Geometry → (ℕ → ℕ → Type 0) → List Staged → (ℕ → ℕ → List ℕ) → List (List ℕ)
+    → Type 0
 StandWhere g IsTrusted writes place image =
     (row member : ℕ) → row < g.rows → member < g.members
     → MatchOption (newest_at g writes row member)

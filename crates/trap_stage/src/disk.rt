@@ -1,8 +1,9 @@
 //! The slots of disk 0: read into memory, and filled.
 
-ghost use Rattle.std.specs.Prelude.{◌≡◌, ◌+◌, ◌*◌, ◌<◌, ◌≤◌, ℕ, length};
+ghost use Rattle.std.specs.Prelude.{◌≡◌, ◌+◌, ◌-◌, ◌*◌, ◌<◌, ◌≤◌, ℕ, length};
 ghost use Rattle.std.specs.Prelude.{IsTrue, OnOk, OnErr, IsErrOf};
 ghost use Rattle.trap_bank.specs.Faults.{Rose};
+ghost use Rattle.trap_bank.specs.Called.{CalledTimes, TakesCalls};
 ghost use Rattle.trap_bank.specs.Calls.{Fits};
 ghost use Rattle.trap_bank.specs.Disks.{Differs, Torn, region};
 ghost use Rattle.trap_bank.specs.Steps.{Moves, Same};
@@ -10,8 +11,8 @@ ghost use Rattle.trap_format.specs.LogDisk.{slot_len, ring_at};
 ghost use Rattle.trap_model.specs.Image.{volume};
 ghost use Rattle.trap_stage.specs.Slots.{slot_start, slot_area, slot_bytes, SlotHas};
 ghost use Rattle.trap_stage.specs.Held.{slot_held, staged_held, SpellsNumber, AllSpell};
-ghost use Rattle.trap_stage.specs.Mounting.{AreRead, OthersStay};
-ghost use Rattle.trap_stage.specs.Found.{IsSlot, IsDamaged};
+ghost use Rattle.trap_stage.specs.Mounting.{AreSlotsRead, OthersStay};
+ghost use Rattle.trap_stage.specs.Found.{IsSlot, IsDamagedSlot};
 
 use crate::StageFault;
 use crate::slots::{held, is_spelled, slot_len, slot_offset, spell};
@@ -43,6 +44,7 @@ fn read_slot<B: Bank>(
     ensures sizes { (e : ℕ) → (B.view bank.new).sizes e ≡ (B.view bank.old).sizes e }
     ensures cause { IsErrOf result StageFault.DiskFault
         → Rose ((B.view bank.old).faults 0) ((B.view bank.new).faults 0) }
+    ensures calls { CalledTimes 1 (B.view bank.old) (B.view bank.new) }
     ensures any_moment { Moves (B.view bank.old) (B.view bank.new) Same Same }
 {
     let at = slot_offset(g, seq);
@@ -67,18 +69,19 @@ pub(crate) fn read_slots<B: Bank>(
     requires size { length slots.old ≡ g.now.slots * slot_len g.now }
     requires there { Fits (B.view bank.old) 0 (ring_at g.now) }
     ensures read { IsTrue (B.view bank.old).tells
-        → OnOk result (AreRead g.now slots.new drained last (B.view bank.old).now.disks) }
+        → OnOk result (AreSlotsRead g.now slots.new drained last (B.view bank.old).now.disks) }
     ensures spelled { OnOk result (AllSpell g.now slots.new drained last) }
     ensures blocks { OnOk result ((q : ℕ) → drained < q → q ≤ last
         → (staged_held g.now slots.new q).block < volume g.now) }
     ensures damaged { (offset : ℕ) → IsErrOf result (StageFault.Damaged offset)
         → IsTrue (B.view bank.old).tells
-        → IsDamaged g.now drained last (B.view bank.old).now.disks offset }
+        → IsDamagedSlot g.now drained last (B.view bank.old).now.disks offset }
     ensures contents { IsTrue (B.view bank.old).tells
         → (B.view bank.new).now ≡ (B.view bank.old).now }
     ensures sizes { (e : ℕ) → (B.view bank.new).sizes e ≡ (B.view bank.old).sizes e }
     ensures cause { IsErrOf result StageFault.DiskFault
         → Rose ((B.view bank.old).faults 0) ((B.view bank.new).faults 0) }
+    ensures calls { TakesCalls (last - drained) result (B.view bank.old) (B.view bank.new) }
     ensures any_moment { Moves (B.view bank.old) (B.view bank.new) Same Same }
 {
     for older in drained..last {
@@ -111,6 +114,7 @@ pub(crate) fn fill_slot<B: Bank>(
         → Torn (slot_area g.now seq) (B.view bank.old).now (B.view bank.new).now }
     ensures sizes { (e : ℕ) → (B.view bank.new).sizes e ≡ (B.view bank.old).sizes e }
     ensures cause { OnErr result (Rose ((B.view bank.old).faults 0) ((B.view bank.new).faults 0)) }
+    ensures calls { CalledTimes 1 (B.view bank.old) (B.view bank.new) }
     ensures any_moment { Moves (B.view bank.old) (B.view bank.new)
         (Differs (slot_area g.now seq)) (Differs (slot_area g.now seq)) }
 {

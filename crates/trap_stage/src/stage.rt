@@ -3,14 +3,15 @@
 ghost use Rattle.std.specs.Prelude.{◌≡◌, ◌+◌, ◌-◌, ◌<◌, ◌≤◌, ℕ, ◌∷◌, length, take, max, Some, None};
 ghost use Rattle.std.specs.Prelude.{IsTrue, OnOk, OnErr, IfOk, IsErrOf, IfSome, IfNone};
 ghost use Rattle.trap_bank.specs.Faults.{Rose};
+ghost use Rattle.trap_bank.specs.Called.{CalledTimes, TakesCalls};
 ghost use Rattle.trap_bank.specs.Disks.{Differs, Torn};
 ghost use Rattle.trap_bank.specs.Calls.{Fits};
-ghost use Rattle.trap_bank.specs.Steps.{Moves, Same};
+ghost use Rattle.trap_bank.specs.Steps.{Moves, OnlyReads};
 ghost use Rattle.trap_format.specs.LogDisk.{ring_at};
 ghost use Rattle.trap_model.specs.Image.{volume};
 ghost use Rattle.trap_stage.specs.Staged.{newest_at, IsStaged};
 ghost use Rattle.trap_stage.specs.Slots.{slot_area, SlotHas, last_of};
-ghost use Rattle.trap_stage.specs.Found.{IsFound, IsDamaged, IsStage, staged_numbered};
+ghost use Rattle.trap_stage.specs.Found.{IsFound, IsDamagedSlot, IsStage, staged_numbered};
 
 use crate::StageFault;
 use crate::disk::{fill_slot, read_slots};
@@ -35,7 +36,7 @@ pub struct Stage {
 impl Model for Stage {
     ghost use Rattle.std.specs.Prelude.{◌-◌};
     ghost use Rattle.trap_stage.specs.Slots as seen;
-    ghost use Rattle.trap_stage.specs.Held.{writes_held, IsHeld};
+    ghost use Rattle.trap_stage.specs.Held.{writes_held, HoldsWrites};
 
     ghost Value = { seen.Stage };
 
@@ -45,7 +46,7 @@ impl Model for Stage {
       pending = writes_held t.g t.slots.items t.drained (t.last - t.drained);
     } };
 
-    ghost invariant = { λ t. IsHeld t.g t.drained t.last t.slots.items };
+    ghost invariant = { λ t. HoldsWrites t.g t.drained t.last t.slots.items };
 }
 
 impl Stage {
@@ -66,17 +67,17 @@ impl Stage {
         ensures numbers { IfOk result (λ stage.
             (stage.g ≡ g.now) × (stage.drained ≡ drained) × (last_of stage ≡ last)) }
         ensures stage { IfOk result (λ stage. IsStage stage) }
-        ensures contents { IsTrue (B.view bank.old).tells
-            → (B.view bank.new).now ≡ (B.view bank.old).now }
-        ensures sizes { (e : ℕ) → (B.view bank.new).sizes e ≡ (B.view bank.old).sizes e }
+        ensures reads { OnlyReads (B.view bank.old) (B.view bank.new) }
+
+        // One read for each slot.
+        ensures calls { TakesCalls (last - drained) result (B.view bank.old) (B.view bank.new) }
 
         // The first slot that holds no write of the array with its own number.
         ensures damaged { (offset : ℕ) → IsErrOf result (StageFault.Damaged offset)
             → IsTrue (B.view bank.old).tells
-            → IsDamaged g.now drained last (B.view bank.old).now.disks offset }
+            → IsDamagedSlot g.now drained last (B.view bank.old).now.disks offset }
         ensures cause { IsErrOf result StageFault.DiskFault
             → Rose ((B.view bank.old).faults 0) ((B.view bank.new).faults 0) }
-        ensures any_moment { Moves (B.view bank.old) (B.view bank.new) Same Same }
     {
         let mut slots = vec![in alloc; 0; slots_len(g)]?;
         read_slots(bank, g, drained, last, slots.as_mut_slice())?;
@@ -117,6 +118,9 @@ impl Stage {
         ensures err { OnErr result (self.new ≡ self.old) }
         ensures cause { OnErr result
             (Rose ((B.view bank.old).faults 0) ((B.view bank.new).faults 0)) }
+
+        // One write, and no sync.
+        ensures calls { CalledTimes 1 (B.view bank.old) (B.view bank.new) }
 
         // Stopped at any moment, no byte but those of that one slot has changed.
         ensures any_moment { Moves (B.view bank.old) (B.view bank.new)

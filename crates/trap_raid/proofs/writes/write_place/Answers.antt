@@ -1,15 +1,14 @@
 use Rattle.std.proofs.Common.{◌≡◌, ◌+◌, ◌*◌, ap, ◌∙◌, arith, rules}
 use Rattle.trap_format.specs.MemberDisk.{row_at}
 use Rattle.trap_raid.specs.Members.{Counts}
-use Rattle.trap_raid.proofs.FitLemmas.{row_fits}
 use Rattle.trap_raid.proofs.DrainSteps.{counted_step, counted_written}
 use Rattle.trap_raid.proofs.writes.write_place.Goals as goal
 
--- the place counts, so that its disk has all rows
-pub write_and_sync-requires-clause-room : goal.write_and_sync-requires-clause-room
-write_and_sync-requires-clause-room g c =
+-- the place counts, so that its disk reaches to the end of the row
+pub write_through-requires-clause-room : goal.write_through-requires-clause-room
+write_through-requires-clause-room g c =
     let counts : Counts c.args.lost c.args.rebuilt c.args.place.row c.args.place.member = search rules in
-    let there = row_fits c.args.g.now c.args.lost c.args.rebuilt (g.B.Bank.view c.args.bank.now) c.args.place.row c.args.place.member c.requires.disks c.requires.place.row c.requires.place.member counts in
+    let there = c.requires.disk counts in
     let at : 16 + c.from.result * c.from-2.result ≡ row_at c.args.g.now c.args.place.row =
     ap (λ r. 16 + r * c.from-2.result) c.from.ensures ∙ ap (λ b. 16 + c.args.place.row * b) c.from-2.ensures in
     (there.0, there.1, omega (arith, there.2, at, c.requires.size))
@@ -21,7 +20,7 @@ returns-in-Ok-clause-ok g c =
     let at : 16 + c.from.result * c.from-2.result ≡ row_at c.args.g.now c.args.place.row =
     ap (λ r. 16 + r * c.from-2.result) c.from.ensures ∙ ap (λ b. 16 + c.args.place.row * b) c.from-2.ensures in
     counted_written c.args.g.now c.args.lost c.args.rebuilt c.args.place.row c.args.place.member (16 + c.from.result * c.from-2.result) c.args.bytes.now counts at c.requires.size
-    (g.B.Bank.view c.args.bank.now) (g.B.Bank.view c.write_and_sync.new.bank) c.in-Ok.ensures.ok
+    (g.B.Bank.view c.args.bank.now) (g.B.Bank.view c.write_through.new.bank) c.in-Ok.ensures.ok
 
 pub returns-in-Ok-clause-any_moment : goal.returns-in-Ok-clause-any_moment
 returns-in-Ok-clause-any_moment g c =
@@ -29,7 +28,7 @@ returns-in-Ok-clause-any_moment g c =
     let at : 16 + c.from.result * c.from-2.result ≡ row_at c.args.g.now c.args.place.row =
     ap (λ r. 16 + r * c.from-2.result) c.from.ensures ∙ ap (λ b. 16 + c.args.place.row * b) c.from-2.ensures in
     counted_step c.args.g.now c.args.lost c.args.rebuilt c.args.place.row c.args.place.member (16 + c.from.result * c.from-2.result) c.args.bytes.now counts at c.requires.size
-    (g.B.Bank.view c.args.bank.now) (g.B.Bank.view c.write_and_sync.new.bank) c.write_and_sync.ensures.any_moment
+    (g.B.Bank.view c.args.bank.now) (g.B.Bank.view c.write_through.new.bank) c.write_through.ensures.any_moment
 
 pub returns-in-Err-clause-any_moment : goal.returns-in-Err-clause-any_moment
 returns-in-Err-clause-any_moment g c =
@@ -37,4 +36,4 @@ returns-in-Err-clause-any_moment g c =
     let at : 16 + c.from.result * c.from-2.result ≡ row_at c.args.g.now c.args.place.row =
     ap (λ r. 16 + r * c.from-2.result) c.from.ensures ∙ ap (λ b. 16 + c.args.place.row * b) c.from-2.ensures in
     counted_step c.args.g.now c.args.lost c.args.rebuilt c.args.place.row c.args.place.member (16 + c.from.result * c.from-2.result) c.args.bytes.now counts at c.requires.size
-    (g.B.Bank.view c.args.bank.now) (g.B.Bank.view c.write_and_sync.new.bank) c.write_and_sync.ensures.any_moment
+    (g.B.Bank.view c.args.bank.now) (g.B.Bank.view c.write_through.new.bank) c.write_through.ensures.any_moment

@@ -32,6 +32,7 @@ loop-older-preserved g c =
       contents = c.read_slot.ensures.contents;
       sizes = c.read_slot.ensures.sizes;
       moves = c.read_slot.ensures.any_moment;
+      calls = c.read_slot.ensures.calls;
     } in
     reads_more c.args.g.now c.args.drained c.loop-older.older _ _ _ _ _ (omega arith) c.loop-older.invariant one
 

@@ -3,7 +3,7 @@ use Rattle.std.proofs.lemmas.Result.{on_ok_weaker}
 use Rattle.trap_model.specs.Image.{IsImage}
 use Rattle.trap_map.specs.Table.{table}
 use Rattle.trap_raid.specs.Condition.{Condition}
-use Rattle.trap_raid.specs.Members.{IsPlace, StandFor, PlaceFits, member_place}
+use Rattle.trap_raid.specs.Members.{IsPlace, HoldImage, PlaceFits, member_place}
 use Rattle.trap_raid.proofs.TableLemmas.{others_stand}
 use Rattle.trap_raid.proofs.raid.Raid.read_place.Goals as goal
 
@@ -19,7 +19,7 @@ pub returns-then-eq-clause-table : goal.returns-then-eq-clause-table
 returns-then-eq-clause-table g c = λ told image is_image.
     let disks = (g.B.Bank.view c.args.bank.now).now.disks in
     let writes = c.args.stage.now.pending in
-    let P : Condition → Type 0 = λ k. IsImage k.g image → StandFor k.g k.lost writes (member_place k.g disks) image → OnOk c.read_others.result (c.read_others.new.into ≡ table k.g image c.args.place.row c.args.place.member) in
+    let P : Condition → Type 0 = λ k. IsImage k.g image → HoldImage k.g k.lost writes (member_place k.g disks) image → OnOk c.read_others.result (c.read_others.new.into ≡ table k.g image c.args.place.row c.args.place.member) in
     let Q : Condition → Type 0 = λ k. IsPlace k.g c.args.place in
     let within = subst Q (sym c.self.view_is) c.requires.place in
     let gone : c.self.inside.lost ≡ Some c.args.place.member = search rules in

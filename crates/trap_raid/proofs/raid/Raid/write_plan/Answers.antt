@@ -1,11 +1,13 @@
-use Rattle.std.proofs.Common.{Ok, ◌≡◌, ℕ, ◌<◌, ap, sym, subst, ◌∙◌}
-use Rattle.trap_model.specs.declared.numbers.Geometry.{Geometry}
+use Rattle.std.proofs.Common.{Err, ◌≡◌, ℕ, refl, ap, sym, ◌∙◌, arith, rules}
 use Rattle.trap_map.specs.declared.places.Place.{Place}
 use Rattle.trap_map.specs.Layout.{parity_member, block_place}
 use Rattle.trap_raid.specs.Condition.{Condition}
-use Rattle.trap_raid.proofs.ReadLemmas.{only_reads_then, still_tells, place_fits_along, place_fits_at}
-use Rattle.trap_raid.proofs.TableLemmas.{stand_along, members_apart, plan_from_reads}
-use Rattle.trap_raid.proofs.CostLemmas.{plan_costs}
+use Rattle.trap_raid.proofs.ReadLemmas.{still_tells, place_fits_along, place_fits_at}
+use Rattle.trap_raid.proofs.TableLemmas.{stand_along, plan_from_reads}
+use Rattle.trap_bank.proofs.OnlyReads.{reads_then}
+use Rattle.trap_raid.specs.Standing.{plan_reads}
+use Rattle.trap_raid.proofs.StandingLemmas.{plan_by_reads}
+use Rattle.trap_raid.proofs.CostLemmas.{takes_failed, plan_failed_first, plan_both, plan_done}
 use Rattle.trap_raid.proofs.raid.Raid.write_plan.Goals as goal
 
 -- the row's parity is read where the block's place was found
@@ -22,10 +24,10 @@ read_place-requires-2-clause-disks g c =
     c.place_of-place.result.row c.parity_of.result (sym is_row) (sym is_member) c.requires.disks.parity)
 
 pub returns-in_err-read_place-2-clause-any_moment : goal.returns-in_err-read_place-2-clause-any_moment
-returns-in_err-read_place-2-clause-any_moment g c = only_reads_then _ _ _ c.read_place.ensures.any_moment c.read_place-2.ensures.any_moment
+returns-in_err-read_place-2-clause-any_moment g c = reads_then _ _ _ c.read_place.ensures.any_moment c.read_place-2.ensures.any_moment
 
 pub returns-clause-any_moment : goal.returns-clause-any_moment
-returns-clause-any_moment g c = only_reads_then _ _ _ c.read_place.ensures.any_moment c.read_place-2.ensures.any_moment
+returns-clause-any_moment g c = reads_then _ _ _ c.read_place.ensures.any_moment c.read_place-2.ensures.any_moment
 
 -- the second read finds the disks as the first found them
 pub returns-clause-plan : goal.returns-clause-plan
@@ -43,26 +45,46 @@ returns-clause-plan g c = λ told image is_image stands.
     (c.in_ok-read_place.ensures.table told image is_image stands) c.xor_into.ensures
     (c.in_ok-read_place-2.ensures.table (still_tells old mid c.read_place.ensures.any_moment told) image is_image again) c.xor_into-2.ensures
 
-pub returns-in_err-read_place-2-clause-cost : goal.returns-in_err-read_place-2-clause-cost
-returns-in_err-read_place-2-clause-cost g c =
+-- each read gives what stands there
+pub returns-clause-bytes : goal.returns-clause-bytes
+returns-clause-bytes g c = λ told.
+    let old = g.B.Bank.view c.args.bank.now in
+    let mid = g.B.Bank.view c.read_place.new.bank in
     let is_g : c.self.inside.g ≡ c.args.self.now.g = ap (λ (k : Condition). k.g) c.self.view_is in
-    plan_costs c.args.self.now.g c.args.self.now.lost c.args.stage.now.pending c.args.block c.place_of-place.result.row c.place_of-place.result.member c.parity_of.result
-    c.read_place.result c.read_place-2.result c.from_residual-in_err-read_place-2.result
-    (g.B.Bank.view c.args.bank.now) (g.B.Bank.view c.read_place.new.bank) (g.B.Bank.view c.read_place-2.new.bank)
-    (sym (ap (λ (p : Place). p.row) c.place_of-place.ensures.place ∙ ap (λ (h : Geometry). (block_place h c.args.block).row) is_g))
-    (subst (λ (h : Geometry). c.place_of-place.result.member < h.members) is_g c.place_of-place.ensures.member)
-    (subst (λ (h : Geometry). c.parity_of.result < h.members) is_g c.parity_of.ensures.member)
-    (members_apart c.self.inside.g c.args.block c.place_of-place.result c.parity_of.result c.place_of-place.ensures.place c.parity_of.ensures.parity)
-    c.read_place.ensures.any_moment c.read_place.ensures.cost c.read_place-2.ensures.cost
+    let is_place : c.place_of-place.result ≡ block_place c.args.self.now.g c.args.block = c.place_of-place.ensures.place ∙ ap (λ h. block_place h c.args.block) is_g in
+    let is_member : c.parity_of.result ≡ parity_member c.args.self.now.g c.place_of-place.result.row =
+    c.parity_of.ensures.parity ∙ ap (λ h. parity_member h c.place_of-place.result.row) is_g in
+    plan_by_reads c.args.self.now.g c.args.self.now.lost c.args.stage.now.pending old.now mid.now c.args.block c.place_of-place.result c.parity_of.result c.args.fresh.now
+    c.read_place.new.into c.read_place-2.new.into c.xor_into.new.dst c.xor_into-2.new.dst
+    (c.read_place.ensures.any_moment.same told) is_place is_member
+    (c.in_ok-read_place.ensures.bytes told) c.xor_into.ensures
+    (c.in_ok-read_place-2.ensures.bytes (still_tells old mid c.read_place.ensures.any_moment told)) c.xor_into-2.ensures
 
-pub returns-clause-cost : goal.returns-clause-cost
-returns-clause-cost g c =
+pub returns-in_err-read_place-clause-calls : goal.returns-in_err-read_place-clause-calls
+returns-in_err-read_place-clause-calls g c =
     let is_g : c.self.inside.g ≡ c.args.self.now.g = ap (λ (k : Condition). k.g) c.self.view_is in
-    plan_costs c.args.self.now.g c.args.self.now.lost c.args.stage.now.pending c.args.block c.place_of-place.result.row c.place_of-place.result.member c.parity_of.result
-    c.read_place.result c.read_place-2.result (Ok tt)
-    (g.B.Bank.view c.args.bank.now) (g.B.Bank.view c.read_place.new.bank) (g.B.Bank.view c.read_place-2.new.bank)
-    (sym (ap (λ (p : Place). p.row) c.place_of-place.ensures.place ∙ ap (λ (h : Geometry). (block_place h c.args.block).row) is_g))
-    (subst (λ (h : Geometry). c.place_of-place.result.member < h.members) is_g c.place_of-place.ensures.member)
-    (subst (λ (h : Geometry). c.parity_of.result < h.members) is_g c.parity_of.ensures.member)
-    (members_apart c.self.inside.g c.args.block c.place_of-place.result c.parity_of.result c.place_of-place.ensures.place c.parity_of.ensures.parity)
-    c.read_place.ensures.any_moment c.read_place.ensures.cost c.read_place-2.ensures.cost
+    let is_place : c.place_of-place.result ≡ block_place c.args.self.now.g c.args.block = c.place_of-place.ensures.place ∙ ap (λ h. block_place h c.args.block) is_g in
+    let is : Err c.in_err-read_place.field-0.0 ≡ c.from_residual.result = search rules in
+    plan_failed_first c.args.self.now.g c.args.self.now.lost c.args.stage.now.pending c.args.block c.place_of-place.result (parity_member c.args.self.now.g c.place_of-place.result.row) is_place refl
+    c.read_place.result c.from_residual.result c.in_err-read_place.field-0.0 (g.B.Bank.view c.args.bank.now) (g.B.Bank.view c.read_place.new.bank) is c.read_place.ensures.calls
+
+pub returns-in_err-read_place-2-clause-calls : goal.returns-in_err-read_place-2-clause-calls
+returns-in_err-read_place-2-clause-calls g c =
+    let is_g : c.self.inside.g ≡ c.args.self.now.g = ap (λ (k : Condition). k.g) c.self.view_is in
+    let is_place : c.place_of-place.result ≡ block_place c.args.self.now.g c.args.block = c.place_of-place.ensures.place ∙ ap (λ h. block_place h c.args.block) is_g in
+    let is_member : c.parity_of.result ≡ parity_member c.args.self.now.g c.place_of-place.result.row =
+    c.parity_of.ensures.parity ∙ ap (λ h. parity_member h c.place_of-place.result.row) is_g in
+    let whole = plan_reads c.args.self.now.g c.args.self.now.lost c.args.stage.now.pending c.args.block in
+    let is : Err c.in_err-read_place-2.field-0.0 ≡ c.from_residual-in_err-read_place-2.result = search rules in
+    takes_failed whole whole c.read_place-2.result c.from_residual-in_err-read_place-2.result c.in_err-read_place-2.field-0.0 (g.B.Bank.view c.args.bank.now) (g.B.Bank.view c.read_place-2.new.bank) (omega arith) is
+    (plan_both c.args.self.now.g c.args.self.now.lost c.args.stage.now.pending c.args.block c.place_of-place.result c.parity_of.result is_place is_member
+    c.read_place-2.result (g.B.Bank.view c.args.bank.now) (g.B.Bank.view c.read_place.new.bank) (g.B.Bank.view c.read_place-2.new.bank) c.in_ok-read_place.ensures.calls.ok c.read_place-2.ensures.calls)
+
+pub returns-clause-calls : goal.returns-clause-calls
+returns-clause-calls g c =
+    let is_g : c.self.inside.g ≡ c.args.self.now.g = ap (λ (k : Condition). k.g) c.self.view_is in
+    let is_place : c.place_of-place.result ≡ block_place c.args.self.now.g c.args.block = c.place_of-place.ensures.place ∙ ap (λ h. block_place h c.args.block) is_g in
+    let is_member : c.parity_of.result ≡ parity_member c.args.self.now.g c.place_of-place.result.row =
+    c.parity_of.ensures.parity ∙ ap (λ h. parity_member h c.place_of-place.result.row) is_g in
+    plan_done c.args.self.now.g c.args.self.now.lost c.args.stage.now.pending c.args.block c.place_of-place.result c.parity_of.result is_place is_member
+    _ (g.B.Bank.view c.args.bank.now) (g.B.Bank.view c.read_place.new.bank) (g.B.Bank.view c.read_place-2.new.bank) c.in_ok-read_place.ensures.calls.ok c.in_ok-read_place-2.ensures.calls.ok

@@ -5,7 +5,7 @@ use Rattle.std.proofs.lemmas.List.{with_items_is}
 use Rattle.std.proofs.lemmas.Result.{err_from_is_err_and}
 use Rattle.trap_stage.specs.Staged.{Staged, IsStaged}
 use Rattle.trap_stage.specs.Slots.{Stage, last_of}
-use Rattle.trap_stage.specs.Held.{IsHeld}
+use Rattle.trap_stage.specs.Held.{HoldsWrites}
 use Rattle.trap_stage.specs.Mounting.{OthersStay}
 use Rattle.trap_stage.proofs.SlotSpellings.{staged_with, stage_with}
 use Rattle.trap_stage.proofs.Filling.{still_held, still_writes, more_held, more_writes}
@@ -19,7 +19,7 @@ invariant_of-self g c =
     let room = fill_next c.self.inside.g c.self.inside.drained c.self.inside.last c.args.seq c.self.inside.slots.items c.self.invariant.order next free in
     let others : OthersStay c.self.inside.g c.args.seq c.self.inside.slots.items c.fill_slot.new.slots = subst (λ (l : List ℕ). OthersStay c.self.inside.g c.args.seq l c.fill_slot.new.slots) c.as_mut_slice-slots.ensures.value c.fill_slot.ensures.others in
     let is = with_items_is c.self.inside.slots c.fill_slot.new.slots (omega arith) in
-    subst (λ items. IsHeld c.self.inside.g c.self.inside.drained c.self.inside.last items) (sym is)
+    subst (λ items. HoldsWrites c.self.inside.g c.self.inside.drained c.self.inside.last items) (sym is)
     (still_held c.self.inside.g c.self.inside.drained c.self.inside.last c.args.seq c.self.inside.slots.items c.fill_slot.new.slots room.0 room.1 (omega arith) others c.self.invariant)
 
 pub returns-in_err-fill_slot-clause-err : goal.returns-in_err-fill_slot-clause-err
@@ -44,7 +44,7 @@ invariant_of-self-2 g c =
     let sound : IsStaged c.self.inside.g (staged_with c.args.block c.args.fresh.now c.args.parity.now) = subst (λ (t : Stage). IsStaged t.g (staged_with c.args.block c.args.fresh.now c.args.parity.now)) (sym c.self.view_is)
     (record { block = c.requires.block; bytes = c.requires.fresh; parity = c.requires.parity }) in
     let is = with_items_is c.self.inside.slots c.fill_slot.new.slots (omega arith) in
-    subst (λ items. IsHeld c.self.inside.g c.self.inside.drained c.args.seq items) (sym is)
+    subst (λ items. HoldsWrites c.self.inside.g c.self.inside.drained c.args.seq items) (sym is)
     (more_held c.self.inside.g c.self.inside.drained c.self.inside.last c.args.seq c.self.inside.slots.items c.fill_slot.new.slots (staged_with c.args.block c.args.fresh.now c.args.parity.now) room.0 c.ranges.seq.fits room.1 (omega arith) others c.fill_slot.ensures.held sound c.self.invariant)
 
 pub returns-clause-ok : goal.returns-clause-ok
