@@ -9,7 +9,7 @@ use Rattle.trap_model.specs.declared.frame.Frame.{Frame}
 use Rattle.trap_model.specs.ZeroRun.{ZeroRun}
 use Rattle.trap_model.specs.Frame.{frame_magic, frame_header, SpellsFrame}
 use Rattle.trap_model.proofs.ZeroRuns.{ZeroRun-length}
-use Rattle.trap_frame.specs.Headers.{StandsIn}
+use Rattle.trap_frame.specs.Headers.{HasFrameFields}
 
 -- a piece written behind what is done
 put-next : (done piece out : List ℕ) (at n : ℕ) → length done ≡ at → length piece ≡ n → put_over at piece (done ++ drop at out) ≡ (done ++ piece) ++ drop (at + n) out
@@ -39,7 +39,7 @@ piece xs p rest at end low is behind =
     drop_split xs at end low ∙ ap (λ (q : List ℕ). q ++ drop end xs) (sym is) ∙ ap (λ (r : List ℕ). p ++ r) behind
 
 -- the header that was read is that of the fields at its places
-pub frame_header-read : (bytes : List ℕ) (f : Frame) → take 4 bytes ≡ frame_magic → StandsIn bytes f → bytes ≡ frame_header f ++ drop 34 bytes
+pub frame_header-read : (bytes : List ℕ) (f : Frame) → take 4 bytes ≡ frame_magic → HasFrameFields bytes f → bytes ≡ frame_header f ++ drop 34 bytes
 frame_header-read bytes f magic at =
     let len = piece bytes (to_be_bytes w16 f.length) (drop 34 bytes) 32 34 (omega arith) at.length refl in
     let block = piece bytes (to_be_bytes w32 f.block) _ 28 32 (omega arith) at.block len in

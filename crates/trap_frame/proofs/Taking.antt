@@ -8,69 +8,73 @@ use Rattle.std.specs.Io.KnownBytes.{Consumes}
 use Rattle.trap_bank.specs.Stream.{Stream, Gave, GaveNothing}
 use Rattle.trap_frame.specs.declared.filling.Stop.{Stop}
 use Rattle.trap_frame.specs.declared.filling.Stop.TheVariants.{Source, TooLong}
-use Rattle.trap_frame.specs.Filling.{TakesNone, Took, Fills}
+use Rattle.trap_frame.specs.Filling.{GivesNothing, TakesBytes, FillsBuffer}
 
-pub took_nothing : (used : ℕ) (s : Stream) → used ≤ 2 ^ 40 → Took [] used used s s
-took_nothing used s most = record { left = Consumes-nil s.left; counted = omega arith; given = omega arith; faults = omega arith; most = most }
+pub took_nothing : (used : ℕ) (s : Stream) → used ≤ 2 ^ 40 → TakesBytes [] used used s s
+took_nothing used s most = record { left = Consumes-nil s.left; counted = omega arith; given = omega arith; faults = omega arith; most = most; untold = λ none. none }
 
 -- what two calls took, one after the other
-pub took_then : (a b : List ℕ) (u v w : ℕ) (s t r : Stream) → Took a u v s t → Took b v w t r → Took (a ++ b) u w s r
+pub took_then : (a b : List ℕ) (u v w : ℕ) (s t r : Stream) → TakesBytes a u v s t → TakesBytes b v w t r → TakesBytes (a ++ b) u w s r
 took_then a b u v w s t r p q = record {
   left = Consumes-trans s.left t.left r.left a b p.left q.left;
   counted = (let x = p.counted in let y = q.counted in simp length-append (omega arith));
   given = (let x = p.given in let y = q.given in simp length-append (omega arith));
   faults = (let x = p.faults in let y = q.faults in omega arith);
   most = q.most;
+  untold = λ none. q.untold (p.untold none);
 }
 
 -- one more piece
-pub took_piece : (bytes : List ℕ) (used count : ℕ) (s t : Stream) → Gave bytes count s t → length bytes ≡ count → s.faults ≤ t.faults → used + count ≤ 2 ^ 40 → Took bytes used (used + count) s t
+pub took_piece : (bytes : List ℕ) (used count : ℕ) (s t : Stream) → Gave bytes count s t → length bytes ≡ count → s.faults ≤ t.faults → used + count ≤ 2 ^ 40 → TakesBytes bytes used (used + count) s t
 took_piece bytes used count s t gave len faults most = record {
   left = gave.left;
   counted = ap (λ (n : ℕ). used + n) (sym len);
   given = gave.given ∙ ap (λ (n : ℕ). s.given + n) (sym len);
   faults = faults;
   most = most;
+  untold = gave.untold;
 }
 
 -- nothing came
-pub took_none : (used : ℕ) (s t : Stream) → GaveNothing s t → s.faults ≤ t.faults → used ≤ 2 ^ 40 → Took [] used used s t
+pub took_none : (used : ℕ) (s t : Stream) → GaveNothing s t → s.faults ≤ t.faults → used ≤ 2 ^ 40 → TakesBytes [] used used s t
 took_none used s t none faults most = record {
   left = subst (λ left. Consumes s.left left []) (sym none.left) (Consumes-nil s.left);
   counted = omega arith;
   given = (let given = none.given in omega arith);
   faults = faults;
   most = most;
+  untold = λ untold. none.left ∙ untold;
 }
 
-then_none : (a : List ℕ) (u v : ℕ) (s t r : Stream) → Took a u v s t → Took [] v v t r → Took a u v s r
-then_none a u v s t r p q = subst (λ l. Took l u v s r) (append-nil a) (took_then a [] u v v s t r p q)
+then_none : (a : List ℕ) (u v : ℕ) (s t r : Stream) → TakesBytes a u v s t → TakesBytes [] v v t r → TakesBytes a u v s r
+then_none a u v s t r p q = subst (λ l. TakesBytes l u v s r) (append-nil a) (took_then a [] u v v s t r p q)
 
 -- no more bytes came
-pub fill_stops : (front : List ℕ) (room u v : ℕ) (s t r : Stream) (stop : Stop) → Took front u v s t → length front < room → TakesNone stop v t r → t.faults ≤ r.faults → v ≤ 2 ^ 40
-    → Fills front room (Err stop) u v s r
+pub fill_stops : (front : List ℕ) (room u v : ℕ) (s t r : Stream) (stop : Stop) → TakesBytes front u v s t → length front < room → GivesNothing stop v t r → t.faults ≤ r.faults → v ≤ 2 ^ 40
+    → FillsBuffer front room (Err stop) u v s r
 fill_stops front room u v s t r Source took few none faults most = record {
   took = then_none front u v s t r took (took_none v t r none.0 faults most);
   within = omega arith;
   ended = (few, (let rose = none.1 in let before = took.faults in omega arith));
 }
 fill_stops front room u v s t r TooLong took few none faults most = record {
-  took = subst (λ x. Took front u v s x) (sym none.1) took;
+  took = subst (λ x. TakesBytes front u v s x) (sym none.1) took;
   within = omega arith;
   ended = (few, none.0);
 }
 
 -- the input ended
-pub fill_ends : (front : List ℕ) (room have u v count : ℕ) (bytes : List ℕ) (s t r : Stream) → Took front u v s t → length front ≤ room → have ≡ length front → Gave (take count bytes) count t r → count ≡ 0
-    → t.faults ≤ r.faults → v < 2 ^ 40 → Fills front room (Ok have) u v s r
+pub fill_ends : (front : List ℕ) (room have u v count : ℕ) (bytes : List ℕ) (s t r : Stream) → TakesBytes front u v s t → length front ≤ room → have ≡ length front → Gave (take count bytes) count t r → count ≡ 0
+    → t.faults ≤ r.faults → v < 2 ^ 40 → FillsBuffer front room (Ok have) u v s r
 fill_ends front room have u v count bytes s t r took within is gave none faults most =
     let empty : Gave [] 0 t r = subst (λ n. Gave (take n bytes) n t r) none gave in
-    let idle : Took [] v v t r = record {
+    let idle : TakesBytes [] v v t r = record {
       left = empty.left;
       counted = omega arith;
       given = empty.given;
       faults = faults;
       most = omega arith;
+      untold = empty.untold;
     } in
     record {
       took = then_none front u v s t r took idle;

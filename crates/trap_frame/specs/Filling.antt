@@ -1,5 +1,5 @@
 -- What was taken of a source.
-use Rattle.std.specs.Prelude.{◌≡◌, ℕ, ◌+◌, ◌^◌, ◌<◌, ◌≤◌, List, length, true, Result, MatchResult}
+use Rattle.std.specs.Prelude.{◌≡◌, ℕ, ◌+◌, ◌^◌, ◌<◌, ◌≤◌, List, length, true, None, Result, MatchResult}
 use Rattle.std.specs.Io.KnownBytes.{Consumes, IsAtEnd}
 use Rattle.trap_bank.specs.Faults.{Rose}
 use Rattle.trap_bank.specs.Stream.{Stream, GaveNothing}
@@ -7,20 +7,22 @@ use Rattle.trap_frame.specs.declared.filling.Stop.{Stop}
 use Rattle.trap_frame.specs.declared.filling.Stop.TheVariants.{Source, TooLong}
 
 -- the source gave nothing: it failed, or as many bytes as a reader takes were taken
-abbrev pub TakesNone : Stop → ℕ → Stream → Stream → Type 0
-TakesNone Source used old new = GaveNothing old new × Rose old.faults new.faults
-TakesNone TooLong used old new = (used ≡ 2 ^ 40) × (new ≡ old)
+abbrev pub GivesNothing : Stop → ℕ → Stream → Stream → Type 0
+GivesNothing Source used old new = GaveNothing old new × Rose old.faults new.faults
+GivesNothing TooLong used old new = (used ≡ 2 ^ 40) × (new ≡ old)
 
 -- these bytes were taken of the source, and counted
-pub record Took (bytes : List ℕ) (used used' : ℕ) (s s' : Stream) : Type 0 where
+pub record TakesBytes (bytes : List ℕ) (used used' : ℕ) (s s' : Stream) : Type 0 where
   pub left : Consumes s.left s'.left bytes
   pub counted : used' ≡ used + length bytes
   pub given : s'.given ≡ s.given + length bytes
   pub faults : s.faults ≤ s'.faults
   pub most : used' ≤ 2 ^ 40
+  -- a source that doesn't tell its bytes never begins to
+  pub untold : s.left ≡ None → s'.left ≡ None
 
 -- nothing is left, the source has said so, and more could have been taken
-pub record IsEnd (used : ℕ) (s : Stream) : Type 0 where
+pub record IsStreamEnd (used : ℕ) (s : Stream) : Type 0 where
   pub left : IsAtEnd s.left
   pub ended : s.ended ≡ true
   pub more : used < 2 ^ 40
@@ -31,8 +33,10 @@ Stops Source used s s' = Rose s.faults s'.faults
 Stops TooLong used s s' = used ≡ 2 ^ 40
 
 -- Bytes were taken: all that there was room for or, at the end of the input, fewer.
-pub record Fills (front : List ℕ) (room : ℕ) (result : Result ℕ Stop) (used used' : ℕ) (s s' : Stream) : Type 0 where
-  pub took : Took front used used' s s'
+pub record FillsBuffer (front : List ℕ) (room : ℕ) (result : Result ℕ Stop) (used used' : ℕ)
+    (s s' : Stream) : Type 0 where
+  pub took : TakesBytes front used used' s s'
   pub within : length front ≤ room
-  pub ended : MatchResult result (λ have. (have ≡ length front) × (have < room → IsEnd used' s'))
+  pub ended : MatchResult result (λ have. (have ≡ length front)
+      × (have < room → IsStreamEnd used' s'))
       (λ stop. (length front < room) × Stops stop used' s s')

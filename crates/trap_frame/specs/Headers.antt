@@ -4,7 +4,7 @@ use Rattle.std.specs.Int.{w16, w32, w64, to_be_bytes}
 use Rattle.trap_model.specs.declared.frame.Frame.{Frame}
 
 -- the fields stand there, and fit
-pub record StandsIn (bytes : List ℕ) (f : Frame) : Type 0 where
+pub record HasFrameFields (bytes : List ℕ) (f : Frame) : Type 0 where
   pub id : to_be_bytes w64 f.id ≡ slice_range bytes 4 12
   pub seq : to_be_bytes w64 f.seq ≡ slice_range bytes 12 20
   pub time : to_be_bytes w64 f.time ≡ slice_range bytes 20 28

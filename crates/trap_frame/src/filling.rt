@@ -2,7 +2,7 @@
 
 ghost use Rattle.std.specs.Prelude.{◌≡◌, ◌+◌, ◌-◌, ◌^◌, ◌<◌, ◌≤◌, List, ℕ, length, take, drop, IfOk, IfErr};
 ghost use Rattle.trap_bank.specs.Stream.{Gave};
-ghost use Rattle.trap_frame.specs.Filling.{TakesNone, Fills};
+ghost use Rattle.trap_frame.specs.Filling.{GivesNothing, FillsBuffer};
 
 use trap_bank::Source;
 
@@ -34,9 +34,11 @@ fn take_some<S: Source>(
         (S.stream source.old) (S.stream source.new)) }
     ensures bound { IfOk result (λ count. at + count ≤ end) }
     ensures most { IfOk result (λ count. (used < 2 ^ 40) × (used + count ≤ 2 ^ 40)) }
-    ensures err { IfErr result (λ stop. TakesNone stop used (S.stream source.old) (S.stream source.new)) }
+    ensures err { IfErr result (λ stop. GivesNothing stop used (S.stream source.old)
+        (S.stream source.new)) }
     ensures faults { (S.stream source.old).faults ≤ (S.stream source.new).faults }
     ensures front { take at buf.new ≡ take at buf.old }
+    ensures beyond { drop end buf.new ≡ drop end buf.old }
 {
     if used >= MOST_BYTES {
         return Err(Stop::TooLong);
@@ -48,8 +50,8 @@ fn take_some<S: Source>(
     }
 }
 
-/// Fills the buffer between two places from the source, unless the input ends before, and answers how many bytes that
-/// are. `used` counts the bytes that were taken, and no others are.
+/// Fills the buffer between two places from the source, unless the input ends before, and answers
+/// how many bytes that are. `used` counts the bytes that were taken, and no others are.
 pub fn fill<S: Source>(
     source: &mut S,
     buf: &mut [u8],
@@ -60,10 +62,12 @@ pub fn fill<S: Source>(
     requires order { start ≤ end }
     requires inside { end ≤ length buf.old }
     requires used { used.old ≤ 2 ^ 40 }
-    requires below { (S.stream source.old).given ≤ 2 ^ 62 + used.old }
-    ensures taken { (front : List ℕ) × Fills front (end - start) result used.old used.new
-        (S.stream source.old) (S.stream source.new) × (take (length front) (drop start buf.new) ≡ front) }
+    requires below { (S.stream source.old).given ≤ 2 ^ 62 + 2 ^ 41 }
+    ensures taken { (front : List ℕ) × FillsBuffer front (end - start) result used.old used.new
+        (S.stream source.old) (S.stream source.new)
+        × (take (length front) (drop start buf.new) ≡ front) }
     ensures front { take start buf.new ≡ take start buf.old }
+    ensures beyond { drop end buf.new ≡ drop end buf.old }
 {
     let mut at = start;
     'pieces: while at < end {

@@ -1,14 +1,29 @@
 //! The 34 bytes that head a frame.
 
 ghost use Rattle.std.specs.Prelude.{◌≡◌, ◌+◌, ◌^◌, ◌<◌, ◌≤◌, ◌↔◌, List, ◌++◌, length, take, drop, IsTrue, IfSome, IfNone};
-ghost use Rattle.trap_model.specs.Frame.{frame_magic, frame_header, BeginsFrame, KeepsRanges};
-ghost use Rattle.trap_frame.specs.Headers.{StandsIn};
+ghost use Rattle.trap_model.specs.Frame.{frame_magic, frame_header, BeginsFrame, IsFrameInRange};
+ghost use Rattle.trap_frame.specs.Headers.{HasFrameFields};
 
 use trap_block::{get_u16, get_u32, get_u64, put_u16, put_u32, put_u64};
 use trap_model::Frame;
 
 /// How many bytes a header has.
 pub const HEADER: usize = 34;
+
+/// Where the array's id is, after the magic bytes.
+const ID_AT: usize = 4;
+
+/// Where the entry's number is.
+const SEQ_AT: usize = 12;
+
+/// Where its time is.
+const TIME_AT: usize = 20;
+
+/// Where the block's number is.
+const BLOCK_AT: usize = 28;
+
+/// Where the length of the code is.
+const LENGTH_AT: usize = 32;
 
 /// The magic bytes.
 const MAGIC: [u8; 4] = [b'T', b'P', b'F', b'1'];
@@ -23,7 +38,7 @@ fn has_magic(bytes: &[u8]) -> bool
 // Whether the number and the length keep their ranges.
 fn keeps_ranges(frame: Frame, size: usize) -> bool
     requires { size < 2 ^ 15 }
-    ensures { IsTrue result ↔ KeepsRanges size frame }
+    ensures { IsTrue result ↔ IsFrameInRange size frame }
 {
     if frame.seq < 1 {
         return false;
@@ -40,14 +55,14 @@ fn keeps_ranges(frame: Frame, size: usize) -> bool
 // The fields at their places.
 fn fields_in(bytes: &[u8]) -> Frame
     requires { 34 ≤ length bytes.now }
-    ensures { StandsIn bytes.now result }
+    ensures { HasFrameFields bytes.now result }
 {
     Frame {
-        id: get_u64(bytes, 4),
-        seq: get_u64(bytes, 12),
-        time: get_u64(bytes, 20),
-        block: get_u32(bytes, 28),
-        length: get_u16(bytes, 32),
+        id: get_u64(bytes, ID_AT),
+        seq: get_u64(bytes, SEQ_AT),
+        time: get_u64(bytes, TIME_AT),
+        block: get_u32(bytes, BLOCK_AT),
+        length: get_u16(bytes, LENGTH_AT),
     }
 }
 
@@ -73,7 +88,7 @@ fn put_magic(out: &mut [u8])
     requires { 4 ≤ length out.old }
     ensures { out.new ≡ frame_magic ++ drop 4 out.old }
 {
-    out[..4].copy_from_slice(&MAGIC);
+    out[..ID_AT].copy_from_slice(&MAGIC);
 }
 
 /// Writes a header over the first 34 bytes.
@@ -87,9 +102,9 @@ pub fn put_header(frame: &Frame, out: &mut [u8])
     ensures block { frame.now.block < 2 ^ 32 }
 {
     put_magic(out);
-    put_u64(out, 4, frame.id);
-    put_u64(out, 12, frame.seq);
-    put_u64(out, 20, frame.time);
-    put_u32(out, 28, frame.block);
-    put_u16(out, 32, frame.length);
+    put_u64(out, ID_AT, frame.id);
+    put_u64(out, SEQ_AT, frame.seq);
+    put_u64(out, TIME_AT, frame.time);
+    put_u32(out, BLOCK_AT, frame.block);
+    put_u16(out, LENGTH_AT, frame.length);
 }

@@ -1,4 +1,5 @@
-//! The frames of a stream: a header and the code of a parity, written, and read from a source however it cuts the bytes.
+//! The frames of a stream: a header and the code of a parity, written, and read from a source
+//! however it cuts the bytes.
 #![tactic(auto)]
 
 mod filling;

@@ -1,4 +1,5 @@
-//! A reader of frames. It takes the bytes of one frame at a time and no more, and no memory after it is made.
+//! A reader of frames. It takes the bytes of one frame at a time and no more, and no memory after
+//! it is made.
 
 ghost use Rattle.std.specs.Prelude.{◌≡◌, ◌+◌, ◌^◌, ◌<◌, ◌≤◌, vec_len};
 

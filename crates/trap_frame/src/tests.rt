@@ -40,7 +40,8 @@ fn frames_are_written_byte_for_byte(rt: HostRuntime) {
     assert_eq!(rt; out.as_slice(), STREAM.as_slice());
 }
 
-/// What a reader answers at the end of this many bytes of the stream, which have whole frames up to `at`.
+/// What a reader answers at the end of this many bytes of the stream, which have whole frames up to
+/// `at`.
 fn ending(len: u64) -> Result<Next, FrameFault> {
     let at = if len < 43 { 0 } else { 43 };
     match len {

@@ -15,7 +15,8 @@ pub fn spell(frame: &Frame, coded: &[u8], out: &mut [u8]) -> usize
     ensures spelled { take result out.new ≡ frame_header frame.now ++ coded.now }
 
     // With a number in range and the code of a block this is the frame of that block.
-    ensures whole { (size : ℕ) (parity : List ℕ) → 1 ≤ size → length parity ≡ size → 1 ≤ frame.now.seq
+    ensures whole { (size : ℕ) (parity : List ℕ) → 1 ≤ size → length parity ≡ size
+        → 1 ≤ frame.now.seq
         → frame.now.seq ≤ 2 ^ 40 → ZeroRun parity coded.now
         → SpellsFrame size frame.now parity (take result out.new) }
 {

@@ -2,13 +2,13 @@
 use Rattle.std.specs.Prelude.{◌≡◌, ◌⊎◌, ℕ, ◌+◌, ◌<◌, ◌≤◌, List, ◌++◌, length, take, drop, slice_range, true}
 use Rattle.trap_model.specs.declared.log_record.LogRec.{LogRec}
 use Rattle.trap_model.specs.ZeroRun.{IsCode, IsRefused}
-use Rattle.trap_model.specs.LogRecord.{header, KeepsRanges, LogRecord}
+use Rattle.trap_model.specs.LogRecord.{header, IsRecordInRange, LogRecord}
 use Rattle.trap_record.specs.declared.reader.ReadRec.{ReadRec}
 use Rattle.trap_record.specs.declared.reader.ReadRec.TheVariants.{Whole, Short, Bad}
 
 -- a header that keeps the ranges begins the bytes
 pub record BeginsWith (size : ℕ) (r : LogRec) (bytes : List ℕ) : Type 0 where
-  pub ranges : KeepsRanges size r
+  pub ranges : IsRecordInRange size r
   pub spelled : bytes ≡ header r ++ drop 26 bytes
 
 -- how long the record of a header is

@@ -1,14 +1,35 @@
 //! The 26 bytes that head a record.
 
 ghost use Rattle.std.specs.Prelude.{◌≡◌, ◌+◌, ◌^◌, ◌<◌, ◌≤◌, ◌↔◌, List, ◌++◌, length, drop, IsTrue, IfSome, IfNone};
-ghost use Rattle.trap_model.specs.LogRecord.{header, KeepsRanges, SnapshotLength};
+ghost use Rattle.trap_model.specs.LogRecord.{header, IsRecordInRange, SnapshotLength};
 ghost use Rattle.trap_record.specs.Reading.{BeginsWith};
 
 use trap_block::{get_u16, get_u32, get_u64, put_u16, put_u32, put_u64};
-use trap_model::LogRec;
+use trap_model::{LogRec, RECORD_HEADER_BYTES};
 
 /// How many bytes a header has.
-pub const HEADER: usize = 26;
+pub const HEADER: usize = RECORD_HEADER_BYTES as usize;
+
+/// The byte that each record begins with.
+const FIRST_BYTE: u8 = 1;
+
+/// Where the flag is, after the first byte.
+const FLAG_AT: usize = 1;
+
+/// Where the entry's number is.
+const SEQ_AT: usize = 2;
+
+/// Where its time is.
+const TIME_AT: usize = 10;
+
+/// Where the block's number is.
+const BLOCK_AT: usize = 18;
+
+/// Where the length of the first code is.
+const PARITY_LEN_AT: usize = 22;
+
+/// Where the length of the second code is.
+const SNAPSHOT_LEN_AT: usize = 24;
 
 // Whether the second length fits the flag.
 fn fits_flag(snap: bool, slen: u16, size: usize) -> bool
@@ -25,7 +46,7 @@ fn fits_flag(snap: bool, slen: u16, size: usize) -> bool
 // Whether the fields keep their ranges.
 fn keeps_ranges(rec: LogRec, size: usize) -> bool
     requires { size < 2 ^ 15 }
-    ensures { IsTrue result ↔ KeepsRanges size rec }
+    ensures { IsTrue result ↔ IsRecordInRange size rec }
 {
     if rec.seq < 1 {
         return false;
@@ -49,18 +70,18 @@ fn split_header(bytes: &[u8]) -> Option<LogRec>
     ensures none { IfNone result ((rec : LogRec) (more : List _)
         → bytes.now ≡ header rec ++ more → ⊥) }
 {
-    if bytes[0] != 1 {
+    if bytes[0] != FIRST_BYTE {
         return None;
     }
-    if bytes[1] > 1 {
+    if bytes[FLAG_AT] > 1 {
         return None;
     }
-    let snap = bytes[1] == 1;
-    let seq = get_u64(bytes, 2);
-    let time = get_u64(bytes, 10);
-    let block = get_u32(bytes, 18);
-    let plen = get_u16(bytes, 22);
-    let slen = get_u16(bytes, 24);
+    let snap = bytes[FLAG_AT] == 1;
+    let seq = get_u64(bytes, SEQ_AT);
+    let time = get_u64(bytes, TIME_AT);
+    let block = get_u32(bytes, BLOCK_AT);
+    let plen = get_u16(bytes, PARITY_LEN_AT);
+    let slen = get_u16(bytes, SNAPSHOT_LEN_AT);
     Some(LogRec {
         snap,
         seq,
@@ -96,11 +117,11 @@ pub fn put_header(rec: &LogRec, out: &mut [u8])
     ensures time { rec.now.time < 2 ^ 64 }
     ensures block { rec.now.block < 2 ^ 32 }
 {
-    out[0] = 1;
-    out[1] = u8::from(rec.snap);
-    put_u64(out, 2, rec.seq);
-    put_u64(out, 10, rec.time);
-    put_u32(out, 18, rec.block);
-    put_u16(out, 22, rec.plen);
-    put_u16(out, 24, rec.slen);
+    out[0] = FIRST_BYTE;
+    out[FLAG_AT] = u8::from(rec.snap);
+    put_u64(out, SEQ_AT, rec.seq);
+    put_u64(out, TIME_AT, rec.time);
+    put_u32(out, BLOCK_AT, rec.block);
+    put_u16(out, PARITY_LEN_AT, rec.plen);
+    put_u16(out, SNAPSHOT_LEN_AT, rec.slen);
 }

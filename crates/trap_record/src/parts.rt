@@ -20,8 +20,8 @@ pub enum Part {
     Snapshot,
 }
 
-/// Whether the bytes are the record of this header. Then `into` is filled with the block that the part spells; otherwise
-/// it holds any bytes. Each code is looked through once.
+/// Whether the bytes are the record of this header. Then `into` is filled with the block that the
+/// part spells; otherwise it holds any bytes. Each code is looked through once.
 pub fn read_part(bytes: &[u8], rec: &LogRec, part: Part, into: &mut [u8]) -> bool
     requires size { length into.old < 2 ^ 15 }
     requires long { length bytes.now ≡ record_len rec.now }
@@ -50,7 +50,8 @@ fn has_header(bytes: &[u8], rec: &LogRec, size: usize) -> bool
     }
 }
 
-// Whether the bytes are what stands behind the parity: a code where the flag is set, and nothing otherwise.
+// Whether the bytes are what stands after the parity: a code where the flag is set, and nothing
+// otherwise.
 fn is_snapshot(snap: bool, bytes: &[u8], size: usize) -> bool
     requires { size < 2 ^ 15 }
     ensures { IsTrue result ↔ IsSnapshot size snap bytes.now }
@@ -62,7 +63,7 @@ fn is_snapshot(snap: bool, bytes: &[u8], size: usize) -> bool
     }
 }
 
-// Whether the codes behind the header are right. Then `into` is filled with the block of the parity.
+// Whether the codes after the header are right. Then `into` is filled with the block of the parity.
 fn fill_parity(bytes: &[u8], rec: &LogRec, into: &mut [u8]) -> bool
     requires size { length into.old < 2 ^ 15 }
     requires long { length bytes.now ≡ record_len rec.now }

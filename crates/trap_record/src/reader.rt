@@ -18,7 +18,7 @@ pub enum ReadRec {
     Bad { at: usize },
 }
 
-/// What stands at the front of the bytes, over blocks of `size` bytes. Bytes behind the record
+/// What stands at the front of the bytes, over blocks of `size` bytes. Bytes after the record
 /// aren't looked at.
 pub fn read(bytes: &[u8], size: usize) -> ReadRec
     requires { size < 2 ^ 15 }

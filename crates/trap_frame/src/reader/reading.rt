@@ -1,8 +1,8 @@
 //! How a reader finds frames.
 
 ghost use Rattle.std.specs.Prelude.{◌≡◌, ◌+◌, ◌^◌, ◌<◌, ◌≤◌, ◌-◌, List, ℕ, length, take, drop, slice_range, Some, None, Err, IfOk, IfErr, OnOk};
-ghost use Rattle.trap_frame.specs.Reading.{Finds, FindsNone, IsFaultOf};
-ghost use Rattle.trap_frame.specs.Filling.{Fills};
+ghost use Rattle.trap_frame.specs.Reading.{FindsFrame, FindsNoFrame, IsFaultAtStop};
+ghost use Rattle.trap_frame.specs.Filling.{FillsBuffer};
 ghost use Rattle.trap_frame.specs.declared.found.FrameFault.{FrameFault};
 
 use super::Frames;
@@ -30,16 +30,18 @@ impl Frames {
         })
     }
 
-    /// The next frame, and its parity in `parity`. After a fault `parity` holds any bytes, and each further call answers
-    /// the same fault and takes nothing.
+    /// The next frame, and its parity in `parity`. After a fault `parity` holds any bytes, and each
+    /// further call answers the same fault and takes nothing.
     pub fn next<S: Source>(&mut self, source: &mut S, parity: &mut [u8]) -> Result<Next, FrameFault>
         requires sized { length parity.old ≡ self.old.size }
-        requires below { (S.stream source.old).given ≤ 2 ^ 62 + self.old.used }
+        requires below { (S.stream source.old).given ≤ 2 ^ 62 + 2 ^ 40 }
         ensures size { self.new.size ≡ self.old.size }
-        ensures ok { IfOk result (λ next. Finds self.old.size next parity.new self.old.used self.new.used
+        ensures ok { IfOk result
+            (λ next. FindsFrame self.old.size next parity.new self.old.used self.new.used
             (S.stream source.old) (S.stream source.new)) }
         ensures goes_on { OnOk result ((self.old.fault ≡ None) × (self.new.fault ≡ None)) }
-        ensures err { self.old.fault ≡ None → IfErr result (λ fault. FindsNone self.old.size fault
+        ensures err { self.old.fault ≡ None
+            → IfErr result (λ fault. FindsNoFrame self.old.size fault
             self.old.used self.new.used (S.stream source.old) (S.stream source.new)) }
         ensures kept { IfErr result (λ fault. self.new.fault ≡ Some fault) }
 
@@ -68,11 +70,12 @@ impl Frames {
     ) -> Result<usize, Stop>
         requires order { start ≤ end }
         requires inside { end ≤ self.old.size + 41 }
-        requires below { (S.stream source.old).given ≤ 2 ^ 62 + self.old.used }
+        requires below { (S.stream source.old).given ≤ 2 ^ 62 + 2 ^ 41 }
         ensures size { self.new.size ≡ self.old.size }
         ensures fault { self.new.fault ≡ self.old.fault }
         ensures front { take start self.new.buf.items ≡ take start self.old.buf.items }
-        ensures taken { (front : List ℕ) × Fills front (end - start) result self.old.used self.new.used
+        ensures taken { (front : List ℕ)
+            × FillsBuffer front (end - start) result self.old.used self.new.used
             (S.stream source.old) (S.stream source.new)
             × (take (length front) (drop start self.new.buf.items) ≡ front) }
     {
@@ -86,12 +89,14 @@ impl Frames {
         parity: &mut [u8],
     ) -> Result<Next, FrameFault>
         requires sized { length parity.old ≡ self.old.size }
-        requires below { (S.stream source.old).given ≤ 2 ^ 62 + self.old.used }
+        requires below { (S.stream source.old).given ≤ 2 ^ 62 + 2 ^ 40 }
         ensures size { self.new.size ≡ self.old.size }
         ensures fault { self.new.fault ≡ self.old.fault }
-        ensures ok { IfOk result (λ next. Finds self.old.size next parity.new self.old.used self.new.used
+        ensures ok { IfOk result
+            (λ next. FindsFrame self.old.size next parity.new self.old.used self.new.used
             (S.stream source.old) (S.stream source.new)) }
-        ensures err { IfErr result (λ fault. FindsNone self.old.size fault self.old.used self.new.used
+        ensures err { IfErr result
+            (λ fault. FindsNoFrame self.old.size fault self.old.used self.new.used
             (S.stream source.old) (S.stream source.new)) }
     {
         let at = self.used;
@@ -125,7 +130,7 @@ impl Frames {
 
 // The fault of a reader that got no more bytes.
 fn fault_of(stop: Stop) -> FrameFault
-    ensures { IsFaultOf result stop }
+    ensures { IsFaultAtStop result stop }
 {
     match stop {
         Stop::Source => FrameFault::ReadFault,

@@ -22,4 +22,5 @@ pieces-preserved g c =
       ap (λ (n : ℕ). c.args.start + n) (length-append front piece ∙ ap (λ (n : ℕ). length front + n) there.0) ∙ omega arith,
       bound,
       front_same c.args.buf.now old new c.args.start c.pieces.at (omega arith) inv.5 c.take_some.ensures.front,
+      c.take_some.ensures.beyond ∙ inv.6,
     )

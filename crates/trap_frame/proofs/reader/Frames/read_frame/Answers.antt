@@ -1,7 +1,7 @@
 use Rattle.std.proofs.Common.{◌+◌, ◌++◌, refl, sym, ◌∙◌, ap, subst, arith, slice_range}
 use Rattle.trap_model.specs.ZeroRun.{IsRefused}
 use Rattle.trap_model.specs.Frame.{BeginsFrame}
-use Rattle.trap_frame.proofs.Joining.{whole_header, no_header, taken_frame, begins_in, code_stops, code_cut, whole_code, code_whole, code_bad}
+use Rattle.trap_frame.proofs.Joining.{whole_header, no_header, taken_frame, begins_in, code_stops, code_cut, whole_code, code_whole, code_bad, frame_most}
 use Rattle.trap_frame.proofs.reader.Frames.read_frame.Goals as goal
 
 pub returns-in_default-clause-err : goal.returns-in_default-clause-err
@@ -16,6 +16,7 @@ returns-in_default-clause-err g c =
             (λ f begins. c.in_default.ensures.none f
             (subst (λ n. BeginsFrame n f c.as_slice.result.now) (sym c.fill_part.ensures.size) (subst (λ l. BeginsFrame size f l) (sym c.as_slice.ensures.value) begins))),
         first.1.took,
+        omega (arith, len),
       ),
     )
 
@@ -63,4 +64,4 @@ returns-in-Err-decode-clause-err g c =
     let code = whole_code second.0 c.fill_part-2.new.self.buf.items c.code_in.result.now c.from-len.result c.in-Ok-fill_part.have _ _ _ _ second.1 (λ few. omega arith) second.2
     (c.code_in.ensures ∙ ap (λ l. slice_range l 34 (34 + c.from-len.result)) c.as_slice-2.ensures.value) in
     let refused = subst (λ n. IsRefused n c.code_in.result.now c.in-Err-decode.field-0.at) c.requires.sized c.in-Err-decode.ensures.refused in
-    (refl, (first.0 ++ second.0, code_bad size c.in-Some.frame first.0 second.0 c.code_in.result.now c.from-len.result c.in-Err-decode.field-0.at _ _ _ _ _ c.args.self.now.small taken c.from-len.ensures code.0 code.1 refused, taken.took))
+    (refl, (first.0 ++ second.0, code_bad size c.in-Some.frame first.0 second.0 c.code_in.result.now c.from-len.result c.in-Err-decode.field-0.at _ _ _ _ _ c.args.self.now.small taken c.from-len.ensures code.0 code.1 refused, taken.took, frame_most size c.in-Some.frame first.0 second.0 c.from-len.result _ _ _ _ _ taken c.from-len.ensures code.0))
