@@ -6,10 +6,12 @@ use Rattle.std.proofs.KnownBytes.{Consumes-trans, Consumes-nil}
 use Rattle.std.proofs.lemmas.List.{drop-take, drop-drop}
 use Rattle.std.proofs.lemmas.List.Elements.{All-append, All-from_get_or}
 use Rattle.std.proofs.lemmas.List.Quantifiers.{position-Some}
-use Rattle.std.proofs.lemmas.List.Sums.{fails_before_first}
+use Rattle.std.proofs.lemmas.List.Sums.{fails_before_first, position_or_len_is}
+use Rattle.std.proofs.lemmas.Bool.{false_from_ne_true}
+use Rattle.memchr.specs.Find.{IsFirstByte, is_byte}
 use Rattle.trap_bank.specs.Stream.{Stream}
 use Rattle.trap_lines.specs.declared.reader.LineReader.{LineReader}
-use Rattle.trap_lines.specs.Reader.{pending, to_come, taken, room, HasNoFeed, IsLine, GoesOn, Passes}
+use Rattle.trap_lines.specs.Reader.{pending, to_come, taken, room, HasNoFeed, IsLine, Advances, Passes}
 
 pub passes_nothing : (r : LineReader) (s : Stream) → Passes [] r r s s
 passes_nothing r s = record {
@@ -54,7 +56,7 @@ window_drop xs at end count within =
     ∙ ap (take (end - (at + count))) (drop-drop count at xs))
 
 -- the reader went on by so many of the bytes that were taken
-pub passes_front : (r r' : LineReader) (s : Stream) (count : ℕ) → count ≤ r.end - r.at → r.end ≤ length r.chunk.items → GoesOn count r r'
+pub passes_front : (r r' : LineReader) (s : Stream) (count : ℕ) → count ≤ r.end - r.at → r.end ≤ length r.chunk.items → Advances count r r'
     → (pending r' ≡ drop count (pending r)) × Passes (take count (pending r)) r r' s s
 passes_front r r' s count within inside step =
     let left : pending r' ≡ drop count (pending r) =
@@ -78,6 +80,18 @@ passes_front r r' s count within inside step =
 some_not_none : (b : Bool) (n : ℕ) → cond b (Some n) None ≡ None → b ≡ false
 some_not_none true n e = cc
 some_not_none false n e = refl
+
+-- what a search for a line feed finds is its first place
+pub first_found : (bytes : List ℕ) (r : Option ℕ) → IsFirstByte (is_byte 10) bytes r → r ≡ position (λ byte. byte == 10) bytes
+first_found bytes None none =
+    let past : position_or_len (λ byte. byte == 10) bytes ≡ length bytes = position_or_len_is (λ byte. byte == 10) bytes (length bytes) 0 (omega arith)
+    (λ k below. false_from_ne_true (get_or bytes k 0 == 10) (none k (omega arith) below)) (λ below. absurd (omega (arith, below))) in
+    grind (arith, past)
+first_found bytes (Some place) found =
+    let at : position_or_len (λ byte. byte == 10) bytes ≡ place = position_or_len_is (λ byte. byte == 10) bytes place 0 (omega (arith, found.0.high))
+    (λ k below. false_from_ne_true (get_or bytes k 0 == 10) (found.0.before k (omega arith) below)) (λ below. found.1) in
+    let within = found.0.high in
+    grind (arith, at, within)
 
 -- there is no line feed where none was found
 pub no_feed_found : (bytes : List ℕ) → position (λ byte. byte == 10) bytes ≡ None → HasNoFeed bytes
@@ -124,7 +138,7 @@ line_grows front more len r r' is_line none same_room kept =
 pub front_grows : {front : List ℕ} {len : ℕ} (r0 r1 r2 r3 : LineReader) (s0 s1 s2 : Stream) (count : ℕ)
     → IsLine front len r1 → Passes front r0 r1 s0 s1 → Passes [] r1 r2 s1 s2 → r2.line ≡ r1.line
     → count ≤ r2.end - r2.at → r2.end ≤ length r2.chunk.items → HasNoFeed (take count (pending r2))
-    → GoesOn count r2 r3 → (len + count ≤ room r2 → take (len + count) r3.line.items ≡ take len r2.line.items ++ take count (pending r2))
+    → Advances count r2 r3 → (len + count ≤ room r2 → take (len + count) r3.line.items ≡ take len r2.line.items ++ take count (pending r2))
     → (pending r3 ≡ drop count (pending r2))
     × IsLine (front ++ take count (pending r2)) (len + count) r3 × Passes (front ++ take count (pending r2)) r0 r3 s0 s2
 front_grows {front} {len} r0 r1 r2 r3 s0 s1 s2 count is_line before idle same within inside none step kept =
@@ -143,8 +157,8 @@ front_grows {front} {len} r0 r1 r2 r3 s0 s1 s2 count is_line before idle same wi
 pub line_ends : {front : List ℕ} {len : ℕ} (r0 r1 r2 r3 r4 : LineReader) (s0 s1 s2 : Stream) (place : ℕ)
     → IsLine front len r1 → Passes front r0 r1 s0 s1 → Passes [] r1 r2 s1 s2 → r2.line ≡ r1.line → r2.end ≤ length r2.chunk.items
     → position (λ byte. byte == 10) (pending r2) ≡ Some place
-    → GoesOn place r2 r3 → (len + place ≤ room r2 → take (len + place) r3.line.items ≡ take len r2.line.items ++ take place (pending r2))
-    → GoesOn 1 r3 r4 → r4.line ≡ r3.line
+    → Advances place r2 r3 → (len + place ≤ room r2 → take (len + place) r3.line.items ≡ take len r2.line.items ++ take place (pending r2))
+    → Advances 1 r3 r4 → r4.line ≡ r3.line
     → (line : List ℕ) × IsLine line (len + place) r4 × Passes (line ++ 10 ∷ []) r0 r4 s0 s2
 line_ends {front} {len} r0 r1 r2 r3 r4 s0 s1 s2 place is_line before idle same inside found step kept feed same_line =
     let where_ = feed_found (pending r2) place found in

@@ -39,8 +39,8 @@ pub record Passes (passed : List ℕ) (r r' : LineReader) (s s' : Stream) : Type
   -- a source that doesn't tell its bytes hasn't begun to
   pub untold : s.left ≡ None → s'.left ≡ None
 
--- the reader went over so many of the bytes that were taken
-pub record GoesOn (count : ℕ) (r r' : LineReader) : Type 0 where
+-- the reader went over that many of the bytes that were taken
+pub record Advances (count : ℕ) (r r' : LineReader) : Type 0 where
   pub chunk : r'.chunk ≡ r.chunk
   pub at : r'.at ≡ r.at + count
   pub end : r'.end ≡ r.end
@@ -61,14 +61,14 @@ Refills true r' s' = (r'.at < r'.end) × (s'.ended ≡ false)
 Refills false r' s' = IsEnd r' s'
 
 -- the line stands at the front of the buffer, unless it is too long for it
-abbrev pub IsHeld : LineReader → List ℕ → Type 0
-IsHeld r line = length line ≤ room r → take (length line) r.line.items ≡ line
+abbrev pub IsLineHeld : LineReader → List ℕ → Type 0
+IsLineHeld r line = length line ≤ room r → take (length line) r.line.items ≡ line
 
--- a line of so many bytes, and the reader that has it
+-- a line of that many bytes, and the reader that has it
 pub record IsLine (line : List ℕ) (len : ℕ) (r : LineReader) : Type 0 where
   pub no_feed : HasNoFeed line
   pub long : length line ≡ len
-  pub held : IsHeld r line
+  pub held : IsLineHeld r line
 
 -- what was found: a line with its line feed, a last line without one, or the end
 abbrev pub Finds : Found → LineReader → LineReader → Stream → Stream → Type 0
@@ -89,4 +89,5 @@ StopsAt fault r' s s' = (pending r' ≡ []) × IsCause fault r' s s'
 
 -- no line was found, and what was passed over has no line feed
 abbrev pub FindsNone : ReadFault → LineReader → LineReader → Stream → Stream → Type 0
-FindsNone fault r r' s s' = (front : List ℕ) × HasNoFeed front × Passes front r r' s s' × StopsAt fault r' s s'
+FindsNone fault r r' s s' = (front : List ℕ) × HasNoFeed front × Passes front r r' s s'
+    × StopsAt fault r' s s'

@@ -3,11 +3,11 @@
 /// What a reader found.
 #[derive(Debug, Clone, Copy, PartialEq, Eq)]
 pub enum Found {
-    /// A line of so many bytes, which a line feed ends.
+    /// A line of that many bytes, which a line feed ends.
     Line { len: usize },
-    /// The last line, of so many bytes and not empty, which the end of the input ends.
+    /// The last line, of that many bytes and not empty, which the end of the input ends.
     Last { len: usize },
-    /// The end of the input, with nothing behind the last line feed.
+    /// The end of the input, with nothing after the last line feed.
     End,
 }
 

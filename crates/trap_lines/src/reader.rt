@@ -5,7 +5,8 @@ ghost use Rattle.std.specs.Prelude.{◌+◌, ◌-◌, ◌^◌, ◌<◌, ◌≤�
 mod finding;
 mod pieces;
 
-/// A reader of lines: what was taken from a source and isn't passed over yet, and the line found last.
+/// A reader of lines: what was taken from a source and isn't passed over yet, and the line found
+/// last.
 #[derive(Debug, Drop)]
 pub struct LineReader {
     chunk: Vec<u8>,

@@ -1,4 +1,4 @@
--- The forms of a request line: what the fields behind its first one ask.
+-- The forms of a request line: what the fields after its first one ask.
 use Rattle.std.specs.Prelude.{ℕ, List, [], ◌∷◌, Option, Some, None, Result, Ok, Err}
 use Rattle.hex.specs.Hex.{decode_sized}
 use Rattle.trap_model.specs.declared.request.Request.{Request}

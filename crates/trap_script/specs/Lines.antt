@@ -19,7 +19,7 @@ is_line_feed byte = byte == 10
 abbrev pub is_letter : List ℕ → ℕ → Bool
 is_letter name letter = length name == 1 && slice_index name 0 == letter
 
--- what a line's first field and the fields behind it ask, over blocks of that size
+-- what a line's first field and the fields after it ask, over blocks of that size
 abbrev pub form_of : ℕ → List ℕ → List (List ℕ) → Request
 form_of size name fields =
     if is_letter name 81 then quit_form fields
@@ -44,7 +44,7 @@ request_of size line =
     if nat_lt (longest_line size) (length line) then Bad
     else request_of_fields size (slice_split is_space line)
 
--- the fields behind a field, where a space follows it
+-- the fields after a field, where a space follows it
 abbrev pub fields_after : Option (List ℕ) → List (List ℕ)
 fields_after None = []
 fields_after (Some rest) = slice_split is_space rest
@@ -75,7 +75,7 @@ LeavesBuffer line.Bad old new = ⊤
 abbrev pub HasNoFeed : List ℕ → Type 0
 HasNoFeed line = All (λ byte. is_line_feed byte ≡ false) line
 
--- how many line feeds stand among the bytes: so many whole lines
+-- how many line feeds stand among the bytes: that many whole lines
 abbrev pub line_feeds : List ℕ → ℕ
 line_feeds bytes = count_by is_line_feed bytes
 

@@ -35,7 +35,7 @@ pub enum Answer<'a> {
     No(Refusal),
 }
 
-// Writes the bytes at a place, and answers the place behind them.
+// Writes the bytes at a place, and answers the place after them.
 fn put(out: &mut [u8], at: usize, bytes: &[u8]) -> usize
     requires { at + length bytes.now ≤ length out.old }
     ensures end { result ≡ at + length bytes.now }
@@ -132,7 +132,7 @@ fn put_words(answer: &Answer, out: &mut [u8]) -> usize
 
 /// Writes the text of an answer with its line feed at the front of `out`, and answers how long it
 /// is. `out` has room for 88 bytes and two for each byte of contents that the answer shows. What
-/// stands in it behind the text is not said.
+/// stands in it after the text is not said.
 pub fn write_answer(answer: &Answer, out: &mut [u8]) -> usize
     requires { 88 + 2 * shown_len answer.now ≤ length out.old }
     ensures end { result ≤ length out.new }

@@ -25,8 +25,8 @@ pub fn walks<S>()
         → (length (states m s all) ≡ length all + 1) × (length (replies m s all) ≡ length all) }
 {}
 
-/// Where a machine replies to every request but `Q`, and its first `j` replies to an input are said,
-/// just `j` replies are given; also where the next one is said up to its middle.
+/// Where a machine replies to every request but `Q`, and its first `j` replies to an input are
+/// said, just `j` replies are given; also where the next one is said up to its middle.
 pub fn given_replies<S>()
     ensures whole { (m : Machine S) (s : S) (size : ℕ) (input : List ℕ) (j : ℕ)
         → ((t : S) (request : Request) → goes_on request ≡ true → m.reply t request ≢ Silent)
@@ -38,9 +38,11 @@ pub fn given_replies<S>()
         → given (reply_texts m s requests) (first_texts m s requests j ++ front) ≡ j }
 {}
 
-/// How many texts are given, once these bytes are said: so many of them begin the bytes, and no greater number does.
+/// How many texts are given, once these bytes are said: that many of them begin the bytes, and no
+/// greater number does.
 pub fn given()
-    ensures said { (texts : List (List ℕ)) (bytes : List ℕ) → AreSaid (given texts bytes) texts bytes }
+    ensures said { (texts : List (List ℕ)) (bytes : List ℕ)
+        → AreSaid (given texts bytes) texts bytes }
     ensures within { (texts : List (List ℕ)) (bytes : List ℕ) → given texts bytes ≤ length texts }
     ensures greatest { (texts : List (List ℕ)) (bytes : List ℕ) (j : ℕ) → j ≤ length texts
         → AreSaid j texts bytes → j ≤ given texts bytes }

@@ -29,7 +29,7 @@ pub enum Line {
     Bad,
 }
 
-// The first field, and what stands behind the space that ends it.
+// The first field, and what stands after the space that ends it.
 fn cut_field(line: &[u8]) -> (&[u8], Option<&[u8]>)
     ensures { slice_split is_space line.now ≡ result.0.now ∷ fields_after (option_copied result.1) }
 {
@@ -88,20 +88,17 @@ fn write_form(rest: Option<&[u8]>, fresh: &mut [u8]) -> Line
     let Some(behind) = behind else {
         return Line::Bad;
     };
-    let (block, last) = cut_field(behind);
-    let Some(last) = last else {
+    let (block, digits) = cut_field(behind);
+    let Some(digits) = digits else {
         return Line::Bad;
     };
-    let (digits, more) = cut_field(last);
-    if let Some(_) = more {
-        return Line::Bad;
-    }
     let Some(time) = read_number(time) else {
         return Line::Bad;
     };
     let Some(block) = read_number(block) else {
         return Line::Bad;
     };
+    // A space is no digit, so a fourth field makes the digits bad.
     match decode_to_slice(digits, fresh) {
         Ok(()) => Line::Write { time, block },
         Err(_) => Line::Bad,

@@ -1,7 +1,7 @@
 //! How a reader finds lines.
 
 ghost use Rattle.std.specs.Prelude.{◌≡◌, ◌+◌, ◌-◌, ◌^◌, ◌<◌, ◌≤◌, ◌++◌, [], take, IfOk, IfErr};
-ghost use Rattle.trap_lines.specs.Reader.{pending, taken, room, GoesOn, Passes, IsOpen, Refills, Finds, FindsNone, StopsAt};
+ghost use Rattle.trap_lines.specs.Reader.{pending, taken, room, Advances, Passes, IsOpen, Refills, Finds, FindsNone, StopsAt};
 
 use super::LineReader;
 use super::pieces::{find_line_feed, keep, take_some};
@@ -9,12 +9,12 @@ use crate::{Found, ReadFault};
 use std::alloc::{AllocError as OutOfMemory, Global};
 use trap_bank::Source;
 
-// How many bytes are taken at a time, if the source gives so many.
+// How many bytes are taken at a time, if the source gives that many.
 const PIECE_BYTES: usize = 65_536;
 
 impl LineReader {
-    /// Takes room for pieces of 64 KiB, and for a line of `line_bytes` bytes. A longer line is found
-    /// as well, and isn't kept.
+    /// Takes room for pieces of 64 KiB, and for a line of `line_bytes` bytes. A longer line is
+    /// found as well, and isn't kept.
     pub fn new(alloc: Global, line_bytes: usize) -> Result<LineReader, OutOfMemory>
         ensures none { IfOk result (λ reader. pending reader ≡ []) }
         ensures untaken { IfOk result (λ reader. taken reader ≡ 0) }
@@ -46,7 +46,8 @@ impl LineReader {
         ensures passes { Passes [] self.old self.new (S.stream source.old) (S.stream source.new) }
         ensures line { self.new.line ≡ self.old.line }
         ensures more { IfOk result (λ more. Refills more self.new (S.stream source.new)) }
-        ensures err { IfErr result (λ fault. StopsAt fault self.new (S.stream source.old) (S.stream source.new)) }
+        ensures err { IfErr result (λ fault. StopsAt fault self.new (S.stream source.old)
+            (S.stream source.new)) }
     {
         if self.at < self.end {
             return Ok(true);
@@ -63,12 +64,13 @@ impl LineReader {
         }
     }
 
-    // Passes over so many bytes of a line, of which `len` were passed over before.
+    // Passes over that many bytes of a line, of which `len` were passed over before.
     fn pass(&mut self, len: usize, count: usize)
         requires { count ≤ self.old.end - self.old.at }
-        ensures goes_on { GoesOn count self.old self.new }
+        ensures goes_on { Advances count self.old self.new }
         ensures line { len + count ≤ room self.old
-            → take (len + count) self.new.line.items ≡ take len self.old.line.items ++ take count (pending self.old) }
+            → take (len + count) self.new.line.items
+            ≡ take len self.old.line.items ++ take count (pending self.old) }
     {
         keep(
             self.line.as_mut_slice(),
@@ -82,19 +84,21 @@ impl LineReader {
     // Passes over the line feed that stands first.
     fn pass_feed(&mut self)
         requires { self.old.at < self.old.end }
-        ensures goes_on { GoesOn 1 self.old self.new }
+        ensures goes_on { Advances 1 self.old self.new }
         ensures line { self.new.line ≡ self.old.line }
     {
         self.at += 1;
         self.used += 1;
     }
 
-    /// Finds the next line, and keeps it if it fits. Behind the end it isn't called again.
+    /// Finds the next line, and keeps it if it fits. After the end it isn't called again.
     pub fn next<S: Source>(&mut self, source: &mut S) -> Result<Found, ReadFault>
         requires below { (S.stream source.old).given ≤ 2 ^ 62 + taken self.old }
         requires still_open { IsOpen self.old (S.stream source.old) }
-        ensures found { IfOk result (λ found. Finds found self.old self.new (S.stream source.old) (S.stream source.new)) }
-        ensures err { IfErr result (λ fault. FindsNone fault self.old self.new (S.stream source.old) (S.stream source.new)) }
+        ensures found { IfOk result (λ found. Finds found self.old self.new (S.stream source.old)
+            (S.stream source.new)) }
+        ensures err { IfErr result (λ fault. FindsNone fault self.old self.new (S.stream source.old)
+            (S.stream source.new)) }
     {
         let mut len = 0usize;
         'pieces: loop {

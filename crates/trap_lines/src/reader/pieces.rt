@@ -5,6 +5,7 @@ ghost use Rattle.trap_bank.specs.Stream.{Gave};
 ghost use Rattle.trap_lines.specs.Taking.{TakesNone};
 
 use crate::ReadFault;
+use memchr::memchr;
 use trap_bank::Source;
 
 // How many bytes a reader takes at most.
@@ -16,10 +17,10 @@ const LINE_FEED: u8 = b'\n';
 pub fn find_line_feed(bytes: &[u8]) -> Option<usize>
     ensures { result ≡ position (λ byte. byte == 10) bytes.now }
 {
-    bytes.iter().position(|byte| *byte == LINE_FEED)
+    memchr(LINE_FEED, bytes)
 }
 
-// Places the piece behind the first `len` bytes of the line, if it fits.
+// Places the piece after the first `len` bytes of the line, if it fits.
 pub fn keep(line: &mut [u8], len: usize, piece: &[u8])
     ensures { len + length piece.now ≤ length line.old
         → take (len + length piece.now) line.new ≡ take len line.old ++ piece.now }
@@ -38,7 +39,8 @@ pub fn take_some<S: Source>(source: &mut S, chunk: &mut [u8], used: u64) -> Resu
         (S.stream source.old) (S.stream source.new)) }
     ensures bound { IfOk result (λ count. count ≤ length chunk.old) }
     ensures most { IfOk result (λ count. used + count ≤ 2 ^ 40) }
-    ensures err { IfErr result (λ fault. TakesNone fault used (S.stream source.old) (S.stream source.new)) }
+    ensures err { IfErr result (λ fault. TakesNone fault used (S.stream source.old)
+        (S.stream source.new)) }
     ensures faults { (S.stream source.old).faults ≤ (S.stream source.new).faults }
 {
     if used >= MOST_BYTES {
