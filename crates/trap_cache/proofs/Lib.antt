@@ -1,0 +1,4 @@
+pub mod Hits
+pub mod LawProofs
+pub mod Places
+pub mod Steps

@@ -1,0 +1,5 @@
+pub mod Written
+pub mod Regions
+pub mod Leases
+pub mod Pools
+pub mod Taking

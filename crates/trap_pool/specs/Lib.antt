@@ -1,0 +1,4 @@
+pub mod Pooled
+pub mod Frames
+pub mod Region
+pub mod Lending
