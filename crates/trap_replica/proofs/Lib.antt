@@ -1,0 +1,5 @@
+pub mod HeldSlots
+pub mod OneFrame
+pub mod FrameSteps
+pub mod NewReplica
+pub mod Worlds

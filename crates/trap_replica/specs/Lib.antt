@@ -1,0 +1,6 @@
+pub mod Holding
+pub mod OnDisk
+pub mod Applying
+pub mod Standing
+pub mod Creating
+pub mod World

@@ -1,0 +1,64 @@
+-- What a mounted replica stands for: what is known of its disk, and the frames it holds.
+use Rattle.std.specs.Prelude.{◌≡◌, ℕ, zero, suc, ◌+◌, List, [], ◌∷◌, IsTrue, ◌==◌, if◌then◌else◌, Result, OnOk, OnErr, ◌||◌}
+use Rattle.trap_bank.specs.Disks.{Disks, View}
+use Rattle.trap_bank.specs.Calls.{Fits}
+use Rattle.trap_bank.specs.Steps.{Always}
+use Rattle.trap_cell.specs.Slots.{Stands}
+use Rattle.trap_format.specs.ReplicaDisk.{replica_size}
+use Rattle.trap_format.specs.declared.shape.Shape.{Shape}
+use Rattle.trap_model.specs.Image.{block_of}
+use Rattle.trap_model.specs.Receiver.{Receiver, applied, hold, is_known, is_beyond}
+use Rattle.trap_model.specs.declared.arrival.Arrival.{Arrival}
+use Rattle.trap_replica.specs.Holding.{HeldFrames}
+use Rattle.trap_replica.specs.OnDisk.{HoldsBy, ReplicaHolds}
+use Rattle.trap_replica.specs.Applying.{Leaves}
+use Rattle.trap_replica.specs.declared.store.Store.{Store}
+
+-- the disk is there, and every crash leaves its cell as the program knows it
+pub record IsReady (p : Store) (v : View) : Type 0 where
+  pub fits : Fits v 17 (replica_size p.shape)
+  pub stands : Always v (Stands p.cell)
+
+-- every crash leaves the image on the disk, and the contents in memory are those in the cell
+pub record Mirrors (p : Store) (v : View) (image : List (List ℕ)) : Type 0 where
+  pub holds : Always v (HoldsBy p.shape p.block p.number p.time image)
+  pub contents : IsTrue v.tells → p.contents.items ≡ block_of image p.block
+
+-- the numbers after a frame was applied; after a fault those from before
+pub record HasApplied {T E : Type 0} (result : Result T E) (f : Arrival) (p q : Store)
+    : Type 0 where
+  pub shape : q.shape ≡ p.shape
+  pub number : OnOk result (q.number ≡ p.number + 1)
+  pub time : OnOk result (q.time ≡ f.time)
+  pub stays : OnErr result (q.number ≡ p.number)
+
+-- the first held frame applied, where it is the next; else nothing
+abbrev pub step_from : Receiver → List Arrival → Receiver
+step_from r [] = r
+step_from r (f ∷ held) = if f.seq == r.number + 1 then applied r f held else r
+
+-- stopped after some of the held frames that follow
+abbrev pub steps : ℕ → Receiver → Receiver
+steps zero r = r
+steps (suc k) r = step_from (steps k r) (steps k r).held
+
+-- the receiver that the program is, over an image
+abbrev pub seen : Store → HeldFrames → List (List ℕ) → Receiver
+seen p h image = record { number = p.number; time = p.time; image = image; held = h.frames }
+
+-- the disk holds the image after some of the held frames that follow
+pub record HoldsPassed (s : Shape) (r : Receiver) (disks : Disks) : Type 0 where
+  pub count : ℕ
+  pub holds : ReplicaHolds s (steps count r).number (steps count r).time (steps count r).image disks
+
+-- the receiver once a frame has arrived: it is held, where it is to be
+abbrev pub arrived : Receiver → Arrival → Receiver
+arrived r f = if is_known r f || is_beyond r f then r else record r { held = hold f r.held }
+
+-- some of the held frames that follow were applied, and a crash on the way leaves some fewer
+pub record Passed (p q : Store) (h k : HeldFrames) (a b : View) (image : List (List ℕ))
+    : Type 0 where
+  pub count : ℕ
+  pub is : seen q k (steps count (seen p h image)).image ≡ steps count (seen p h image)
+  pub mirrors : Mirrors q b (steps count (seen p h image)).image
+  pub leaves : Leaves a b (HoldsPassed p.shape (seen p h image))

@@ -1,0 +1,82 @@
+//! Making a replica: its cell and its header, and the gate last.
+
+ghost use Rattle.std.specs.Prelude.{◌≡◌, ◌≢◌, ◌↔◌, ℕ, ◌+◌, ◌≤◌, OnOk, OnErr, IfErr, IsErrOf, IsTrue, None, Some, replicate};
+ghost use Rattle.trap_bank.specs.Disks.{Quiet};
+ghost use Rattle.trap_bank.specs.Faults.{Rose};
+ghost use Rattle.trap_bank.specs.Steps.{Moves};
+ghost use Rattle.trap_format.specs.ReplicaDisk.{replica_size};
+ghost use Rattle.trap_replica.specs.OnDisk.{value_bytes};
+ghost use Rattle.trap_replica.specs.Applying.{Elsewhere};
+ghost use Rattle.trap_replica.specs.Creating.{ShutsReplica, HasShutReplica, IsMaking, HasMade, IsUntouched, zero_blocks};
+ghost use Rattle.trap_replica.specs.declared.fault.ReplicaFault.TheVariants as fault;
+
+use crate::ReplicaFault;
+use crate::layout::{CELL_AT, DISK, NUMBERS};
+use trap_bank::{Bank, DiskFault, write_through};
+use trap_cell::Cell;
+use trap_format::{Shape, replica_len, spell_replica};
+
+/// The first byte of the disk, where a replica stands there.
+const GATE: u8 = 0xa5;
+
+/// The value of a new replica's cell, which is all zeros.
+fn fresh_value<'a>(zeros: &'a [u8], s: &Shape) -> &'a [u8]
+    requires { zeros.now ≡ replicate 4116 0 }
+    ensures { result.now ≡ value_bytes 0 0 0 (replicate s.now.block 0) }
+{
+    &zeros[..NUMBERS + s.block as usize]
+}
+
+/// Makes the disk after its gate, which stays off: the cell, and the header's other bytes.
+fn shut_replica<B: Bank>(bank: &mut B, s: &Shape) -> Result<(), DiskFault>
+    ensures ok { OnOk result (Moves (B.view bank.old) (B.view bank.new) ShutsReplica
+        (HasShutReplica s.now)) }
+    ensures size { OnOk result ((B.view bank.new).sizes 17 ≡ Some (replica_size s.now)) }
+    ensures sizes { (e : ℕ) → e ≢ 17 → (B.view bank.new).sizes e ≡ (B.view bank.old).sizes e }
+    ensures touches { IsTrue (B.view bank.old).tells
+        → Quiet Elsewhere (B.view bank.old).now (B.view bank.new).now }
+    ensures cause { OnErr result
+        (Rose ((B.view bank.old).faults 17) ((B.view bank.new).faults 17)) }
+    ensures any_moment { Moves (B.view bank.old) (B.view bank.new) ShutsReplica ShutsReplica }
+{
+    let mut header = [0; 32];
+    spell_replica(s, &mut header);
+    let zeros = [0; 4116];
+    let value = fresh_value(&zeros, s);
+    bank.make(DISK, replica_len(s))?;
+    // Cell and header are stable before the gate says that they are there.
+    Cell::first(bank, DISK, CELL_AT, value)?;
+    write_through(bank, DISK, 1, &header[1..])?;
+    Ok(())
+}
+
+/// Makes a replica that holds the zero image at number 0. Nothing is done where disk 17 is there.
+pub fn create<B: Bank>(bank: &mut B, s: &Shape) -> Result<(), ReplicaFault>
+    ensures exists { IsErrOf result (fault.Exists 17) ↔ ((B.view bank.old).sizes 17 ≢ None) }
+    ensures untouched { (B.view bank.old).sizes 17 ≢ None
+        → IsUntouched (B.view bank.old) (B.view bank.new) }
+    ensures ok { OnOk result (Moves (B.view bank.old) (B.view bank.new)
+        (IsMaking s.now 0 0 (zero_blocks s.now)) (HasMade s.now 0 0 (zero_blocks s.now))) }
+    ensures size { OnOk result ((B.view bank.new).sizes 17 ≡ Some (replica_size s.now)) }
+    ensures cause { (B.view bank.old).sizes 17 ≡ None → IfErr result (λ why. (why ≡ fault.DiskFault)
+        × Rose ((B.view bank.old).faults 17) ((B.view bank.new).faults 17)) }
+    ensures sizes { (e : ℕ) → e ≢ 17 → (B.view bank.new).sizes e ≡ (B.view bank.old).sizes e }
+    ensures touches { IsTrue (B.view bank.old).tells
+        → Quiet Elsewhere (B.view bank.old).now (B.view bank.new).now }
+
+    // Stopped at any moment, disk 17 is no replica, or it holds the zero image.
+    ensures any_moment { (B.view bank.old).sizes 17 ≡ None
+        → Moves (B.view bank.old) (B.view bank.new)
+        (IsMaking s.now 0 0 (zero_blocks s.now)) (IsMaking s.now 0 0 (zero_blocks s.now)) }
+{
+    // An id that is read is known to fit the header's field.
+    let _id = s.id;
+    if bank.size(DISK).is_some() {
+        return Err(ReplicaFault::Exists { disk: DISK });
+    }
+    shut_replica(bank, s)?;
+    // The gate is a write of its own: whatever byte a crash leaves of it, the replica is whole or
+    // is none.
+    write_through(bank, DISK, 0, &[GATE])?;
+    Ok(())
+}

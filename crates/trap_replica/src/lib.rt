@@ -1,0 +1,15 @@
+//! A replica: an image of the array's volume on a disk of its own, which frames move on.
+#![tactic(auto)]
+
+mod applying;
+mod creating;
+mod fault;
+mod held;
+pub mod laws;
+mod layout;
+mod store;
+#[cfg(test)]
+mod tests;
+
+pub use creating::create;
+pub use fault::ReplicaFault;
