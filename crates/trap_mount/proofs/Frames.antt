@@ -17,7 +17,7 @@ use Rattle.trap_ring.specs.Ring.{RingHas, InRing, ring_pos}
 use Rattle.trap_stage.specs.Pending.{pending}
 use Rattle.trap_stage.specs.Slots.{InSlots}
 use Rattle.trap_stage.proofs.SlotAreas.{slots_stay, slot_behind_cell}
-use Rattle.trap_mount.specs.Holding.{head_place, log_ring, HasLog, Fits, HoldsBy, Matters, InCell, Outside}
+use Rattle.trap_mount.specs.Holding.{head_place, log_ring, HasLog, MatchesHead, HoldsBy, Matters, InCell, Outside}
 
 module _ (area : Area) (x y : Disks) (differs : Differs area x y) (g : Geometry) where
   -- the log's size and header
@@ -36,7 +36,7 @@ module _ (area : Area) (x y : Disks) (differs : Differs area x y) (g : Geometry)
       ∙ has k below
 
   -- all parts but the head's cell
-  pub fits_stay : (h : Head) (s : State) → ((e i : ℕ) → Matters g h s e i → area e i → ⊥) → Fits g h s x → Fits g h s y
+  pub fits_stay : (h : Head) (s : State) → ((e i : ℕ) → Matters g h s e i → area e i → ⊥) → MatchesHead g h s x → MatchesHead g h s y
   fits_stay h s apart fits =
       let long = length-records s in
       record {

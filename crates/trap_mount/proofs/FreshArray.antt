@@ -1,5 +1,5 @@
 -- New disks hold the fresh array, and how the calls that make them follow one another.
-use Rattle.std.proofs.Common.{◌≡◌, ℕ, ◌+◌, ◌*◌, ◌<◌, List, [], take, drop, replicate, Option, Some, None, IsTrue, inl, inr, ⊎_elim, refl, sym, ap, subst, ◌∙◌, arith}
+use Rattle.std.proofs.Common.{◌≡◌, ◌≢◌, ◌⊎◌, ℕ, ◌+◌, ◌*◌, ◌<◌, List, [], take, drop, replicate, Option, Some, None, IsTrue, inl, inr, ⊎_elim, refl, sym, ap, subst, ◌∙◌, arith}
 use Rattle.std.proofs.lemmas.List.{length-append, length-replicate}
 use Rattle.trap_bank.specs.Disks.{Contents, View, Disks, Quiet, bytes_of, size_of}
 use Rattle.trap_bank.specs.Calls.{MayLeave, IsLawful}
@@ -12,7 +12,8 @@ use Rattle.trap_model.specs.declared.numbers.Geometry.{Geometry}
 use Rattle.trap_model.proofs.KeptValid.{fresh_valid}
 use Rattle.trap_raid.specs.Members.{IsMember, IsOut, MembersHold}
 use Rattle.trap_mount.specs.Holding.{IsHeadOf, Holds, HoldsBy}
-use Rattle.trap_mount.specs.Creating.{Creates, HasCreated, NoneIsThere, OnlyMembers, new_member, HasMembers, fresh_head, IsGateOff, IsNewLog, MakesLog, HasNewLog}
+use Rattle.trap_mount.specs.CreateEnds.{IsMaking, StaysBeyond, OthersStay}
+use Rattle.trap_mount.specs.Creating.{Creates, HasCreated, NoneIsThere, OnlyDisk, OnlyMembers, new_member, HasMembers, fresh_head, IsGateOff, IsNewLog, MakesLog, HasNewLog}
 use Rattle.trap_mount.proofs.Zeros.{zero_table, zero_place}
 use Rattle.trap_mount.proofs.LogGate.{off_no_array, absent_off}
 
@@ -123,7 +124,38 @@ create_holds g a b c members log z left =
     fresh_by g z.disks (λ m inside. from.by.disks.others (m + 1) (λ zero_. omega (arith, zero_)) ∙ made.disks m inside) from.by.disks.log
 
 -- what a read gives is among what a crash leaves
-pub create_contents : (g : Geometry) (a b : View) → Moves a b (Creates g) (Creates g) → IsTrue a.tells → Quiet (Creates g) a.now b.now
+create_contents : (g : Geometry) (a b : View) → Moves a b (Creates g) (Creates g) → IsTrue a.tells → Quiet (Creates g) a.now b.now
 create_contents g a b moves told =
     let from = moves.now b.now (read_is_left b (subst IsTrue (sym moves.tells) told)) in
     record { disks = from.by.disks; said = from.by.said ∙ from.was.torn.said }
+
+-- what a read gives, and what a crash leaves
+pub is_making : (g : Geometry) (a b : View) → Moves a b (Creates g) (Creates g) → IsMaking g a b
+is_making g a b moves = record { contents = create_contents g a b moves; any_moment = moves }
+
+-- The disks beyond the members stay while the members' disks are made,
+pub others_members : (g : Geometry) (a b : View) → ((e : ℕ) → (e ≡ 0) ⊎ (g.members < e) → b.sizes e ≡ a.sizes e) → (IsTrue a.tells → OnlyMembers g a.now.disks b.now.disks)
+    → Moves a b (OnlyMembers g) (OnlyMembers g) → OthersStay g a b
+others_members g a b sizes touches moves = record {
+  sizes = λ e beyond. sizes e (inr beyond);
+  contents = λ told e beyond. touches told e (inr beyond);
+  any_moment = moves_weaken a b (OnlyMembers g) (OnlyMembers g) (StaysBeyond g) (StaysBeyond g) moves
+      (λ x y was step e beyond. step e (inr beyond))
+      (λ x y was left step e beyond. step e (inr beyond));
+}
+
+-- and while the log is made after them.
+pub others_log : (g : Geometry) (a b c : View) → ((e : ℕ) → (e ≡ 0) ⊎ (g.members < e) → b.sizes e ≡ a.sizes e) → (IsTrue a.tells → OnlyMembers g a.now.disks b.now.disks)
+    → Moves a b (OnlyMembers g) (HasMembers g g.members) → ((e : ℕ) → e ≢ 0 → c.sizes e ≡ b.sizes e) → (IsTrue b.tells → OnlyDisk 0 b.now.disks c.now.disks)
+    → Moves b c (MakesLog g) (MakesLog g) → OthersStay g a c
+others_log g a b c member_sizes member_touches members sizes touches log = record {
+  sizes = λ e beyond. sizes e (no_log e beyond) ∙ member_sizes e (inr beyond);
+  contents = λ told e beyond. touches (subst IsTrue (sym members.tells) told) e (no_log e beyond) ∙ member_touches told e (inr beyond);
+  any_moment = moves_then a b c (OnlyMembers g) (HasMembers g g.members) (MakesLog g) (MakesLog g) (StaysBeyond g) (StaysBeyond g) members log
+      (λ x y was step e beyond. step e (inr beyond))
+      (λ x y z was step mid makes e beyond. makes.others e (no_log e beyond) ∙ step.others e (inr beyond))
+      (λ x y z was step mid makes e beyond. makes.others e (no_log e beyond) ∙ step.others e (inr beyond));
+}
+  where
+    no_log : (e : ℕ) → g.members < e → e ≢ 0
+    no_log e beyond zero_ = omega (arith, zero_, beyond)

@@ -56,7 +56,7 @@ pub record KeepsOff (old new : Disks) : Type 0 where
 keeps_shuts : (x y : Disks) → KeepsOff x y → ShutsLog x y
 keeps_shuts x y keeps = record { others = keeps.others; disk = inr keeps.gate }
 
--- a change on disk 0 behind the gate
+-- a change on disk 0 after the gate
 keeps_behind : (area : Area) (x y z : Disks) → ((e i : ℕ) → area e i → (e ≡ 0) × (0 < i)) → KeepsOff x y → Differs area y z → KeepsOff x z
 keeps_behind area x y z behind keeps differs = record {
   others = only_then 0 x y z keeps.others (λ e other. disk_apart area y z e differs (λ i within. other (behind e i within).0));
@@ -112,7 +112,7 @@ cell_done g n k s head a b c size long at is made first = moves_then a b c (Rema
           value = subst (λ (p : Place). cell_value p z ≡ Some head) place first.value ∙ ap {B = Option (List ℕ)} Some is;
         }
 
--- a header's bytes behind the gate
+-- a header's bytes after the gate
 pub header_rest : (g : Geometry) (header : List ℕ) → length header ≡ 64 → header ≡ log_header g → take 63 (drop 1 header) ≡ drop 1 (log_header g)
 header_rest g header long is = take_all 63 (drop 1 header) (omega (arith, length-drop 1 header, long)) ∙ ap (λ (l : List ℕ). drop 1 l) is
 

@@ -2,13 +2,13 @@
 use Rattle.std.proofs.Common.{◌≡◌, ℕ, ◌+◌, ◌-◌, List, slice_index, Some, None, All, IsTrue, Result, Ok, Err, IfErr, IsErrAnd, inl, inr, refl, sym, ap, subst, ◌∙◌, arith}
 use Rattle.trap_bank.specs.Disks.{View, Disks}
 use Rattle.trap_bank.proofs.Moves.{always_same}
+use Rattle.trap_bank.specs.Steps.{OnlyReads}
 use Rattle.trap_cell.specs.Slots.{Slots, Stands, cell_value}
 use Rattle.trap_format.specs.HeadValue.{IsHead, IsHeadValue, head_value}
 use Rattle.trap_format.specs.declared.head.Head.{Head}
 use Rattle.trap_index.specs.Indexed.{Indexed, nothing_indexed}
 use Rattle.trap_model.specs.Image.{volume}
 use Rattle.trap_model.specs.declared.numbers.Geometry.{Geometry}
-use Rattle.trap_raid.specs.Reads.{OnlyReads}
 use Rattle.trap_ring.specs.Ring.{RingPlace, ring_pos}
 use Rattle.trap_scan.specs.Chain.{AreRecords}
 use Rattle.trap_scan.specs.Scan.{AreExpected, BreaksAt}
@@ -17,12 +17,12 @@ use Rattle.trap_scan.proofs.Windows.{window_some}
 use Rattle.trap_scan.specs.declared.expected.Expected.{Expected}
 use Rattle.trap_stage.specs.Staged.{IsStaged}
 use Rattle.trap_stage.specs.Slots.{Stage, last_of}
-use Rattle.trap_stage.specs.Found.{IsFound, IsStage, IsDamaged}
+use Rattle.trap_stage.specs.Found.{IsFound, IsStage, IsDamagedSlot}
 use Rattle.trap_stage.proofs.OneAnswer.{each_is_slot}
 use Rattle.trap_mount.specs.Holding.{head_place, log_ring}
 use Rattle.trap_mount.specs.Mounting.{HasHeader, HasHead, HasSlots, HasRecords, IsDamage, Refuses, history_of}
 use Rattle.trap_mount.specs.MountSteps.{ReadsHeader, ReadsHead, ReadsStage, ReadsLog}
-use Rattle.trap_mount.specs.Reading.{AreRead, HasTaken, ReadsIndex}
+use Rattle.trap_mount.specs.Reading.{AreRecordsRead, HasTaken, ReadsIndex}
 use Rattle.trap_mount.specs.declared.fault.MountFault.{MountFault}
 use Rattle.trap_mount.proofs.MountReads.{reads_then, told_after, disks_same, stable_reads, refused_before}
 
@@ -57,7 +57,7 @@ no_head g disks value header there version none = inr (inl (
 
 -- ---- the pending writes and the records
 
-pub bad_slot : (g : Geometry) (h : Head) (disks : Disks) (offset : ℕ) → HasHead g h disks → IsDamaged g h.drained h.last disks offset → IsDamage disks offset
+pub bad_slot : (g : Geometry) (h : Head) (disks : Disks) (offset : ℕ) → HasHead g h disks → IsDamagedSlot g h.drained h.last disks offset → IsDamage disks offset
 bad_slot g h disks offset head damaged = inr (inr (inl (g, h, head, damaged)))
 
 -- these are the numbers of a log's records
@@ -134,7 +134,7 @@ module _ (g : Geometry) (h : Head) (e : Expected) (r : RingPlace) (disks : Disks
 -- the index of the records that were read is that of the head's
 pub index_read : (g : Geometry) (h : Head) (e : Expected) (r : RingPlace) (i j : Indexed) (v : View) → AsksFor g h e → r ≡ log_ring g
     → i ≡ nothing_indexed g h.first h.base_time h.first_off → HasTaken i j e.last e.last_time
-    → (IsTrue v.tells → (bytes : List ℕ) → IsWindow r e.first_off e.end_off bytes v.now.disks → AreRead i.g.block j.recs bytes) → ReadsIndex g h j v
+    → (IsTrue v.tells → (bytes : List ℕ) → IsWindow r e.first_off e.end_off bytes v.now.disks → AreRecordsRead i.g.block j.recs bytes) → ReadsIndex g h j v
 index_read g h e r i j v asks ring none taken read = record {
   of = ap (λ (k : Indexed). k.g) taken.same ∙ ap (λ (k : Indexed). k.g) none;
   first = ap (λ (k : Indexed). k.first) taken.same ∙ ap (λ (k : Indexed). k.first) none;
@@ -145,7 +145,7 @@ index_read g h e r i j v asks ring none taken read = record {
   read = λ told bytes window.
       let P : RingPlace → Type 0 = λ (q : RingPlace). IsWindow q e.first_off e.end_off bytes v.now.disks in
       let Q : Expected → Type 0 = λ (x : Expected). IsWindow (log_ring g) x.first_off x.end_off bytes v.now.disks in
-      subst (λ (k : Indexed). AreRead k.g.block j.recs bytes) none (read told bytes (subst P (sym ring) (subst Q (sym (asked_is g h e asks)) window)));
+      subst (λ (k : Indexed). AreRecordsRead k.g.block j.recs bytes) none (read told bytes (subst P (sym ring) (subst Q (sym (asked_is g h e asks)) window)));
 }
 
 -- read over the disks as they were before

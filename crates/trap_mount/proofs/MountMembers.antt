@@ -6,14 +6,14 @@ use Rattle.std.specs.Option.{option_eq}
 use Rattle.trap_bank.specs.Disks.{View, Disks, size_of}
 use Rattle.trap_bank.specs.Calls.{IsLawful}
 use Rattle.trap_bank.specs.Faults.{Rose}
+use Rattle.trap_bank.specs.Steps.{OnlyReads}
 use Rattle.trap_format.specs.HeadValue.{lost_byte, IsHead}
 use Rattle.trap_format.specs.MemberDisk.{member_size}
 use Rattle.trap_format.specs.declared.head.Head.{Head}
 use Rattle.trap_model.specs.declared.numbers.Geometry.{Geometry}
 use Rattle.trap_raid.specs.Members.{IsMember, IsOut}
-use Rattle.trap_raid.specs.Reads.{OnlyReads}
 use Rattle.trap_mount.specs.Mounting.{HasRecords, HasMembers, AreOut, AreAbsent, IsWrong, IsFailing, Refuses}
-use Rattle.trap_mount.specs.MountSteps.{IsOnlyOut, IsFirstOut, FindsLost, ReadsMember, ReadsMembers, IsNext, KeepsRows, FindsMembers}
+use Rattle.trap_mount.specs.MountSteps.{IsOnlyOut, IsFirstOut, FindsLost, ReadsMember, ReadsMembers, IsNextMember, KeepsRows, FindsMembers}
 use Rattle.trap_mount.specs.declared.fault.MountFault.{MountFault}
 use Rattle.trap_mount.proofs.MountReads.{told_after, disks_same, stable_reads, rose_later, refused_before}
 
@@ -120,7 +120,7 @@ other_size g v m lawful told other member = other (sym (lawful.sized told (m + 1
 
 -- the member that is looked at after those below it
 pub member_next : (g : Geometry) (h : Head) (lost : Option ℕ) (n : ℕ) (a b : View) → IsTrue a.tells → n < g.members → lost ≢ Some n
-    → IsOnlyOut g h.lost lost a.now.disks → ReadsMembers g lost n a b → IsNext g h a.now.disks n
+    → IsOnlyOut g h.lost lost a.now.disks → ReadsMembers g lost n a b → IsNextMember g h a.now.disks n
 member_next g h lost n a b told inside other is_out members = record {
   inside = inside;
   counts = λ is. other (is_out.only n inside is);
@@ -128,21 +128,21 @@ member_next g h lost n a b told inside other is_out members = record {
 }
 
 -- it is the lowest wrong one where its disk isn't its own
-pub wrong_next : (g : Geometry) (h : Head) (x : Disks) (n : ℕ) → IsNext g h x n → (IsMember g x n → ⊥) → IsWrong g h x n
+pub wrong_next : (g : Geometry) (h : Head) (x : Disks) (n : ℕ) → IsNextMember g h x n → (IsMember g x n → ⊥) → IsWrong g h x n
 wrong_next g h x n next wrong = record { inside = next.inside; counts = next.counts; wrong = wrong; lowest = next.lowest }
 
 -- and it may fail where its disk has its size
-pub failing_next : (g : Geometry) (h : Head) (v : View) (n : ℕ) → IsLawful v → IsTrue v.tells → v.sizes (n + 1) ≡ Some (member_size g) → IsNext g h v.now.disks n → IsFailing g h v.now.disks n
+pub failing_next : (g : Geometry) (h : Head) (v : View) (n : ℕ) → IsLawful v → IsTrue v.tells → v.sizes (n + 1) ≡ Some (member_size g) → IsNextMember g h v.now.disks n → IsFailing g h v.now.disks n
 failing_next g h v n lawful told size next = record { inside = next.inside; counts = next.counts; sized = lawful.sized told (n + 1) ∙ size; lowest = next.lowest }
 
 -- what is refused at one disk is refused of all
 pub check_refused : (g : Geometry) (lost : Option ℕ) (n : ℕ) (a b : View) (why : MountFault) → OnlyReads a b → n < g.members → lost ≢ Some n → ReadsMembers g lost n a b
-    → (IsTrue b.tells → (h : Head) → IsNext g h b.now.disks n → HasMembers g h b.now.disks → Refuses b why)
+    → (IsTrue b.tells → (h : Head) → IsNextMember g h b.now.disks n → HasMembers g h b.now.disks → Refuses b why)
     → IsTrue a.tells → (h : Head) → IsOnlyOut g h.lost lost a.now.disks → HasMembers g h a.now.disks → Refuses a why
 check_refused g lost n a b why reads inside other members refused told h only has =
     let same = disks_same a b reads told in
     refused_before a b why reads (λ later. refused later h
-    (subst (λ (x : Disks). IsNext g h x n) (sym same) (member_next g h lost n a b told inside other only members))
+    (subst (λ (x : Disks). IsNextMember g h x n) (sym same) (member_next g h lost n a b told inside other only members))
     (subst (λ (x : Disks). HasMembers g h x) (sym same) has)) told
 
 -- ---- tests

@@ -1,31 +1,30 @@
 -- What mounting leaves, from what it found and the put of its head.
 use Rattle.std.proofs.Common.{◌≡◌, ◌≢◌, ℕ, ◌+◌, ◌<◌, ◌≤◌, List, length, Option, Some, None, Bool, true, false, IsTrue, inl, inr, ⊎_elim, refl, sym, ap, subst, ◌∙◌, arith}
-use Rattle.trap_bank.specs.Disks.{Contents, View, Disks, Quiet, Differs, size_of, region}
+use Rattle.trap_bank.specs.Disks.{Contents, View, Disks, Quiet, Differs, size_of}
 use Rattle.trap_bank.specs.Calls.{MayLeave, IsLawful}
 use Rattle.trap_bank.specs.Faults.{Rose}
-use Rattle.trap_bank.specs.Steps.{Moves, Same, Always}
+use Rattle.trap_bank.specs.Steps.{Moves, Same, Always, OnlyReads}
 use Rattle.trap_bank.proofs.Regions.{region_of_disk, disk_apart}
 use Rattle.trap_bank.proofs.Moves.{moves_then, moves_weaken, always_same, read_is_left}
 use Rattle.trap_cell.specs.Slots.{Place, Slots, Stands, slot_at, value_at, current_slot, cell_value, other_slot}
 use Rattle.trap_cell.specs.Steps.{PutsIn, IsPut}
-use Rattle.trap_format.specs.LogDisk.{log_size, IsLogHeader}
+use Rattle.trap_format.specs.LogDisk.{log_size}
 use Rattle.trap_format.specs.MemberDisk.{member_size}
 use Rattle.trap_format.specs.HeadValue.{IsHead, head_value}
 use Rattle.trap_format.specs.declared.head.Head.{Head}
-use Rattle.trap_format.proofs.Spellings.{heads_same, logs_same}
+use Rattle.trap_format.proofs.Spellings.{heads_same}
 use Rattle.trap_index.specs.Indexed.{Indexed}
 use Rattle.trap_model.specs.State.{last}
 use Rattle.trap_model.specs.declared.numbers.Geometry.{Geometry}
 use Rattle.trap_model.specs.declared.history.State.{State}
 use Rattle.trap_raid.specs.Members.{Counts, IsMember, IsOut}
-use Rattle.trap_raid.specs.Reads.{OnlyReads}
 use Rattle.trap_stage.specs.Slots.{Stage, SlotsAre}
 use Rattle.trap_stage.specs.Pending.{pending}
 use Rattle.trap_stage.specs.Found.{IsFound}
 use Rattle.trap_stage.proofs.FurtherSlots.{found_pending}
-use Rattle.trap_mount.specs.Holding.{head_place, Fits, Holds, HoldsBy}
+use Rattle.trap_mount.specs.Holding.{head_place, MatchesHead, Holds, HoldsBy}
 use Rattle.trap_mount.specs.Mounted.{Mounted, StandsFor, IsReady}
-use Rattle.trap_mount.specs.Mounting.{HoldsStill, Mounts, HasRecords, HasMembers, FoundLost, HasFound, IsFailing, Refuses, MountFails, is_refusal, PutsHead, MayPutHead, HasPutHead, KeepsLost, WritesHead}
+use Rattle.trap_mount.specs.Mounting.{KeepsWhoIsLost, Mounts, KeepsEachState, HasRecords, HasMembers, FoundLost, HasFound, IsFailing, Refuses, MountFails, is_refusal, PutsHead, MayPutHead, HasPutHead, WritesHead}
 use Rattle.trap_mount.specs.MountEnds.{KnowsDisks}
 use Rattle.trap_mount.specs.MountSteps.{ReadsLog, ReadsStage, ReadsMember, FindsMembers, MayPut, HasPut}
 use Rattle.trap_mount.specs.Reading.{ReadsIndex}
@@ -46,10 +45,6 @@ value_of_disk x y same = in_slot (current_slot head_place y) ∙ ap (λ (slot : 
     in_slot None = refl
     in_slot (Some second) = ap {B = Option (List ℕ)} Some (region_of_disk x y 0 (slot_at head_place second + 2) 62 same)
 
--- a run that ends before the put
-pub mounts_read : (a b : View) → OnlyReads a b → Moves a b (Mounts a) (Mounts a)
-mounts_read a b reads = moves_weaken a b Same Same (Mounts a) (Mounts a) reads.moves (λ x y was same. inl same) (λ x y was left same. inl same)
-
 -- what is refused of the members
 pub members_refused : (g : Geometry) (h : Head) (cell : Slots) (stage : Stage) (a b : View) (why : MountFault) → OnlyReads a b → ReadsLog g h cell stage a b
     → (IsTrue b.tells → HasRecords g h b.now.disks → Refuses b why) → IsTrue a.tells → Refuses a why
@@ -60,13 +55,13 @@ members_refused g h cell stage a b why reads log refused told =
 pub put_failed : (a c d : View) (why : MountFault) → OnlyReads a c → Rose (c.faults 0) (d.faults 0) → ◌≡◌ {A = MountFault} LogFault why → MountFails why a d
 put_failed a c d why reads rose is = subst (λ (w : MountFault). MountFails w a d) is (rose_later _ _ _ (reads.moves.faults 0) rose)
 
+some_same : (xs ys : List ℕ) → Some xs ≡ Some ys → xs ≡ ys
+some_same xs ys e = cc
+
 -- one value of the head's cell is that of one head
 one_head : (g : Geometry) (h k : Head) (s t : State) (x y : Disks) → HoldsBy g h s x → HoldsBy g k t y → cell_value head_place y ≡ cell_value head_place x → h ≡ k
 one_head g h k s t x y by also same = heads_same g h k (head_value h) (record { head = by.fits.head.head; spelled = refl })
     (record { head = also.fits.head.head; spelled = some_same (head_value h) (head_value k) (sym by.value ∙ sym same ∙ also.value) })
-  where
-    some_same : (xs ys : List ℕ) → Some xs ≡ Some ys → xs ≡ ys
-    some_same xs ys e = cc
 
 -- over disks that hold a state nothing is refused, and a member that fails is one that isn't out
 module _ (a b : View) (g : Geometry) (h : Head) (s : State) (told : IsTrue a.tells) (by : HoldsBy g h s a.now.disks) (log : Rose (a.faults 0) (b.faults 0) → ⊥)
@@ -104,9 +99,21 @@ same_lost : (g : Geometry) (h k : Head) (old new : View) → h ≡ k → FoundLo
 same_lost g h k old new same = subst (λ (t : Head). FoundLost g h t old new) same (record { same = refl; lost = λ m is. inl is; still = λ m is. is; mark = inl refl })
 
 -- where nothing was written, the head is the same
-pub read_lost : (a b : View) → OnlyReads a b → (g : Geometry) (h k : Head) (s t : State) → IsTrue a.tells → HoldsBy g h s a.now.disks → HoldsBy g k t b.now.disks → FoundLost g h k a b
+read_lost : (a b : View) → OnlyReads a b → (g : Geometry) (h k : Head) (s t : State) → IsTrue a.tells → HoldsBy g h s a.now.disks → HoldsBy g k t b.now.disks → FoundLost g h k a b
 read_lost a b reads g h k s t told by also =
     same_lost g h k a b (one_head g h k s t a.now.disks b.now.disks by also (ap (cell_value head_place) (disks_same a b reads told)))
+
+-- a run that ends before the put keeps each state
+pub keeps_read : (a b : View) → OnlyReads a b → KeepsEachState a b
+keeps_read a b reads = record {
+  contents = λ told. record { disks = inl (disks_same a b reads told); said = ap (λ (n : Contents). n.said) (reads.same told) };
+  any_moment = moves_weaken a b Same Same (Mounts a b) (Mounts a b) reads.moves (λ x y was same. inl same) (λ x y was left same. inl same);
+  lost = read_lost a b reads;
+}
+
+-- the disks hold each state still, whoever is lost
+pub keeps_states : (v w : View) (new : Disks) → KeepsWhoIsLost v w new → (g : Geometry) (s : State) → Holds g s v.now.disks → Holds g s new
+keeps_states v w new keeps g s holds = let kept = keeps g holds.head s holds.by in record { head = kept.0; by = kept.1 }
 
 pub read_others : (a b : View) → OnlyReads a b → IsTrue a.tells → (e : ℕ) → e ≢ 0 → b.now.disks e ≡ a.now.disks e
 read_others a b reads told e other = ap (λ (x : Disks). x e) (disks_same a b reads told)
@@ -129,47 +136,12 @@ module _ (a b : View) (cell : Slots) (h k : Head) (other : k ≢ h) (bytes : Lis
       (λ x y was step. put_of x.disks y.disks step)
       (λ x y was left step. inr (other, subst (λ (value : List ℕ). IsPut b cell after value x.disks y.disks) is step))
 
--- a head that is put is the lost member's, or the one before
-lost_put : (v w : View) (x y : Disks) → MayPutHead v w x y → KeepsLost v w x y
-lost_put v w x y step g h k s t by also = ⊎_elim
-    (λ same. same_lost g h k v w (one_head g h k s t x y by also (ap (cell_value head_place) same)))
-    (λ puts. decide puts.0 puts.1)
-    step
-  where
-    some_same : (xs ys : List ℕ) → Some xs ≡ Some ys → xs ≡ ys
-    some_same xs ys e = cc
-
-    decide : (put : Head) → PutsHead v w put x y → FoundLost g h k v w
-    decide put puts =
-        let header = puts.passed.records.slots.head.header in
-        let value = value_of_disk v.now.disks x puts.synced ∙ puts.passed.records.slots.head.value in
-        let one : g ≡ puts.g = logs_same g puts.g (region x 0 0 64) by.fits.log.id header.id by.fits.log.header
-        (subst (λ (bytes : List ℕ). IsLogHeader puts.g bytes) (sym (region_of_disk v.now.disks x 0 0 64 puts.synced)) header.header) in
-        let found : puts.found ≡ h = heads_same puts.g puts.found h (head_value puts.found) (record { head = puts.passed.records.slots.head.head; spelled = refl })
-        (record { head = subst (λ (q : Geometry). IsHead q h) one by.fits.head.head; spelled = some_same (head_value puts.found) (head_value h) (sym value ∙ by.value) }) in
-        ⊎_elim
-        (λ same. same_lost g h k v w (one_head g h k s t x y by also (same ∙ sym value)))
-        (λ fresh.
-        let now : put ≡ k = heads_same puts.g put k (head_value put) (record { head = puts.head; spelled = refl })
-        (record { head = subst (λ (q : Geometry). IsHead q k) one also.fits.head.head; spelled = some_same (head_value put) (head_value k) (sym fresh ∙ also.value) }) in
-        subst (λ (q : Geometry). FoundLost q h k v w) (sym one)
-        (subst (λ (q : Head). FoundLost puts.g q k v w) found (subst (λ (q : Head). FoundLost puts.g puts.found q v w) now puts.lost)))
-        puts.value
-
--- what is written at any moment says which member is lost
-head_writes : (a d : View) → Moves a d (MayPutHead a d) (MayPutHead a d) → (IsTrue a.tells → Quiet (MayPutHead a d) a.now d.now) → WritesHead a d
-head_writes a d moves contents = record {
-  contents = contents;
-  any_moment = moves;
-  lost = moves_weaken a d (MayPutHead a d) (MayPutHead a d) (KeepsLost a d) (KeepsLost a d) moves
-      (λ x y was step. lost_put a d x.disks y.disks step)
-      (λ x y was left step. lost_put a d x.disks y.disks step);
-}
-
 -- a run that writes nothing
 pub head_read : (a b : View) → OnlyReads a b → WritesHead a b
-head_read a b reads = head_writes a b (moves_weaken a b Same Same (MayPutHead a b) (MayPutHead a b) reads.moves (λ x y was same. inl same) (λ x y was left same. inl same))
-    (λ told. record { disks = inl (disks_same a b reads told); said = ap (λ (n : Contents). n.said) (reads.same told) })
+head_read a b reads = record {
+  contents = λ told. record { disks = inl (disks_same a b reads told); said = ap (λ (n : Contents). n.said) (reads.same told) };
+  any_moment = moves_weaken a b Same Same (MayPutHead a b) (MayPutHead a b) reads.moves (λ x y was same. inl same) (λ x y was left same. inl same);
+}
 
 -- the array that was mounted
 abbrev pub mounted_by : Geometry → Head → Slots → Stage → Indexed → Mounted
@@ -229,8 +201,16 @@ module _ (g : Geometry) (h k : Head) (cell : Slots) (stage : Stage) (a b c : Vie
       let same = disks_same a b to_b told in
       subst (λ (x : Disks). HasMembers g h x) same (finds_one g h k.lost b lawful later members.lost (subst (λ (x : Disks). HasRecords g h x) (sym same) (log.records told)))
 
+  -- each member that isn't out has its own disk
+  others_own : IsTrue a.tells → (m : ℕ) → m < g.members → (IsOut h.lost a.now.disks m → ⊥) → IsMember g a.now.disks m
+  others_own told m inside counts =
+      let later = told_after a b to_b told in
+      let same = disks_same a b to_b told in
+      subst (λ (x : Disks). IsMember g x m) same
+      ((members.others m inside (λ is. counts (subst (λ (x : Disks). IsOut h.lost x m) same ((finds_only g h k.lost b lawful later members.lost).out m is)))).own later)
+
   -- a state that was held on entry fits the head that is put
-  fits_entry : IsTrue a.tells → (s : State) → Holds g s a.now.disks → Fits g k s a.now.disks
+  fits_entry : IsTrue a.tells → (s : State) → Holds g s a.now.disks → MatchesHead g k s a.now.disks
   fits_entry told s holds =
       let found = found_entry told in
       let by = held_by_read g h s a.now.disks holds (log.head.value told) log.head.head in
@@ -242,7 +222,7 @@ module _ (g : Geometry) (h k : Head) (cell : Slots) (stage : Stage) (a b c : Vie
   log_left : (y : Contents) → MayLeave c y → y.disks 0 ≡ a.now.disks 0
   log_left y left = stable_reads b c 0 to_c log.header.stable y left ∙ ap (λ (x : Disks). x 0) (disks_same a c reads (told_before a c reads left.told))
 
-  fits_left : (y : Contents) → MayLeave c y → (s : State) → Holds g s a.now.disks → Fits g k s y.disks
+  fits_left : (y : Contents) → MayLeave c y → (s : State) → Holds g s a.now.disks → MatchesHead g k s y.disks
   fits_left y left s holds =
       let told = told_before a c reads left.told in
       let same = disks_same a c reads told in
@@ -252,9 +232,29 @@ module _ (g : Geometry) (h k : Head) (cell : Slots) (stage : Stage) (a b c : Vie
   header_entry : IsTrue a.tells → (g' : Geometry) (s : State) → Holds g' s a.now.disks → g' ≡ g
   header_entry told g' s holds = one_array g g' s a.now.disks (log.header.header told) holds
 
+  -- the head that was found is that of a state held on entry
+  found_is : IsTrue a.tells → (t : Head) (s : State) → HoldsBy g t s a.now.disks → h ≡ t
+  found_is told t s by = heads_same g h t (head_value h) (record { head = log.head.head; spelled = refl })
+      (record { head = by.fits.head.head; spelled = some_same (head_value h) (head_value t) (sym (log.head.value told) ∙ by.value) })
+
+  -- the new head holds each state
+  put_keeps : (w : View) → ((e : ℕ) → c.faults e ≤ w.faults e) → (y : Contents) (z : Disks) → MayLeave c y → Differs (other_slot cell) y.disks z
+      → cell_value cell.place z ≡ Some (head_value k) → KeepsWhoIsLost a w z
+  put_keeps w later y z left differs fresh n t s by =
+      let told = told_before a c reads left.told in
+      let one : n ≡ g = header_entry told n s (record { head = t; by = by }) in
+      let here = subst (λ (q : Geometry). HoldsBy q t s a.now.disks) one by in (
+        k,
+        subst (λ (q : Geometry). HoldsBy q k s z) (sym one) (record {
+          value = subst (λ (p : Place). cell_value p z ≡ Some (head_value k)) log.head.place fresh;
+          fits = fits_put g k s y.disks z (put_in_cell cell y.disks z log.head.place differs) (fits_left y left s (record { head = t; by = here }));
+        }),
+        subst (λ (q : Geometry). FoundLost q t k a w) (sym one) (subst (λ (q : Head). FoundLost g q k a w) (found_is told t s here) (found_until w later told)),
+      )
+
   -- at any moment of the put
-  put_mounts : (y : Contents) (z : Disks) → MayLeave c y → MayPut cell h k y.disks z → Mounts a y.disks z
-  put_mounts y z left put = ⊎_elim inl (λ putting. let puts = putting.1 in inr (⊎_elim
+  put_mounts : (w : View) → ((e : ℕ) → c.faults e ≤ w.faults e) → (y : Contents) (z : Disks) → MayLeave c y → MayPut cell h k y.disks z → Mounts a w y.disks z
+  put_mounts w later y z left put = ⊎_elim inl (λ putting. let puts = putting.1 in inr (⊎_elim
       (λ same. inl (record {
         cell = cell;
         place = log.head.place;
@@ -262,20 +262,8 @@ module _ (g : Geometry) (h k : Head) (cell : Slots) (stage : Stage) (a b c : Vie
         differs = puts.differs;
         value = subst (λ (p : Place). cell_value p z ≡ cell_value p y.disks) log.head.place same;
       }))
-      (λ fresh. inr (held puts.differs fresh))
+      (λ fresh. inr (put_keeps w later y z left puts.differs fresh))
       puts.either)) put
-    where
-      held : Differs (other_slot cell) y.disks z → cell_value cell.place z ≡ Some (head_value k) → HoldsStill a z
-      held differs fresh g' s holds =
-          let told = told_before a c reads left.told in
-          let one = header_entry told g' s holds in
-          subst (λ (n : Geometry). Holds n s z) (sym one) (record {
-            head = k;
-            by = record {
-              value = subst (λ (p : Place). cell_value p z ≡ Some (head_value k)) log.head.place fresh;
-              fits = fits_put g k s y.disks z (put_in_cell cell y.disks z log.head.place differs) (fits_left y left s (subst (λ (n : Geometry). Holds n s a.now.disks) one holds));
-            };
-          })
 
   -- the head that is put, whatever the disks hold
   puts_head : (w : View) → ((e : ℕ) → c.faults e ≤ w.faults e) → (y : Contents) (z : Disks) → MayLeave c y → k ≢ h → PutsIn cell (head_value k) y.disks z → PutsHead a w k y.disks z
@@ -285,6 +273,7 @@ module _ (g : Geometry) (h k : Head) (cell : Slots) (stage : Stage) (a b c : Vie
         g = g;
         found = h;
         passed = all_passed told;
+        own = others_own told;
         head = members.head;
         lost = found_until w later told;
         changed = other;
@@ -310,7 +299,7 @@ module _ (g : Geometry) (h k : Head) (cell : Slots) (stage : Stage) (a b c : Vie
 
   module _ (d : View) where
     pub writes_head : Moves c d (MayPut cell h k) (MayPut cell h k) → (IsTrue c.tells → Quiet (MayPut cell h k) c.now d.now) → WritesHead a d
-    writes_head put now = head_writes a d moves contents
+    writes_head put now = record { contents = contents; any_moment = moves }
       where
         moves : Moves a d (MayPutHead a d) (MayPutHead a d)
         moves = moves_then a c d Same Same (MayPut cell h k) (MayPut cell h k) (MayPutHead a d) (MayPutHead a d) reads.moves put
@@ -327,22 +316,6 @@ module _ (g : Geometry) (h k : Head) (cell : Slots) (stage : Stage) (a b c : Vie
               said = step.said ∙ ap (λ (n : Contents). n.said) (reads.same told);
             }
 
-    -- with the put
-    pub mounts_put : Moves c d (MayPut cell h k) (MayPut cell h k) → Moves a d (Mounts a) (Mounts a)
-    mounts_put put = moves_then a c d Same Same (MayPut cell h k) (MayPut cell h k) (Mounts a) (Mounts a) reads.moves put
-        (λ x y was same. inl same)
-        (λ x y z was same mid step. subst (λ (q : Disks). Mounts a q z.disks) same (put_mounts y z.disks mid step))
-        (λ x y z was same mid step. subst (λ (q : Disks). Mounts a q z.disks) same (put_mounts y z.disks mid step))
-
-    pub mounts_contents : (IsTrue c.tells → Quiet (MayPut cell h k) c.now d.now) → IsTrue a.tells → Quiet (Mounts a) a.now d.now
-    mounts_contents put told =
-        let later = told_after a c reads told in
-        let step = put later in
-        record {
-          disks = subst (λ (q : Disks). Mounts a q d.now.disks) (disks_same a c reads told) (put_mounts c.now d.now.disks (read_is_left c later) step.disks);
-          said = step.said ∙ ap (λ (n : Contents). n.said) (reads.same told);
-        }
-
     -- no disk but the log changes
     pub put_others : (IsTrue c.tells → Quiet (MayPut cell h k) c.now d.now) → IsTrue a.tells → (e : ℕ) → e ≢ 0 → d.now.disks e ≡ a.now.disks e
     put_others put told e other = ⊎_elim (λ same. ap (λ (x : Disks). x e) same)
@@ -351,7 +324,7 @@ module _ (g : Geometry) (h k : Head) (cell : Slots) (stage : Stage) (a b c : Vie
         ∙ ap (λ (x : Disks). x e) (disks_same a c reads told)
 
     -- and the lost member is the one that was found, or the one before
-    pub put_lost : ((e : ℕ) → c.faults e ≤ d.faults e) → (IsTrue c.tells → Quiet (MayPut cell h k) c.now d.now) → (n : Geometry) (l t : Head) (s u : State) → IsTrue a.tells
+    put_lost : ((e : ℕ) → c.faults e ≤ d.faults e) → (IsTrue c.tells → Quiet (MayPut cell h k) c.now d.now) → (n : Geometry) (l t : Head) (s u : State) → IsTrue a.tells
         → HoldsBy n l s a.now.disks → HoldsBy n t u d.now.disks → FoundLost n l t a d
     put_lost later put n l t s u told by also = ⊎_elim
         (λ same. same_lost n l t a d (one_head n l t s u a.now.disks d.now.disks by also (ap (cell_value head_place) (same ∙ disks_same a c reads told))))
@@ -362,19 +335,31 @@ module _ (g : Geometry) (h k : Head) (cell : Slots) (stage : Stage) (a b c : Vie
         puts.either)
         (put (told_after a c reads told)).disks
       where
-        some_same : (xs ys : List ℕ) → Some xs ≡ Some ys → xs ≡ ys
-        some_same xs ys e = cc
-
         put_it : cell_value head_place d.now.disks ≡ Some (head_value k) → FoundLost n l t a d
         put_it value =
             let one : n ≡ g = header_entry told n s (record { head = l; by = by }) in
-            let found = found_until d later told in
-            let before : h ≡ l = heads_same g h l (head_value h) (record { head = log.head.head; spelled = refl })
-            (record { head = subst (λ (q : Geometry). IsHead q l) one by.fits.head.head; spelled = some_same (head_value h) (head_value l) (sym (log.head.value told) ∙ by.value) }) in
+            let before : h ≡ l = found_is told l s (subst (λ (q : Geometry). HoldsBy q l s a.now.disks) one by) in
             let now : k ≡ t = heads_same g k t (head_value k) (record { head = members.head; spelled = refl })
             (record { head = subst (λ (q : Geometry). IsHead q t) one also.fits.head.head; spelled = some_same (head_value k) (head_value t) (sym value ∙ also.value) }) in
             subst (λ (q : Geometry). FoundLost q l t a d) (sym one)
-            (subst (λ (q : Head). FoundLost g q t a d) before (subst (λ (q : Head). FoundLost g h q a d) now found))
+            (subst (λ (q : Head). FoundLost g q t a d) before (subst (λ (q : Head). FoundLost g h q a d) now (found_until d later told)))
+
+    -- so each state is kept
+    pub keeps_put : Moves c d (MayPut cell h k) (MayPut cell h k) → (IsTrue c.tells → Quiet (MayPut cell h k) c.now d.now) → KeepsEachState a d
+    keeps_put put now = record {
+      contents = λ told.
+          let later = told_after a c reads told in
+          let step = now later in
+          record {
+            disks = subst (λ (q : Disks). Mounts a d q d.now.disks) (disks_same a c reads told) (put_mounts d put.faults c.now d.now.disks (read_is_left c later) step.disks);
+            said = step.said ∙ ap (λ (n : Contents). n.said) (reads.same told);
+          };
+      any_moment = moves_then a c d Same Same (MayPut cell h k) (MayPut cell h k) (Mounts a d) (Mounts a d) reads.moves put
+          (λ x y was same. inl same)
+          (λ x y z was same mid step. subst (λ (q : Disks). Mounts a d q z.disks) same (put_mounts d put.faults y z.disks mid step))
+          (λ x y z was same mid step. subst (λ (q : Disks). Mounts a d q z.disks) same (put_mounts d put.faults y z.disks mid step));
+      lost = put_lost put.faults now;
+    }
 
     module _ (after : Slots) (index : Indexed) (known : ReadsIndex g h index a) (put : Moves c d (MayPut cell h k) (HasPut d cell after h k)) (sizes : (e : ℕ) → d.sizes e ≡ c.sizes e) where
       cell_after : Always d (Stands after)
@@ -382,15 +367,6 @@ module _ (g : Geometry) (h k : Head) (cell : Slots) (stage : Stage) (a b c : Vie
           let from = put.now w left in
           ⊎_elim (λ none. subst (λ (q : Disks). Stands after q) (sym none.0) (subst (λ (t : Slots). Stands t from.origin.disks) (sym none.2) (stands_still from.origin from.was)))
           (λ done. done.1.stands) from.by.disks
-
-      pub mount_ready : IsReady (mounted_by g k after stage index) d
-      mount_ready = record {
-        sizes = λ going. record {
-          log = (log_size g, sizes 0 ∙ reads.sizes 0 ∙ log.header.size, omega arith);
-          members = λ m inside counts. (member_size g, sizes (m + 1) ∙ to_c.sizes (m + 1) ∙ (member_read m inside counts).size, omega arith);
-        };
-        stands = λ going. cell_after;
-      }
 
       pending_is : IsTrue a.tells → (s : State) → Holds g s a.now.disks → stage.pending ≡ pending g s k.drained
       pending_is told s holds =
@@ -421,7 +397,7 @@ module _ (g : Geometry) (h k : Head) (cell : Slots) (stage : Stage) (a b c : Vie
                       (λ none. record {
                         value = subst (λ (q : Disks). cell_value head_place q ≡ Some (head_value k)) (sym none.0)
                             (value_of_disk a.now.disks from.origin.disks (log_left from.origin from.was) ∙ log.head.value told ∙ ap (λ (t : Head). Some (head_value t)) (sym none.1));
-                        fits = subst (λ (q : Disks). Fits g k s q) (sym none.0) fits;
+                        fits = subst (λ (q : Disks). MatchesHead g k s q) (sym none.0) fits;
                       })
                       (λ done. record {
                         value = subst (λ (p : Place). cell_value p w.disks ≡ Some (head_value k)) log.head.place done.1.value;
@@ -467,6 +443,17 @@ module _ (g : Geometry) (h k : Head) (cell : Slots) (stage : Stage) (a b c : Vie
           members_drained : k.drained ≡ h.drained
           members_drained = ap (λ (t : Head). t.drained) members.same
 
+      pub mount_ready : IsReady (mounted_by g k after stage index) d
+      mount_ready = record {
+        sizes = λ going. record {
+          log = (log_size g, sizes 0 ∙ reads.sizes 0 ∙ log.header.size, omega arith);
+          members = λ m inside counts. (member_size g, sizes (m + 1) ∙ to_c.sizes (m + 1) ∙ (member_read m inside counts).size, omega arith);
+        };
+        stands = λ going. cell_after;
+        value = λ going w left. let from = put.now w left in (done_head from.origin w.disks from.was from.by.disks).1;
+        count = λ going. mount_knows.count;
+      }
+
       pub mount_found : HasFound (mounted_by g k after stage index) a d
       mount_found = record {
         passed = λ told.
@@ -475,7 +462,7 @@ module _ (g : Geometry) (h k : Head) (cell : Slots) (stage : Stage) (a b c : Vie
               h,
               all_passed told,
               found_until d put.faults told,
-              λ m inside counts. subst (λ (x : Disks). IsMember g x m) same ((members.others m inside (λ is. counts (subst (λ (x : Disks). IsOut h.lost x m) same ((finds_only g h k.lost b lawful later members.lost).out m is)))).own later),
+              others_own told,
               λ m is more. subst (λ (x : Disks). IsMember g x m) same ((members.own m is more).own later),
             );
       }

@@ -3,10 +3,9 @@ use Rattle.std.proofs.Common.{◌≡◌, ℕ, ◌+◌, ◌≤◌, Bool, true, fa
 use Rattle.trap_bank.specs.Disks.{Contents, View, Disks}
 use Rattle.trap_bank.specs.Calls.{Syncs}
 use Rattle.trap_bank.specs.Faults.{Rose}
-use Rattle.trap_bank.specs.Steps.{Moves, Same}
+use Rattle.trap_bank.specs.Steps.{Moves, Same, OnlyReads}
 use Rattle.trap_bank.proofs.Moves.{synced_steps, same_then, no_moves}
 use Rattle.trap_model.specs.declared.numbers.Geometry.{Geometry}
-use Rattle.trap_raid.specs.Reads.{OnlyReads}
 use Rattle.trap_mount.specs.MountSteps.{IsStable}
 use Rattle.trap_mount.specs.Mounting.{Refuses, RefusesAs, MountFails, SizesShow}
 use Rattle.trap_mount.specs.declared.fault.MountFault.{MountFault}

@@ -18,7 +18,7 @@ use Rattle.trap_model.specs.declared.numbers.Geometry.{Geometry}
 use Rattle.trap_model.proofs.LogRecords.{LogRecord-apart, front-same}
 use Rattle.trap_model.proofs.Records.{record_is_log_record, length-records}
 use Rattle.trap_model.proofs.Validity.{written_is_image}
-use Rattle.trap_model.specs.LogRecord.{KeepsRanges}
+use Rattle.trap_model.specs.LogRecord.{IsRecordInRange}
 use Rattle.trap_ring.specs.Ring.{RingPlace}
 use Rattle.trap_scan.specs.Window.{IsWindow, IsLoaded, IsAhead, Looks}
 use Rattle.trap_scan.specs.Scan.{IsAtFirst, GivesNext, TakesNext, IsChecked}
@@ -26,7 +26,7 @@ use Rattle.trap_scan.specs.declared.scan.Scan.{Scan}
 use Rattle.trap_scan.specs.declared.expected.Expected.{Expected}
 use Rattle.trap_scan.proofs.Chains.{Scanned, scanned_none, scanned_next}
 use Rattle.trap_mount.specs.Holding.{log_ring, HoldsBy}
-use Rattle.trap_mount.specs.Reading.{Begins, AreRead, Awaits, ReadsIndex}
+use Rattle.trap_mount.specs.Reading.{Begins, AreRecordsRead, Awaits, ReadsIndex}
 
 -- times that never fall end at no earlier one
 time_rises : (before : ℕ) (entries : List Entry) → NeverFall before entries → before ≤ time_after before entries
@@ -39,7 +39,7 @@ cons_same a b xs ys one two = cc
 -- as many records as there are entries, read from the entries' bytes, are theirs
 read_headers : (g : Geometry) (image : List (List ℕ)) (q time : ℕ) (entries : List Entry) (recs : List LogRec) → length recs ≡ length entries → time_after time entries < 2 ^ 64
     → IsImage g image → All (IsEntry g) entries → NeverFall time entries → q + length entries ≤ 2 ^ 40
-    → AreRead g.block recs (records_from image q entries) → recs ≡ headers_from image q entries
+    → AreRecordsRead g.block recs (records_from image q entries) → recs ≡ headers_from image q entries
 read_headers g image q time [] [] count below is all rise most read = refl
 read_headers g image q time [] (r ∷ recs) count below is all rise most read = absurd (omega arith)
 read_headers g image q time (entry ∷ later) [] count below is all rise most read = absurd (omega arith)
@@ -56,7 +56,7 @@ read_headers g image q time (entry ∷ later) (r ∷ recs) count below is all ri
     let behind = (front-same begins.first (record_of (q + 1) old entry) rest after (ap length same.3) parts).1 in
     cons_same r (rec_of (q + 1) old entry) recs (headers_from (written image entry) (q + 1) later) same.0
     (read_headers g (written image entry) (q + 1) entry.time later recs (omega arith) below (written_is_image g image entry is fits) (All-tail (IsEntry g) entry later all) rise.1 (omega arith)
-    (subst (λ (bytes : List ℕ). AreRead g.block recs bytes) behind more))
+    (subst (λ (bytes : List ℕ). AreRecordsRead g.block recs bytes) behind more))
 
 -- over disks that hold a state, the index of what was read describes it
 pub read_described : (g : Geometry) (h : Head) (s : State) (index : Indexed) (v : View) → HoldsBy g h s v.now.disks → ReadsIndex g h index v → IsTrue v.tells → Describes index s
@@ -75,11 +75,11 @@ read_described g h s index v by known told =
           (known.read told (records s) window);
     }
 
--- From what is ahead of one scan, the bytes ahead of a later one follow behind these records.
+-- From what is ahead of one scan, the bytes ahead of a later one follow these records.
 pub record ReadsTo (place : RingPlace) (disks : Disks) (new : Scan) (size : ℕ) (recs : List LogRec) (bytes : List ℕ) : Type 0 where
   pub rest : List ℕ
   pub ahead : IsAhead place new.window rest disks
-  pub before : (more : List LogRec) → AreRead size more rest → AreRead size (recs ++ more) bytes
+  pub before : (more : List LogRec) → AreRecordsRead size more rest → AreRecordsRead size (recs ++ more) bytes
 
 -- some records were taken, and the index has them
 pub record Taken (place : RingPlace) (a b : View) (old new : Scan) (before after : Indexed) : Type 0 where
@@ -108,7 +108,7 @@ taken_none place v s i first awaits more loaded =
       read = λ told bytes ahead. record {
         rest = bytes;
         ahead = ahead;
-        before = λ records is. subst (λ (l : List LogRec). AreRead i.g.block (l ++ records) bytes) (sym none) is;
+        before = λ records is. subst (λ (l : List LogRec). AreRecordsRead i.g.block (l ++ records) bytes) (sym none) is;
       };
     }
 
@@ -128,7 +128,7 @@ taken_may place a b old mid new i j r awaits taken more takes checked =
       number = omega (arith, takes.number, taken.end);
       time = omega (arith, taken.time, checked.later);
       block = subst (λ (n : ℕ). r.block < n) (volume_of ∙ awaits.volume_ ∙ ap (λ (k : Indexed). volume k.g) (sym taken.same)) checked.block;
-      ranges = subst (λ (n : ℕ). KeepsRanges n r) (size_of ∙ awaits.size ∙ ap (λ (k : Indexed). k.g.block) (sym taken.same)) checked.ranges;
+      ranges = subst (λ (n : ℕ). IsRecordInRange n r) (size_of ∙ awaits.size ∙ ap (λ (k : Indexed). k.g.block) (sym taken.same)) checked.ranges;
     }
 
 -- one more is taken, and added
@@ -163,11 +163,11 @@ taken_next place a b c old mid new i j k r awaits taken more looks expected take
           rest = next.0;
           ahead = subst (λ (d : Disks). IsAhead place new.window next.0 d) same next.2;
           before = λ records is.
-              let P : List LogRec → Type 0 = λ (l : List LogRec). AreRead i.g.block (l ++ records) bytes in
+              let P : List LogRec → Type 0 = λ (l : List LogRec). AreRecordsRead i.g.block (l ++ records) bytes in
               subst P (sym (ap (λ (n : Indexed). n.recs) known))
-              (subst (λ (l : List LogRec). AreRead i.g.block l bytes) (sym (append_assoc j.recs (r ∷ []) records)) (reads.before (r ∷ records) (next.0, begins, is)));
+              (subst (λ (l : List LogRec). AreRecordsRead i.g.block l bytes) (sym (append_assoc j.recs (r ∷ []) records)) (reads.before (r ∷ records) (next.0, begins, is)));
         }
 
 -- all are taken
-pub all_read : (place : RingPlace) (disks : Disks) (new : Scan) (size : ℕ) (recs : List LogRec) (bytes : List ℕ) → ReadsTo place disks new size recs bytes → AreRead size recs bytes
-all_read place disks new size recs bytes reads = subst (λ (l : List LogRec). AreRead size l bytes) (append-nil recs) (reads.before [] tt)
+pub all_read : (place : RingPlace) (disks : Disks) (new : Scan) (size : ℕ) (recs : List LogRec) (bytes : List ℕ) → ReadsTo place disks new size recs bytes → AreRecordsRead size recs bytes
+all_read place disks new size recs bytes reads = subst (λ (l : List LogRec). AreRecordsRead size l bytes) (append-nil recs) (reads.before [] tt)

@@ -16,7 +16,7 @@ use Rattle.trap_scan.specs.Window.{IsWindow}
 use Rattle.trap_scan.proofs.ChainLaws.{right_unbroken}
 use Rattle.trap_scan.proofs.Standing.{records_stand}
 use Rattle.trap_scan.proofs.Windows.{window_one}
-use Rattle.trap_stage.specs.Found.{IsDamaged}
+use Rattle.trap_stage.specs.Found.{IsDamagedSlot}
 use Rattle.trap_stage.specs.Pending.{staged_of}
 use Rattle.trap_stage.proofs.FurtherSlots.{staged_of_sound}
 use Rattle.trap_mount.specs.Holding.{log_ring, IsHeadOf, HasLog, Holds, HoldsBy}
@@ -99,7 +99,7 @@ module _ (g : Geometry) (s : State) (x : Disks) (holds : Holds g s x) where
       (λ slot. bad_slot slot.0 slot.1 slot.2 slot.3)
       (λ bad. bad_record bad.0 bad.1 bad.2 bad.3 bad.4 bad.5 bad.6)))
     where
-      bad_slot : (k : Geometry) (h : Head) → HasHead k h x → IsDamaged k h.drained h.last x offset → ⊥
+      bad_slot : (k : Geometry) (h : Head) → HasHead k h x → IsDamagedSlot k h.drained h.last x offset → ⊥
       bad_slot k h head damaged =
           let by = held_at k h head in
           damaged.broken (

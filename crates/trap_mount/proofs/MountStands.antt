@@ -15,7 +15,7 @@ use Rattle.trap_raid.proofs.MemberLemmas.{lost_members, forgotten_members}
 use Rattle.trap_ring.specs.Ring.{ring_pos}
 use Rattle.trap_stage.specs.Staged.{Staged, newest_at}
 use Rattle.trap_stage.specs.Pending.{pending}
-use Rattle.trap_mount.specs.Holding.{log_ring, Fits, Holds}
+use Rattle.trap_mount.specs.Holding.{log_ring, MatchesHead, Holds}
 use Rattle.trap_mount.specs.Mounting.{HasHeader}
 use Rattle.trap_mount.proofs.MountMembers.{absent_disk, no_size}
 
@@ -50,7 +50,7 @@ module _ (g : Geometry) (x y : Disks) (sizes : (e : ℕ) → size_of (y e) ≡ s
   }
 
   -- all but the head's cell is as before
-  pub fits_agree : (k : Head) (s : State) → y 0 ≡ x 0 → ((m : ℕ) → m < g.members → Counts k.lost k.rebuilt 0 m → y (m + 1) ≡ x (m + 1)) → Fits g k s x → Fits g k s y
+  pub fits_agree : (k : Head) (s : State) → y 0 ≡ x 0 → ((m : ℕ) → m < g.members → Counts k.lost k.rebuilt 0 m → y (m + 1) ≡ x (m + 1)) → MatchesHead g k s x → MatchesHead g k s y
   fits_agree k s log same fits = record {
     valid = fits.valid;
     head = fits.head;
@@ -94,9 +94,9 @@ module _ (g : Geometry) (writes : List Staged) (blocks : List (List ℕ)) (x : D
 pub fits_changed : (g : Geometry) (h k : Head) (s : State) (x : Disks) → IsHead g h → IsHead g k → k ≡ record h { lost = k.lost; rebuilt = k.rebuilt }
     → ((m : ℕ) → h.lost ≡ Some m → k.lost ≡ Some m) → ((m : ℕ) → k.lost ≡ Some m → m < g.members)
     → ((m : ℕ) → k.lost ≡ Some m → (h.lost ≡ Some m) ⊎ ((h.lost ≡ None) × (x (m + 1) ≡ None)))
-    → (k.rebuilt ≡ h.rebuilt) ⊎ (k.rebuilt ≡ 0) → Fits g h s x → Fits g k s x
+    → (k.rebuilt ≡ h.rebuilt) ⊎ (k.rebuilt ≡ 0) → MatchesHead g h s x → MatchesHead g k s x
 fits_changed g h k s x is_h is_k same still inside from mark fits =
-    subst (λ (t : Head). Fits g t s x) (sym same) (record {
+    subst (λ (t : Head). MatchesHead g t s x) (sym same) (record {
       valid = fits.valid;
       head = record {
         head = subst (λ (t : Head). IsHead g t) same is_k;

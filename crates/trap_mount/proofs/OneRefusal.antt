@@ -12,7 +12,7 @@ use Rattle.trap_scan.specs.Chain.{IsBroken}
 use Rattle.trap_scan.specs.Window.{IsWindow}
 use Rattle.trap_scan.proofs.ChainLaws.{one_broken, right_unbroken}
 use Rattle.trap_scan.proofs.Windows.{window_one}
-use Rattle.trap_stage.specs.Found.{IsDamaged}
+use Rattle.trap_stage.specs.Found.{IsDamagedSlot}
 use Rattle.trap_stage.proofs.OneAnswer.{first_damaged}
 use Rattle.trap_mount.specs.Holding.{head_place, log_ring}
 use Rattle.trap_mount.specs.Creating.{BeginsLog}
@@ -86,7 +86,7 @@ Answer x (suc (suc zero)) why =
     ((version : ℕ) × (bytes : List ℕ) × (cell_value head_place x ≡ Some bytes) × (slice_index bytes 0 ≡ version) × (version ≢ 1) × (why ≡ BadVersion version))
     ⊎ (((bytes : List ℕ) → cell_value head_place x ≡ Some bytes → slice_index bytes 0 ≡ 1) × (why ≡ Damaged 64))
 Answer x (suc (suc (suc zero))) why =
-    (g : Geometry) × (h : Head) × (offset : ℕ) × HasHead g h x × IsDamaged g h.drained h.last x offset × (why ≡ Damaged offset)
+    (g : Geometry) × (h : Head) × (offset : ℕ) × HasHead g h x × IsDamagedSlot g h.drained h.last x offset × (why ≡ Damaged offset)
 Answer x (suc (suc (suc (suc zero)))) why =
     (g : Geometry) × (h : Head) × (window : List ℕ) × (at : ℕ) × HasHead g h x × IsWindow (log_ring g) h.first_off h.end_off window x
     × IsBroken (history_of g h) h.first h.base_time (h.last - h.first) window at × (why ≡ Damaged (ring_pos (log_ring g) (h.first_off + at)))
@@ -241,7 +241,7 @@ module _ (x : Disks) where
       at_a
   one_answer (suc (suc (suc zero))) a b at_a at_b =
       at_a.5 ∙ ap Damaged (first_damaged at_a.0 at_a.1.drained at_a.1.last x at_a.2 at_b.2 at_a.4
-      (as_one (λ g h. IsDamaged g h.drained h.last x at_b.2) at_a.0 at_b.0 at_a.1 at_b.1 x at_a.3 at_b.3 at_b.4)) ∙ sym at_b.5
+      (as_one (λ g h. IsDamagedSlot g h.drained h.last x at_b.2) at_a.0 at_b.0 at_a.1 at_b.1 x at_a.3 at_b.3 at_b.4)) ∙ sym at_b.5
   one_answer (suc (suc (suc (suc zero)))) a b at_a at_b =
       let there = as_one (λ g h. IsWindow (log_ring g) h.first_off h.end_off at_b.2 x × IsBroken (history_of g h) h.first h.base_time (h.last - h.first) at_b.2 at_b.3 × (b ≡ Damaged (ring_pos (log_ring g) (h.first_off + at_b.3))))
       at_a.0 at_b.0 at_a.1 at_b.1 x at_a.4 at_b.4 (at_b.5, at_b.6, at_b.7) in

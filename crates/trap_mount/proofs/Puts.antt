@@ -9,17 +9,17 @@ use Rattle.trap_format.specs.declared.head.Head.{Head}
 use Rattle.trap_format.proofs.Spellings.{heads_same}
 use Rattle.trap_model.specs.declared.numbers.Geometry.{Geometry}
 use Rattle.trap_model.specs.declared.history.State.{State}
-use Rattle.trap_mount.specs.Holding.{head_place, Fits, HoldsBy, Holds, InCell}
+use Rattle.trap_mount.specs.Holding.{head_place, MatchesHead, HoldsBy, Holds, InCell}
 use Rattle.trap_mount.proofs.Frames.{fits_stay, beside_cell}
 
 pub put_in_cell : (k : Slots) (x y : Disks) → k.place ≡ head_place → Differs (other_slot k) x y → Differs InCell x y
 put_in_cell k x y is_head differs = subst (λ (p : Place). Differs (cell_area p) x y) is_head (within_cell k x y differs)
 
 -- only the head's cell changed
-pub fits_put : (g : Geometry) (h : Head) (s : State) (x y : Disks) → Differs InCell x y → Fits g h s x → Fits g h s y
+pub fits_put : (g : Geometry) (h : Head) (s : State) (x y : Disks) → Differs InCell x y → MatchesHead g h s x → MatchesHead g h s y
 fits_put g h s x y differs fits = fits_stay InCell x y differs g h s (beside_cell g h s) fits
 
-module _ (g : Geometry) (h t : Head) (s u : State) (k : Slots) (is_head : k.place ≡ head_place) (x y : Disks) (holds : HoldsBy g h s x) (fits : Fits g t u x) where
+module _ (g : Geometry) (h t : Head) (s u : State) (k : Slots) (is_head : k.place ≡ head_place) (x y : Disks) (holds : HoldsBy g h s x) (fits : MatchesHead g t u x) where
   -- while it goes on, the disks hold the one state or the other
   pub put_holds : PutsIn k (head_value t) x y → HoldsBy g h s y ⊎ HoldsBy g t u y
   put_holds puts =

@@ -19,7 +19,7 @@ use Rattle.trap_mount.specs.Creating.{new_member}
 pub below_or : (i n : ℕ) → (i < n) ⊎ (n ≤ i)
 below_or i n = grind arith
 
--- each byte of zeros is 0, and so is each behind them
+-- each byte of zeros is 0, and so is each after them
 pub zero_byte : (n i : ℕ) → ◌≡◌ {A = ℕ} (get_or (replicate n 0) i 0) 0
 zero_byte n i =
     let zero : ℕ = 0 in
@@ -28,7 +28,7 @@ zero_byte n i =
     (λ (past : n ≤ i). get_or_past (replicate n zero) i zero (omega (arith, length-replicate n zero, past)))
     (below_or i n)
 
--- a disk of a size has so many bytes
+-- a disk of a size has that number of bytes
 pub size_length : (disk : Option (List ℕ)) (n : ℕ) → size_of disk ≡ Some n → length (bytes_of disk) ≡ n
 size_length None n is = cc
 size_length (Some bytes) n is = cc

@@ -2,23 +2,24 @@
 use Rattle.std.specs.Prelude.{◌≡◌, ◌≢◌, ◌⊎◌, ℕ, ◌+◌, ◌*◌, ◌<◌, ◌≤◌, List, ◌++◌, replicate, take, drop, Some, None, IsTrue}
 use Rattle.trap_bank.specs.Disks.{Disks, View, byte, region, size_of}
 use Rattle.trap_bank.specs.Faults.{Rose}
-use Rattle.trap_bank.specs.Steps.{Moves, Same, Always}
+use Rattle.trap_bank.specs.Steps.{Moves, Same}
 use Rattle.trap_cell.specs.Slots.{cell_value}
-use Rattle.trap_format.specs.LogDisk.{log_start, log_size, log_header}
+use Rattle.trap_format.specs.LogDisk.{log_start, log_size, log_header, slots_at}
 use Rattle.trap_format.specs.MemberDisk.{member_size, member_header}
 use Rattle.trap_format.specs.HeadValue.{head_value}
 use Rattle.trap_format.specs.declared.head.Head.{Head}
 use Rattle.trap_model.specs.State.{fresh}
 use Rattle.trap_model.specs.declared.numbers.Geometry.{Geometry}
-use Rattle.trap_mount.specs.Holding.{head_place, HasLog, Holds, HoldsBy}
+use Rattle.trap_mount.specs.Holding.{head_place, HasLog, Holds}
 use Rattle.trap_mount.specs.declared.fault.CreateFault.{CreateFault}
 use Rattle.trap_mount.specs.declared.fault.CreateFault.TheVariants.{Exists, LogFault, MemberFault}
 
--- disk 0 is there with at least 192 bytes, and begins with an open gate and the magic bytes
+-- disk 0 has room for the log's header and the head's cell, and begins with an open gate and the
+-- magic bytes
 pub record BeginsLog (disks : Disks) : Type 0 where
   pub bytes : ℕ
   pub there : size_of (disks 0) ≡ Some bytes
-  pub least : 192 ≤ bytes
+  pub least : slots_at ≤ bytes
   pub start : take 5 (region disks 0 0 64) ≡ log_start
 
 -- disk 0 is no log, so that mounting refuses it as no array
@@ -54,7 +55,8 @@ abbrev pub CreateFails : Geometry → CreateFault → View → View → Type 0
 CreateFails g (Exists disk) old new = Unit {0}
 CreateFails g LogFault old new = Rose (old.faults 0) (new.faults 0)
 CreateFails g (MemberFault first second) old new =
-    (first ≡ second) × (second < g.members) × Rose (old.faults (second + 1)) (new.faults (second + 1))
+    (first ≡ second) × (second < g.members)
+    × Rose (old.faults (second + 1)) (new.faults (second + 1))
 
 -- every disk but this one is the same
 abbrev pub OnlyDisk : ℕ → Disks → Disks → Type 0
@@ -104,12 +106,13 @@ pub record IsShutLog (g : Geometry) (disks : Disks) : Type 0 where
   pub rest : region disks 0 1 63 ≡ drop 1 (log_header g)
   pub value : cell_value head_place disks ≡ Some (head_value fresh_head)
 
--- disk 0 is a new log: it has its size and its header, and the cell's value is the head before the first write
+-- disk 0 is a new log: it has its size and its header, and the cell's value is the head before the
+-- first write
 pub record IsNewLog (g : Geometry) (disks : Disks) : Type 0 where
   pub log : HasLog g disks
   pub value : cell_value head_place disks ≡ Some (head_value fresh_head)
 
--- while the log is made behind its gate
+-- while the log is made with its gate off
 pub record ShutsLog (old new : Disks) : Type 0 where
   pub others : OnlyDisk 0 old new
   pub disk : (new 0 ≡ old 0) ⊎ IsGateOff new
@@ -132,10 +135,3 @@ pub record HasNewLog (g : Geometry) (old new : Disks) : Type 0 where
 -- the disks of the first members have their exact size
 abbrev pub AreSized : Geometry → ℕ → View → Type 0
 AreSized g count v = (m : ℕ) → m < count → v.sizes (m + 1) ≡ Some (member_size g)
-
--- The array was made: its log and each of its members has its exact size, and every crash leaves disks that hold the
--- fresh array by the head before the first write, which calls no member lost.
-pub record IsMade (g : Geometry) (v : View) : Type 0 where
-  pub log : v.sizes 0 ≡ Some (log_size g)
-  pub members : AreSized g g.members v
-  pub holds : Always v (HoldsBy g fresh_head (fresh g))

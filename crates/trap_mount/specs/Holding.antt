@@ -22,7 +22,8 @@ head_place = place_of 0 cell_at 62
 abbrev pub log_ring : Geometry → RingPlace
 log_ring g = record { disk = 0; at = ring_at g; len = g.ring }
 
--- the head's numbers are those of the state, and its offsets are as far apart as the retained records are long
+-- the head's numbers are those of the state, and its offsets are as far apart as the retained
+-- records are long
 pub record IsHeadOf (g : Geometry) (s : State) (h : Head) : Type 0 where
   pub head : IsHead g h
   pub first : h.first ≡ s.first
@@ -37,9 +38,9 @@ pub record HasLog (g : Geometry) (disks : Disks) : Type 0 where
   pub header : IsLogHeader g (region disks 0 0 64)
   pub id : g.id < 2 ^ 64
 
--- Everything but the head's cell is as this head says of this state: the log's size and header, the records of the
--- retained entries, the pending writes, the members.
-pub record Fits (g : Geometry) (h : Head) (s : State) (disks : Disks) : Type 0 where
+-- Everything but the head's cell is as this head says of this state: the log's size and header, the
+-- records of the retained entries, the pending writes, the members.
+pub record MatchesHead (g : Geometry) (h : Head) (s : State) (disks : Disks) : Type 0 where
   pub valid : IsValid g s
   pub head : IsHeadOf g s h
   pub log : HasLog g disks
@@ -50,7 +51,7 @@ pub record Fits (g : Geometry) (h : Head) (s : State) (disks : Disks) : Type 0 w
 -- the disks hold the state, and this is the head
 pub record HoldsBy (g : Geometry) (h : Head) (s : State) (disks : Disks) : Type 0 where
   pub value : cell_value head_place disks ≡ Some (head_value h)
-  pub fits : Fits g h s disks
+  pub fits : MatchesHead g h s disks
 
 -- the disks hold the state
 pub record Holds (g : Geometry) (s : State) (disks : Disks) : Type 0 where

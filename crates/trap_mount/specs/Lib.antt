@@ -2,6 +2,7 @@ pub mod Holding
 pub mod Memory
 pub mod Mounted
 pub mod Creating
+pub mod CreateEnds
 pub mod OnDisks
 pub mod Refusing
 pub mod Mounting

@@ -13,7 +13,7 @@ pub record Buffers : Type 0 where
   pub spelled : List ℕ
 
 -- they are long enough for blocks of that size
-pub record AreFor (block : ℕ) (room : Buffers) : Type 0 where
+pub record HaveBlocksOf (block : ℕ) (room : Buffers) : Type 0 where
   pub delta : length room.delta ≡ block
   pub parity : length room.parity ≡ block
   pub scratch : length room.scratch ≡ block

@@ -2,7 +2,7 @@
 use Rattle.std.specs.Prelude.{◌≡◌, ℕ, ◌+◌, ◌<◌, length, Some, IsTrue, true, false}
 use Rattle.trap_bank.specs.Disks.{View}
 use Rattle.trap_bank.specs.Faults.{Rose}
-use Rattle.trap_bank.specs.Steps.{Always, Moves}
+use Rattle.trap_bank.specs.Steps.{Always, Moves, OnlyReads}
 use Rattle.trap_format.specs.LogDisk.{log_size}
 use Rattle.trap_format.specs.declared.head.Head.{Head}
 use Rattle.trap_model.specs.declared.history.State.{State}
@@ -14,34 +14,43 @@ use Rattle.trap_mount.specs.Holding.{Holds, HoldsBy}
 use Rattle.trap_mount.specs.Mounting.{HasFound, Refuses, MountFails, SizesShow, MayPutHead, HasPutHead, is_refusal, names_member}
 use Rattle.trap_mount.specs.Reading.{ReadsIndex}
 use Rattle.trap_mount.specs.declared.fault.MountFault.{MountFault}
-use Rattle.trap_mount.specs.declared.fault.MountFault.TheVariants.{OutOfMemory}
+use Rattle.trap_mount.specs.declared.fault.MountFault.TheVariants.{LogFault, OutOfMemory}
 
--- What the array knows of its log is what was read, whatever the disks hold: the pending writes are those of the slots
--- that its head names, and the index is that of the records between its head's offsets.
+-- What the array knows of its log is what was read, whatever the disks hold: the pending writes are
+-- those of the slots that its head names, and the index is that of the records between its head's
+-- offsets.
 pub record KnowsDisks (a : Mounted) (old : View) : Type 0 where
   pub count : a.head.drained + length a.pending ≡ a.head.last
   pub slots : IsTrue old.tells → SlotsAre a.g a.head.drained a.pending old.now.disks
   pub index : ReadsIndex a.g a.head a.index old
 
--- An array was mounted. Where the disks held a state, it stands for that state after every crash. It isn't stopped.
+-- An array was mounted. Where the disks held a state, it stands for that state after every crash.
+-- It isn't stopped.
 pub record MountsFor (a : Mounted) (old new : View) : Type 0 where
-  pub stands : (g : Geometry) (s : State) → IsTrue old.tells → Holds g s old.now.disks → (a.g ≡ g) × Always new (StandsFor a s)
+  pub stands : (g : Geometry) (s : State) → IsTrue old.tells → Holds g s old.now.disks → (a.g ≡ g)
+      × Always new (StandsFor a s)
   pub ready : IsReady a new
   pub going : a.is_stopped ≡ false
   pub found : HasFound a old new
   pub knows : KnowsDisks a old
   pub head : Moves old new (MayPutHead old new) (HasPutHead old new a.head)
 
--- None was. A refusal says what stands on the disks, and never comes over disks that hold a state; nothing was written then.
--- Of a fault the count rose.
+-- None was mounted. A refusal says what the disks hold, and never comes over disks that hold a
+-- state. Unless the log's disk failed, nothing was written, at any moment. Where a disk failed, its
+-- count of faults rose.
 pub record MountEnds (why : MountFault) (old new : View) : Type 0 where
   pub refused : IsTrue old.tells → Refuses old why
-  pub held : (g : Geometry) (s : State) → IsTrue old.tells → Holds g s old.now.disks → is_refusal why ≡ false
-  pub nothing_written : is_refusal why ≡ true → IsTrue old.tells → new.now ≡ old.now
+  pub held : (g : Geometry) (s : State) → IsTrue old.tells → Holds g s old.now.disks
+      → is_refusal why ≡ false
+  pub nothing_written : (why ≡ LogFault → ⊥) → OnlyReads old new
   pub cause : MountFails why old new
-  pub shown : names_member why ≡ true → (g : Geometry) × (old.sizes 0 ≡ Some (log_size g)) × SizesShow g why old
-  -- over disks that hold a state, where disk 0 didn't fail and no member did but one that was out, only memory is wanting
-  pub complete : (g : Geometry) (h : Head) (s : State) → IsTrue old.tells → HoldsBy g h s old.now.disks
+  pub shown : names_member why ≡ true → (g : Geometry) × (old.sizes 0 ≡ Some (log_size g))
+      × SizesShow g why old
+  -- over disks that hold a state, where disk 0 didn't fail and no member did but one that was out,
+  -- only memory is wanting
+  pub complete : (g : Geometry) (h : Head) (s : State) → IsTrue old.tells
+      → HoldsBy g h s old.now.disks
       → (Rose (old.faults 0) (new.faults 0) → ⊥)
-      → ((m : ℕ) → m < g.members → Rose (old.faults (m + 1)) (new.faults (m + 1)) → IsOut h.lost old.now.disks m)
+      → ((m : ℕ) → m < g.members → Rose (old.faults (m + 1)) (new.faults (m + 1))
+      → IsOut h.lost old.now.disks m)
       → why ≡ OutOfMemory

@@ -43,7 +43,8 @@ pub record ReadsStage (g : Geometry) (h : Head) (stage : Stage) (old : View) : T
   pub slots : IsTrue old.tells → IsFound g h.drained h.last old.now.disks stage
 
 -- all that stands on the log's disk was read
-pub record ReadsLog (g : Geometry) (h : Head) (cell : Slots) (stage : Stage) (old new : View) : Type 0 where
+pub record ReadsLog (g : Geometry) (h : Head) (cell : Slots) (stage : Stage) (old new : View)
+    : Type 0 where
   pub header : ReadsHeader g old new
   pub head : ReadsHead h g cell old new
   pub slots : ReadsStage g h stage old
@@ -56,13 +57,16 @@ pub record IsOnlyOut (g : Geometry) (recorded lost : Option ℕ) (disks : Disks)
 
 -- the first member that is out, if one is: the recorded lost one, or else the lowest absent one
 abbrev pub IsFirstOut : Geometry → Option ℕ → View → Option ℕ → Type 0
-IsFirstOut g recorded v None = (recorded ≡ None) × ((m : ℕ) → m < g.members → v.sizes (m + 1) ≢ None)
-IsFirstOut g recorded v (Some first) = (first < g.members) × ((recorded ≡ Some first) ⊎ ((recorded ≡ None)
+IsFirstOut g recorded v None = (recorded ≡ None)
+    × ((m : ℕ) → m < g.members → v.sizes (m + 1) ≢ None)
+IsFirstOut g recorded v (Some first) = (first < g.members)
+    × ((recorded ≡ Some first) ⊎ ((recorded ≡ None)
     × (v.sizes (first + 1) ≡ None) × ((m : ℕ) → m < first → v.sizes (m + 1) ≢ None)))
 
 -- a member is lost where it is recorded so, or where its disk is absent and none is recorded
 pub record FindsLost (g : Geometry) (recorded lost : Option ℕ) (old : View) : Type 0 where
-  pub from : (m : ℕ) → lost ≡ Some m → (recorded ≡ Some m) ⊎ ((recorded ≡ None) × (old.sizes (m + 1) ≡ None))
+  pub from : (m : ℕ) → lost ≡ Some m → (recorded ≡ Some m)
+      ⊎ ((recorded ≡ None) × (old.sizes (m + 1) ≡ None))
   pub still : (m : ℕ) → recorded ≡ Some m → lost ≡ Some m
   pub inside : (m : ℕ) → lost ≡ Some m → m < g.members
   pub others : (m : ℕ) → m < g.members → lost ≢ Some m → old.sizes (m + 1) ≢ None
@@ -78,19 +82,21 @@ abbrev pub ReadsMembers : Geometry → Option ℕ → ℕ → View → View → 
 ReadsMembers g lost n old new = (m : ℕ) → m < n → lost ≢ Some m → ReadsMember g m old new
 
 -- the member that is looked at: it isn't out, and each lower one that isn't out has its own disk
-pub record IsNext (g : Geometry) (h : Head) (disks : Disks) (member : ℕ) : Type 0 where
+pub record IsNextMember (g : Geometry) (h : Head) (disks : Disks) (member : ℕ) : Type 0 where
   pub inside : member < g.members
   pub counts : IsOut h.lost disks member → ⊥
   pub lowest : (m : ℕ) → m < member → (IsOut h.lost disks m → ⊥) → IsMember g disks m
 
--- The rows of the recorded lost member that count still are those that did, or none. If some do, the disk is the
--- member's own; if none does any longer, its count of faults rose, or it is absent or not the member's own.
+-- The rows of the recorded lost member that count still are those that did, or none. If some do,
+-- the disk is the member's own; if none does any longer, its count of faults rose, or it is absent
+-- or not the member's own.
 pub record KeepsRows (g : Geometry) (m before now : ℕ) (old new : View) : Type 0 where
   pub mark : (now ≡ before) ⊎ ((now ≡ 0) × (IsTrue old.tells
       → Rose (old.faults (m + 1)) (new.faults (m + 1)) ⊎ (IsMember g old.now.disks m → ⊥)))
   pub own : 0 < now → ReadsMember g m old new
 
--- the members' disks were read; this is the head with the lost member, and with how many of its rows count
+-- the members' disks were read; this is the head with the lost member, and with how many of its
+-- rows count
 pub record FindsMembers (g : Geometry) (h k : Head) (old new : View) : Type 0 where
   pub head : IsHead g k
   pub same : k ≡ record h { lost = k.lost; rebuilt = k.rebuilt }

@@ -1,5 +1,5 @@
--- What mounting finds on the disks, step by step: each of these asks that all before it stands. The disks are the contents
--- that a bank tells on entry.
+-- What mounting finds on the disks, step by step: each of these asks that all before it stands. The
+-- disks are the contents that a bank tells on entry.
 use Rattle.std.specs.Prelude.{◌≡◌, ℕ, ◌-◌, ◌^◌, ◌<◌, ◌≤◌, List, Some}
 use Rattle.trap_bank.specs.Disks.{Disks, region, size_of}
 use Rattle.trap_cell.specs.Slots.{cell_value}
@@ -47,4 +47,5 @@ pub record HasRecords (g : Geometry) (h : Head) (disks : Disks) : Type 0 where
 -- and no second member is out
 pub record HasMembers (g : Geometry) (h : Head) (disks : Disks) : Type 0 where
   pub records : HasRecords g h disks
-  pub one_out : (m k : ℕ) → m < g.members → k < g.members → IsOut h.lost disks m → IsOut h.lost disks k → m ≡ k
+  pub one_out : (m k : ℕ) → m < g.members → k < g.members → IsOut h.lost disks m
+      → IsOut h.lost disks k → m ≡ k

@@ -11,7 +11,7 @@ use Rattle.trap_scan.specs.Window.{IsWindow}
 use Rattle.trap_scan.specs.declared.expected.Expected.{Expected}
 use Rattle.trap_mount.specs.Holding.{log_ring}
 
--- the record begins the bytes, and the rest stands behind it
+-- the record begins the bytes, and the rest follows it
 pub record Begins (size : ℕ) (bytes : List ℕ) (r : LogRec) (rest : List ℕ) : Type 0 where
   pub parity : List ℕ
   pub snapshot : List ℕ
@@ -19,10 +19,11 @@ pub record Begins (size : ℕ) (bytes : List ℕ) (r : LogRec) (rest : List ℕ)
   pub is : LogRecord size r parity snapshot first
   pub parts : bytes ≡ first ++ rest
 
--- the records begin the bytes, one behind the other
-abbrev pub AreRead : ℕ → List LogRec → List ℕ → Type 0
-AreRead size [] bytes = Unit {0}
-AreRead size (r ∷ later) bytes = (rest : List ℕ) × Begins size bytes r rest × AreRead size later rest
+-- the records begin the bytes, one after the other
+abbrev pub AreRecordsRead : ℕ → List LogRec → List ℕ → Type 0
+AreRecordsRead size [] bytes = Unit {0}
+AreRecordsRead size (r ∷ later) bytes = (rest : List ℕ) × Begins size bytes r rest
+    × AreRecordsRead size later rest
 
 -- an index without records, of an array whose records are expected: it has room for them
 pub record Awaits (e : Expected) (index : Indexed) : Type 0 where
@@ -32,7 +33,7 @@ pub record Awaits (e : Expected) (index : Indexed) : Type 0 where
   pub room : e.last ≤ e.first + index.g.entries
   pub last_most : e.last ≤ 2 ^ 40
 
--- the index has so many records, and ends at this time
+-- the index has the records up to this number, and ends at this time
 pub record HasTaken (old new : Indexed) (seq time : ℕ) : Type 0 where
   pub same : new ≡ record old { recs = new.recs }
   pub end : last_seq new ≡ seq
@@ -46,5 +47,6 @@ pub record ReadsIndex (g : Geometry) (h : Head) (index : Indexed) (old : View) :
   pub offset : index.first_off ≡ h.first_off
   pub end : last_seq index ≡ h.last
   pub time : last_time index ≡ h.last_time
-  pub read : IsTrue old.tells → (bytes : List ℕ) → IsWindow (log_ring g) h.first_off h.end_off bytes old.now.disks
-      → AreRead g.block index.recs bytes
+  pub read : IsTrue old.tells → (bytes : List ℕ)
+      → IsWindow (log_ring g) h.first_off h.end_off bytes old.now.disks
+      → AreRecordsRead g.block index.recs bytes

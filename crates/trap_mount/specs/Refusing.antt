@@ -5,13 +5,14 @@ use Rattle.trap_bank.specs.Disks.{Disks, View, size_of}
 use Rattle.trap_cell.specs.Slots.{cell_value}
 use Rattle.trap_format.specs.MemberDisk.{member_size}
 use Rattle.trap_format.specs.HeadValue.{IsHeadValue}
+use Rattle.trap_format.specs.LogDisk.{cell_at}
 use Rattle.trap_format.specs.declared.head.Head.{Head}
 use Rattle.trap_model.specs.declared.numbers.Geometry.{Geometry}
 use Rattle.trap_raid.specs.Members.{IsMember, IsOut}
 use Rattle.trap_ring.specs.Ring.{ring_pos}
 use Rattle.trap_scan.specs.Chain.{IsBroken}
 use Rattle.trap_scan.specs.Window.{IsWindow}
-use Rattle.trap_stage.specs.Found.{IsDamaged}
+use Rattle.trap_stage.specs.Found.{IsDamagedSlot}
 use Rattle.trap_mount.specs.Holding.{head_place, log_ring}
 use Rattle.trap_mount.specs.Creating.{BeginsLog}
 use Rattle.trap_mount.specs.OnDisks.{HasHeader, HasHead, HasSlots, HasRecords, HasMembers, history_of}
@@ -22,7 +23,8 @@ use Rattle.trap_mount.specs.declared.fault.MountFault.TheVariants.{NotAnArray, B
 
 -- the first member that is out, and the lowest absent one beside it
 pub record AreOut (g : Geometry) (h : Head) (disks : Disks) (first second : ℕ) : Type 0 where
-  pub first_ : (h.lost ≡ Some first) ⊎ ((h.lost ≡ None) × (first < g.members) × (disks (first + 1) ≡ None)
+  pub first_ : (h.lost ≡ Some first)
+      ⊎ ((h.lost ≡ None) × (first < g.members) × (disks (first + 1) ≡ None)
       × ((m : ℕ) → m < first → disks (m + 1) ≢ None))
   pub inside : second < g.members
   pub apart : second ≢ first
@@ -36,7 +38,8 @@ pub record IsWrong (g : Geometry) (h : Head) (disks : Disks) (member : ℕ) : Ty
   pub wrong : IsMember g disks member → ⊥
   pub lowest : (m : ℕ) → m < member → (IsOut h.lost disks m → ⊥) → IsMember g disks m
 
--- a member that isn't out, and whose disk has its size, where each lower one that isn't out has its own disk
+-- a member that isn't out, and whose disk has its size, where each lower one that isn't out has its
+-- own disk
 pub record IsFailing (g : Geometry) (h : Head) (disks : Disks) (member : ℕ) : Type 0 where
   pub inside : member < g.members
   pub counts : IsOut h.lost disks member → ⊥
@@ -47,9 +50,11 @@ pub record IsFailing (g : Geometry) (h : Head) (disks : Disks) (member : ℕ) : 
 abbrev pub IsDamage : Disks → ℕ → Type 0
 IsDamage disks offset =
     (BeginsLog disks × (offset ≡ 0) × ((g : Geometry) → HasHeader g disks → ⊥))
-    ⊎ (((g : Geometry) × HasHeader g disks × (offset ≡ 64) × ((bytes : List ℕ) → cell_value head_place disks ≡ Some bytes
+    ⊎ (((g : Geometry) × HasHeader g disks × (offset ≡ cell_at)
+    × ((bytes : List ℕ) → cell_value head_place disks ≡ Some bytes
     → (slice_index bytes 0 ≡ 1) × ((h : Head) → IsHeadValue g h bytes → ⊥)))
-    ⊎ (((g : Geometry) × (h : Head) × HasHead g h disks × IsDamaged g h.drained h.last disks offset)
+    ⊎ (((g : Geometry) × (h : Head) × HasHead g h disks
+    × IsDamagedSlot g h.drained h.last disks offset)
     ⊎ ((g : Geometry) × (h : Head) × (window : List ℕ) × (at : ℕ) × HasSlots g h disks
     × IsWindow (log_ring g) h.first_off h.end_off window disks
     × IsBroken (history_of g h) h.first h.base_time (h.last - h.first) window at
@@ -64,15 +69,19 @@ pub record IsOtherVersion (disks : Disks) (version : ℕ) : Type 0 where
   pub is : slice_index bytes 0 ≡ version
   pub other : version ≢ 1
 
--- what a refusal says of the disks, and which member may be the one that failed; the other faults say nothing of them
+-- what a refusal says of the disks, and which member may be the one that failed; the other faults
+-- say nothing of them
 abbrev pub RefusesAs : Disks → MountFault → Type 0
 RefusesAs disks NotAnArray = BeginsLog disks → ⊥
 RefusesAs disks (BadVersion version) = IsOtherVersion disks version
-RefusesAs disks (WrongMember member) = (g : Geometry) × (h : Head) × HasMembers g h disks × IsWrong g h disks member
-RefusesAs disks (TooManyLost first second) = (g : Geometry) × (h : Head) × HasRecords g h disks × AreOut g h disks first second
+RefusesAs disks (WrongMember member) = (g : Geometry) × (h : Head) × HasMembers g h disks
+    × IsWrong g h disks member
+RefusesAs disks (TooManyLost first second) = (g : Geometry) × (h : Head) × HasRecords g h disks
+    × AreOut g h disks first second
 RefusesAs disks (Damaged offset) = IsDamage disks offset
 RefusesAs disks LogFault = Unit {0}
-RefusesAs disks (MemberFault first second) = (g : Geometry) × (h : Head) × HasMembers g h disks × IsFailing g h disks second
+RefusesAs disks (MemberFault first second) = (g : Geometry) × (h : Head) × HasMembers g h disks
+    × IsFailing g h disks second
 RefusesAs disks OutOfMemory = Unit {0}
 
 abbrev pub Refuses : View → MountFault → Type 0
@@ -118,8 +127,9 @@ MountFails (MemberFault first second) old new =
     (first ≡ second) × (second < 16) × Rose (old.faults (second + 1)) (new.faults (second + 1))
 MountFails OutOfMemory old new = Unit {0}
 
--- What the sizes show of an answer, whatever the bank tells: its members are members of the array, `second` is the lowest
--- absent one beside `first`, and the disk of one that failed is there with its size.
+-- What the sizes show of an answer, whatever the bank tells: its members are members of the array,
+-- `second` is the lowest absent one beside `first`, and the disk of one that failed is there with
+-- its size.
 abbrev pub SizesShow : Geometry → MountFault → View → Type 0
 SizesShow g NotAnArray v = Unit {0}
 SizesShow g (BadVersion version) v = Unit {0}
@@ -127,5 +137,6 @@ SizesShow g (WrongMember member) v = member < g.members
 SizesShow g (TooManyLost first second) v = AreAbsent g first second v
 SizesShow g (Damaged offset) v = Unit {0}
 SizesShow g LogFault v = Unit {0}
-SizesShow g (MemberFault first second) v = (second < g.members) × (v.sizes (second + 1) ≡ Some (member_size g))
+SizesShow g (MemberFault first second) v = (second < g.members)
+    × (v.sizes (second + 1) ≡ Some (member_size g))
 SizesShow g OutOfMemory v = Unit {0}

@@ -1,13 +1,14 @@
 //! The memory that the calls of a mounted array need, taken once.
 
 ghost use Rattle.std.specs.Prelude.{IfOk};
-ghost use Rattle.trap_mount.specs.Memory.{AreFor};
+ghost use Rattle.trap_mount.specs.Memory.{HaveBlocksOf};
 
 use std::alloc::{AllocError as OutOfMemory, Global};
 use std::marker::Model;
 use trap_model::Geometry;
 
-/// Room for what a write changes, for the parity of its row, for a block more, for a code, and for a record.
+/// Room for what a write changes, for the parity of its row, for a block more, for a code, and for
+/// a record.
 #[derive(Drop)]
 pub struct Buffers {
     pub delta: Vec<u8>,
@@ -34,7 +35,7 @@ impl Model for Buffers {
 impl Buffers {
     /// The memory for arrays with blocks of that size.
     pub fn new(alloc: Global, g: &Geometry) -> Result<Buffers, OutOfMemory>
-        ensures { IfOk result (λ buffers. AreFor g.now.block buffers) }
+        ensures { IfOk result (λ buffers. HaveBlocksOf g.now.block buffers) }
     {
         let block = usize::from(g.block);
         Ok(Buffers {

@@ -1,26 +1,21 @@
 //! Making an array: the members first, the log last, its gate last of all.
 
 ghost use Rattle.std.specs.Prelude.{◌≡◌, ◌≢◌, ◌↔◌, ◌≤◌, ◌<◌, ◌^◌, ℕ, ◌+◌, OnOk, OnErr, IsTrue, ◌⊎◌, IsErrOf, IsOk, IfErr, IfSome, IfNone, None, Some};
-ghost use Rattle.trap_bank.specs.Disks.{Quiet};
 ghost use Rattle.trap_bank.specs.Faults.{Rose};
 ghost use Rattle.trap_bank.specs.Steps.{Moves};
 ghost use Rattle.trap_format.specs.LogDisk.{log_size};
 ghost use Rattle.trap_format.specs.MemberDisk.{member_size};
-ghost use Rattle.trap_mount.specs.Creating.{CreateFails, Creates, HasCreated, IsLowest, NoneIsThere, IsUntouched, AreSized, IsMade, OnlyDisk, OnlyMembers, HasMember, HasMembers, ShutsLog, HasShutLog, MakesLog, HasNewLog};
+ghost use Rattle.trap_mount.specs.CreateEnds.{IsMade, IsMaking, OthersStay};
+ghost use Rattle.trap_mount.specs.Creating.{CreateFails, IsLowest, NoneIsThere, IsUntouched, AreSized, OnlyDisk, OnlyMembers, HasMember, HasMembers, ShutsLog, HasShutLog, MakesLog, HasNewLog};
 ghost use Rattle.trap_mount.specs.declared.fault.CreateFault.TheVariants as fault;
 
 use crate::CreateFault;
 use trap_bank::{Bank, DiskFault, write_through};
 use trap_cell::Cell;
+use trap_format::layout::{CELL_AT, OPEN_GATE};
 use trap_format::{Head, log_len, member_len, spell_head, spell_log, spell_member};
 use trap_model::Geometry;
 use trap_raid::MemberFailed;
-
-/// The first byte of the log, where an array stands there.
-const GATE: u8 = 0xa5;
-
-/// Where the head's cell stands on disk 0.
-const CELL_AT: u64 = 64;
 
 /// The head before the first write.
 const FRESH: Head = Head {
@@ -74,10 +69,12 @@ fn create_member<B: Bank>(bank: &mut B, g: &Geometry, member: u8) -> Result<(), 
     ensures ok { OnOk result (Moves (B.view bank.old) (B.view bank.new)
         (OnlyDisk (member + 1)) (HasMember g.now member)) }
     ensures size { OnOk result ((B.view bank.new).sizes (member + 1) ≡ Some (member_size g.now)) }
-    ensures sizes { (e : ℕ) → e ≢ member + 1 → (B.view bank.new).sizes e ≡ (B.view bank.old).sizes e }
+    ensures sizes { (e : ℕ) → e ≢ member + 1
+        → (B.view bank.new).sizes e ≡ (B.view bank.old).sizes e }
     ensures touches { IsTrue (B.view bank.old).tells
         → OnlyDisk (member + 1) (B.view bank.old).now.disks (B.view bank.new).now.disks }
-    ensures cause { OnErr result (Rose ((B.view bank.old).faults (member + 1)) ((B.view bank.new).faults (member + 1))) }
+    ensures cause { OnErr result
+        (Rose ((B.view bank.old).faults (member + 1)) ((B.view bank.new).faults (member + 1))) }
     ensures any_moment { Moves (B.view bank.old) (B.view bank.new)
         (OnlyDisk (member + 1)) (OnlyDisk (member + 1)) }
 {
@@ -101,8 +98,10 @@ fn create_members<B: Bank>(bank: &mut B, g: &Geometry) -> Result<(), MemberFaile
         → OnlyMembers g.now (B.view bank.old).now.disks (B.view bank.new).now.disks }
     ensures inside { IfErr result (λ failed. failed.member < g.now.members) }
     ensures cause { IfErr result (λ failed.
-        Rose ((B.view bank.old).faults (failed.member + 1)) ((B.view bank.new).faults (failed.member + 1))) }
-    ensures any_moment { Moves (B.view bank.old) (B.view bank.new) (OnlyMembers g.now) (OnlyMembers g.now) }
+        Rose ((B.view bank.old).faults (failed.member + 1))
+        ((B.view bank.new).faults (failed.member + 1))) }
+    ensures any_moment { Moves (B.view bank.old) (B.view bank.new)
+        (OnlyMembers g.now) (OnlyMembers g.now) }
 {
     for member in 0..g.members {
         let Ok(()) = create_member(bank, g, member) else {
@@ -112,9 +111,10 @@ fn create_members<B: Bank>(bank: &mut B, g: &Geometry) -> Result<(), MemberFaile
     Ok(())
 }
 
-/// Makes the log behind its gate, which stays off: the head's cell, and the header's other bytes.
+/// Makes the log with its gate off: the head's cell, and the header's other bytes.
 fn shut_log<B: Bank>(bank: &mut B, g: &Geometry) -> Result<(), DiskFault>
-    ensures ok { OnOk result (Moves (B.view bank.old) (B.view bank.new) ShutsLog (HasShutLog g.now)) }
+    ensures ok { OnOk result (Moves (B.view bank.old) (B.view bank.new)
+        ShutsLog (HasShutLog g.now)) }
     ensures size { OnOk result ((B.view bank.new).sizes 0 ≡ Some (log_size g.now)) }
     ensures sizes { (e : ℕ) → e ≢ 0 → (B.view bank.new).sizes e ≡ (B.view bank.old).sizes e }
     ensures touches { IsTrue (B.view bank.old).tells
@@ -136,50 +136,52 @@ fn shut_log<B: Bank>(bank: &mut B, g: &Geometry) -> Result<(), DiskFault>
 /// Makes the log, whatever stood on disk 0.
 fn create_log<B: Bank>(bank: &mut B, g: &Geometry) -> Result<(), DiskFault>
     requires one_slot { g.now.slots ≡ 1 }
-    ensures ok { OnOk result (Moves (B.view bank.old) (B.view bank.new) (MakesLog g.now) (HasNewLog g.now)) }
+    ensures ok { OnOk result (Moves (B.view bank.old) (B.view bank.new)
+        (MakesLog g.now) (HasNewLog g.now)) }
     ensures size { OnOk result ((B.view bank.new).sizes 0 ≡ Some (log_size g.now)) }
     ensures sizes { (e : ℕ) → e ≢ 0 → (B.view bank.new).sizes e ≡ (B.view bank.old).sizes e }
     ensures touches { IsTrue (B.view bank.old).tells
         → OnlyDisk 0 (B.view bank.old).now.disks (B.view bank.new).now.disks }
     ensures cause { OnErr result (Rose ((B.view bank.old).faults 0) ((B.view bank.new).faults 0)) }
-    ensures any_moment { Moves (B.view bank.old) (B.view bank.new) (MakesLog g.now) (MakesLog g.now) }
+    ensures any_moment { Moves (B.view bank.old) (B.view bank.new)
+        (MakesLog g.now) (MakesLog g.now) }
 {
     // An id that is read is known to fit the header's field.
     let _id = g.id;
     shut_log(bank, g)?;
-    // The gate is a write of its own: whatever byte a crash leaves of it, the log is whole or is none.
-    write_through(bank, 0, 0, &[GATE])?;
+    // The gate is a write of its own: whatever byte a crash leaves of it, disk 0 is a whole log or
+    // no log.
+    write_through(bank, 0, 0, &[OPEN_GATE])?;
     Ok(())
 }
 
-/// Makes an array: the members first, the log last, its gate last of all. Nothing is done where a disk of the array
-/// is there.
+/// Makes an array: the members first, the log last, its gate last of all. Nothing is done where a
+/// disk of the array is there.
 pub fn create<B: Bank>(bank: &mut B, g: &Geometry) -> Result<(), CreateFault>
     requires one_slot { g.now.slots ≡ 1 }
-    ensures ok { OnOk result (Moves (B.view bank.old) (B.view bank.new) (Creates g.now) (HasCreated g.now)) }
-    ensures made { OnOk result (IsMade g.now (B.view bank.new)) }
+    ensures made { OnOk result (IsMade g.now (B.view bank.old) (B.view bank.new)) }
 
     // It succeeds where no disk of the array is there, and none of them fails.
     ensures complete { NoneIsThere g.now (B.view bank.old)
-        → ((d : ℕ) → d ≤ g.now.members → Rose ((B.view bank.old).faults d) ((B.view bank.new).faults d) → ⊥)
+        → ((d : ℕ) → d ≤ g.now.members
+        → Rose ((B.view bank.old).faults d) ((B.view bank.new).faults d) → ⊥)
         → IsOk result }
 
-    // It is refused exactly where a disk of the array has a size, with the lowest of them; nothing is done then.
-    ensures exists { (d : ℕ) → IsErrOf result (fault.Exists d) ↔ IsLowest g.now (B.view bank.old) d }
+    // It is refused exactly where a disk of the array has a size, with the lowest of them; nothing
+    // is done then.
+    ensures exists { (d : ℕ) → IsErrOf result (fault.Exists d)
+        ↔ IsLowest g.now (B.view bank.old) d }
     ensures untouched { (d : ℕ) → IsLowest g.now (B.view bank.old) d
         → IsUntouched (B.view bank.old) (B.view bank.new) }
-    ensures cause { IfErr result (λ why. CreateFails g.now why (B.view bank.old) (B.view bank.new)) }
+    ensures cause { IfErr result (λ why.
+        CreateFails g.now why (B.view bank.old) (B.view bank.new)) }
 
     // The disks beyond the members stay.
-    ensures sizes { (e : ℕ) → g.now.members < e → (B.view bank.new).sizes e ≡ (B.view bank.old).sizes e }
-    ensures touches { IsTrue (B.view bank.old).tells → (e : ℕ) → g.now.members < e
-        → (B.view bank.new).now.disks e ≡ (B.view bank.old).now.disks e }
-    ensures contents { NoneIsThere g.now (B.view bank.old) → IsTrue (B.view bank.old).tells
-        → Quiet (Creates g.now) (B.view bank.old).now (B.view bank.new).now }
+    ensures beside { OthersStay g.now (B.view bank.old) (B.view bank.new) }
 
     // Stopped at any moment, disk 0 is no log, or the disks hold the fresh array.
-    ensures any_moment { NoneIsThere g.now (B.view bank.old)
-        → Moves (B.view bank.old) (B.view bank.new) (Creates g.now) (Creates g.now) }
+    ensures making { NoneIsThere g.now (B.view bank.old)
+        → IsMaking g.now (B.view bank.old) (B.view bank.new) }
 {
     if let Some(disk) = lowest(bank, g) {
         return Err(CreateFault::Exists { disk });

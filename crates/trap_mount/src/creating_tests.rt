@@ -90,8 +90,8 @@ fn a_new_array_byte_by_byte(rt: HostRuntime) -> Result<(), Fail> {
     Ok(())
 }
 
-/// An array that is stopped after so many calls of the bank, and a crash. Whether it was made, whether disk 0 begins
-/// as a log then, and whether the array is whole.
+/// An array whose making stops after a number of calls of the bank, and a crash. Whether it was
+/// made, whether disk 0 begins as a log then, and whether the array is whole.
 fn after_a_stop(bank: &mut MemoryBank, calls: u64, seed: u64) -> (bool, bool, bool) {
     let g = eight_blocks();
     bank.fuse(calls);

@@ -7,7 +7,8 @@ use thiserror::Error;
 pub enum CreateFault {
     /// A disk of the array is there already: this is the lowest. Nothing was written.
     Exists { disk: u8 },
-    /// Disk 0 failed: its count of faults rose in the call. Disk 0 is no array then, or the array is whole.
+    /// Disk 0 failed: its count of faults rose in the call. Disk 0 is no array then, or the array
+    /// is whole.
     LogFault,
     /// A member failed: the count of its disk rose in the call. Both numbers are its own.
     MemberFault { first: u8, second: u8 },
@@ -34,7 +35,8 @@ pub enum MountFault {
     /// Disk 0 failed: its count of faults rose in the call.
     #[error("the log failed")]
     LogFault,
-    /// A member that isn't the lost one failed: the count of its disk rose in the call. Both numbers are its own.
+    /// A member that isn't the lost one failed: the count of its disk rose in the call. Both
+    /// numbers are its own.
     #[error("a member failed")]
     MemberFault { first: u8, second: u8 },
     /// There was no memory for the array.

@@ -8,8 +8,9 @@ ghost use Rattle.trap_raid.specs.Members.{IsMember, IsOut};
 ghost use Rattle.trap_mount.specs.Mounting.{HasMembers, RefusesAs, is_refusal};
 ghost use Rattle.trap_mount.specs.declared.fault.MountFault.{MountFault};
 
-/// Disks are refused for one thing at most, and for nothing where each step of mounting finds what it is to find. So a
-/// mount that answers a refusal does so exactly where the disks are as that refusal says.
+/// Disks are refused for one thing at most, and for nothing where each step of mounting finds what
+/// it is to find. So a mount that answers a refusal does so exactly where the disks are as that
+/// refusal says.
 pub fn one_refusal()
     ensures one { (disks : Disks) (a b : MountFault) → RefusesAs disks a → RefusesAs disks b
         → is_refusal a ≡ true → is_refusal b ≡ true → a ≡ b }

@@ -7,12 +7,10 @@ ghost use Rattle.trap_bank.specs.Faults.{Rose};
 ghost use Rattle.trap_bank.specs.Calls.{Fits};
 ghost use Rattle.trap_bank.specs.Steps.{Moves, Always};
 ghost use Rattle.trap_cell.specs.Slots.{Stands};
-ghost use Rattle.trap_format.specs.declared.head.Head.{Head};
-ghost use Rattle.trap_model.specs.declared.numbers.Geometry.{Geometry};
-ghost use Rattle.trap_model.specs.declared.history.State.{State};
+ghost use Rattle.trap_format.specs.LogDisk.{slots_at};
 ghost use Rattle.trap_mount.specs.Found.{array_of, IsFoundOn};
-ghost use Rattle.trap_mount.specs.Holding.{HoldsBy, head_place};
-ghost use Rattle.trap_mount.specs.Mounting.{IsNoLog, Mounts, FoundLost, WritesHead};
+ghost use Rattle.trap_mount.specs.Holding.{head_place};
+ghost use Rattle.trap_mount.specs.Mounting.{IsNoLog, KeepsEachState, WritesHead};
 ghost use Rattle.trap_mount.specs.MountEnds.{MountsFor, MountEnds};
 ghost use Rattle.trap_mount.specs.MountSteps.{MayPut, HasPut};
 ghost use Rattle.trap_mount.specs.declared.fault.MountFault.{MountFault};
@@ -41,9 +39,10 @@ fn put_changed<B: Bank>(
 ) -> Result<(), DiskFault>
     requires place { cell.old.place ≡ head_place }
     requires stands { Always (B.view bank.old) (Stands cell.old) }
-    requires room { Fits (B.view bank.old) 0 192 }
+    requires room { Fits (B.view bank.old) 0 slots_at }
     requires lost { ForSome head.now.lost (λ member. member < 16) }
-    ensures ok { OnOk result (Moves (B.view bank.old) (B.view bank.new) (MayPut cell.old found.now head.now)
+    ensures ok { OnOk result (Moves (B.view bank.old) (B.view bank.new)
+        (MayPut cell.old found.now head.now)
         (HasPut (B.view bank.new) cell.old cell.new found.now head.now)) }
     ensures contents { IsTrue (B.view bank.old).tells
         → Quiet (MayPut cell.old found.now head.now) (B.view bank.old).now (B.view bank.new).now }
@@ -58,32 +57,28 @@ fn put_changed<B: Bank>(
     }
     let mut value = [0; 62];
     spell_head(head, &mut value);
-    // The member that is out, or whose rows no longer count, is recorded before a call relies on it.
+    // The member that is out, or whose rows no longer count, is recorded before a call relies on
+    // it.
     cell.put(bank, &value)
 }
 
-/// Mounts the array that the disks hold. Nothing is written but the head, and that as the last step, where a
-/// member is newly out or its rebuilt rows no longer count.
+/// Mounts the array that the disks hold. Nothing is written but the head, and that as the last
+/// step, where a member is newly out or its rebuilt rows no longer count.
 pub fn mount<B: Bank>(alloc: Global, bank: &mut B) -> Result<Found, MountFault>
-    ensures mounted { IfOk result (λ found. MountsFor (array_of found) (B.view bank.old) (B.view bank.new)) }
+    ensures mounted { IfOk result (λ found.
+        MountsFor (array_of found) (B.view bank.old) (B.view bank.new)) }
     ensures knows { IfOk result (λ found. IsFoundOn found (B.view bank.old)) }
     ensures ended { IfErr result (λ why. MountEnds why (B.view bank.old) (B.view bank.new)) }
     ensures no_log { IsNoLog ((B.view bank.old).sizes 0) → IsErrOf result MountFault.NotAnArray }
     ensures sizes { (e : ℕ) → (B.view bank.new).sizes e ≡ (B.view bank.old).sizes e }
-    ensures contents { IsTrue (B.view bank.old).tells
-        → Quiet (Mounts (B.view bank.old)) (B.view bank.old).now (B.view bank.new).now }
 
-    // Whatever the answer, no disk but the log changes. A member is lost only where it was out.
+    // Whatever the answer, no disk but the log changes.
     ensures others { IsTrue (B.view bank.old).tells
         → (e : ℕ) → e ≢ 0 → (B.view bank.new).now.disks e ≡ (B.view bank.old).now.disks e }
-    ensures lost { (g : Geometry) (h k : Head) (s t : State) → IsTrue (B.view bank.old).tells
-        → HoldsBy g h s (B.view bank.old).now.disks → HoldsBy g k t (B.view bank.new).now.disks
-        → FoundLost g h k (B.view bank.old) (B.view bank.new) }
 
-    // Stopped at any moment, the disks are as they were, but perhaps for the slot of the head's cell that isn't
-    // current; or they hold what they held.
-    ensures any_moment { Moves (B.view bank.old) (B.view bank.new)
-        (Mounts (B.view bank.old)) (Mounts (B.view bank.old)) }
+    // Stopped at any moment, the disks are as they were, but perhaps for the slot of the head's
+    // cell that isn't current; or they hold what they held. A member is lost only where it was out.
+    ensures keeps { KeepsEachState (B.view bank.old) (B.view bank.new) }
 
     // Nothing is written but the head, over whatever disks.
     ensures writes { WritesHead (B.view bank.old) (B.view bank.new) }

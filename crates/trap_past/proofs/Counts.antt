@@ -6,7 +6,7 @@ use Rattle.trap_past.specs.Past.{Past, Remains, GivesPresent, GivesParity, Undoe
 pub remains_again : (old mid new : Past) → Remains old mid → Remains mid new → Remains old new
 remains_again old mid new before here = record {
   has = here.has ∙ before.has;
-  stands = λ s stood. here.stands s (before.stands s stood);
+  stands = λ s. (λ stood. (here.stands s).0 ((before.stands s).0 stood), λ stands. (before.stands s).1 ((here.stands s).1 stands));
 }
 
 -- one parity more
@@ -32,7 +32,7 @@ undoes_none old new call =
       snapshots = call.snapshots;
     }
 
--- so many are no more than so many
+-- a number of turns is at most a greater one
 pub undoes_at_most : (turns most : ℕ) (old new : Past) → Undoes turns old new → turns ≤ most → UndoesAtMost most old new
 undoes_at_most turns most old new call few =
     let one = call.presents in

@@ -1,4 +1,4 @@
--- The state behind a source, entry by entry, as an index tells of it.
+-- The state that a source stands for, entry by entry, as an index tells of it.
 use Rattle.std.proofs.Common.{◌≡◌, ◌≢◌, ℕ, zero, suc, ◌+◌, ◌-◌, ◌<◌, ◌≤◌, List, [], ◌∷◌, ◌++◌, length, get_or, take, cond, true, ◌==◌, refl, ap, sym, ◌∙◌, ⊎_elim, arith, length-append, add-zero}
 use Rattle.std.proofs.lemmas.Bool.{cases_eq, eq-eqb}
 use Rattle.std.proofs.lemmas.List.{get_or_default}

@@ -20,7 +20,7 @@ use Rattle.trap_index.proofs.Describing.{item_told, last_told}
 use Rattle.trap_past.specs.Past.{Retained, IsOf, IsIndexOf}
 use Rattle.trap_past.proofs.Standing.{as_long, same_block}
 
--- a state that an index describes may stand behind a source with the index's blocks and entries
+-- a source with an index's blocks and entries may stand for a state that the index describes
 pub of_described : (i : Indexed) (s : State) (v : Retained) → Describes i s → IsValid i.g s → IsIndexOf i v → v.volume ≡ volume i.g → v.size ≡ i.g.block → IsOf v s
 of_described i s v is valid index blocks size =
     let one = index.first in

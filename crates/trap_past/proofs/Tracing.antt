@@ -19,7 +19,7 @@ use Rattle.trap_past.proofs.Standing.{writes_to, stays, taken_back, as_long}
 abbrev pub IsLawful : Past → Type 0
 IsLawful v = (s : State) → v.stands s → IsOf v.has s
 
--- Some of the block's parities were taken back: those of its entries behind the first `before` ones. `number` is that
+-- Some of the block's parities were taken back: those of its entries after the first `before` ones. `number` is that
 -- of the next older one, or 0.
 pub record Traced (i : Indexed) (old new : Past) (block seq number : ℕ) (into : List ℕ) : Type 0 where
   pub turns : ℕ
@@ -136,7 +136,7 @@ module _ (i : Indexed) (old new : Past) (block seq number : ℕ) (into : List �
             let still = stays i old.has s of index block (number - i.first) (before - (number - i.first)) (omega arith) (ap (writes_to i block) gap ∙ at.upto) in
             let here : into ≡ block_of (image_after s.base (take (number - i.first) s.entries)) block =
             was.told s stands ∙ sym (ap (λ (n : ℕ). block_of (image_after s.base (take n s.entries)) block) gap) ∙ still in
-            let given : parity ≡ parity_at s number = gives s (was.calls.remains.stands s stands) in
+            let given : parity ≡ parity_at s number = gives s ((was.calls.remains.stands s).0 stands) in
             xored
             ∙ ap (λ (b : List ℕ). xor b parity) here
             ∙ ap (xor (block_of (image_after s.base (take (number - i.first) s.entries)) block)) given

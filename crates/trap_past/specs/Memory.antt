@@ -13,8 +13,9 @@ use Rattle.trap_index.specs.Indexed.{Indexed, last_seq, item_at}
 use Rattle.trap_past.specs.declared.memory.Kept.{Kept}
 use Rattle.trap_past.specs.Past.{Past}
 
-pub record Memory : Type 0 where
-  -- the numbers of the array, how many entries were dropped, and the time and the offset behind the last of them
+pub record PastInMemory : Type 0 where
+  -- the numbers of the array, how many entries were dropped, and the time and the offset after the
+  -- last of them
   pub g : Geometry
   pub first : ℕ
   pub base_time : ℕ
@@ -27,24 +28,35 @@ pub record Memory : Type 0 where
   pub presents : ℕ
   pub parities : ℕ
   pub snapshots : ℕ
-  -- how many calls there were, up to the greatest number of 64 bits, and the number of the one that is to fail
+  -- how many calls there were, up to the greatest number of 64 bits, and the number of the one that
+  -- is to fail
   pub calls : ℕ
   pub failing : ℕ
   -- how many of them have failed
   pub faults : ℕ
 
 -- the entry of a header and its contents
-abbrev pub entry_of : Kept → Entry
-entry_of kept = record { time = kept.rec.time; block = kept.rec.block; bytes = kept.contents; snap = kept.rec.snap }
+abbrev pub kept_entry : Kept → Entry
+kept_entry kept = record {
+  time = kept.rec.time;
+  block = kept.rec.block;
+  bytes = kept.contents;
+  snap = kept.rec.snap;
+}
 
 abbrev pub rec_of : Kept → LogRec
 rec_of kept = kept.rec
 
 -- the state that it stands for, and the index of its entries
-abbrev pub state_of : Memory → State
-state_of m = record { first = m.first; base_time = m.base_time; base = m.base; entries = map entry_of m.entries }
+abbrev pub state_of : PastInMemory → State
+state_of m = record {
+  first = m.first;
+  base_time = m.base_time;
+  base = m.base;
+  entries = map kept_entry m.entries;
+}
 
-abbrev pub index_of : Memory → Indexed
+abbrev pub index_of : PastInMemory → Indexed
 index_of m = record {
   g = m.g;
   first = m.first;
@@ -54,7 +66,7 @@ index_of m = record {
 }
 
 -- it stands for its state alone
-abbrev pub past_of : Memory → Past
+abbrev pub past_of : PastInMemory → Past
 past_of m = record {
   has = record {
     volume = volume m.g;
@@ -71,21 +83,21 @@ past_of m = record {
 }
 
 -- what calls may do: it stands for the same state, and no count of faults falls
-pub record Stays (old new : Memory) : Type 0 where
+pub record Stays (old new : PastInMemory) : Type 0 where
   pub state : state_of new ≡ state_of old
   pub faults : old.faults ≤ new.faults
 
 -- what it says of a fault: a call has failed
-abbrev pub HasFailed : Memory → Memory → Failed → Type 0
-HasFailed old new fault = Rose old.faults new.faults
+abbrev pub CallFailed : PastInMemory → PastInMemory → Failed → Type 0
+CallFailed old new fault = Rose old.faults new.faults
 
 -- the base is an image, and each entry writes a block
-pub record IsMemory (m : Memory) : Type 0 where
+pub record IsPastInMemory (m : PastInMemory) : Type 0 where
   pub image : IsImage m.g m.base
-  pub written : All (IsEntry m.g) (map entry_of m.entries)
+  pub written : All (IsEntry m.g) (map kept_entry m.entries)
 
 -- zero blocks and no entry
-abbrev pub zero_past : Geometry → ℕ → ℕ → ℕ → Memory
+abbrev pub zero_past : Geometry → ℕ → ℕ → ℕ → PastInMemory
 zero_past g first base_time first_off = record {
   g = g;
   first = first;
@@ -102,13 +114,17 @@ zero_past g first base_time first_off = record {
 }
 
 -- with one entry more
-abbrev pub with_entry : Memory → LogRec → List ℕ → Memory
-with_entry m rec contents = record m { entries = m.entries ++ (record { rec = rec; contents = contents }) ∷ [] }
+abbrev pub with_entry : PastInMemory → LogRec → List ℕ → PastInMemory
+with_entry m rec contents =
+    record m { entries = m.entries ++ (record { rec = rec; contents = contents }) ∷ [] }
 
--- The call fails exactly where its number was chosen, and exactly then the count of faults rises. What is kept stays.
-pub record FailsAsChosen {T E : Type 0} (result : Result T E) (old new : Memory) : Type 0 where
+-- The call fails exactly where its number was chosen, and exactly then the count of faults rises.
+-- What is kept stays.
+pub record FailsAsChosen {T E : Type 0} (result : Result T E) (old new : PastInMemory)
+    : Type 0 where
   pub calls : new.calls ≡ one_more old.calls
   pub failing : new.failing ≡ old.failing
   pub fails : IsErr result ↔ (one_more old.calls ≡ old.failing)
-  pub faults : MatchResult result (λ value. new.faults ≡ old.faults) (λ error. new.faults ≡ one_more old.faults)
+  pub faults : MatchResult result (λ value. new.faults ≡ old.faults)
+      (λ error. new.faults ≡ one_more old.faults)
   pub index : index_of new ≡ index_of old

@@ -1,9 +1,9 @@
 -- The fields of a past in memory, as contracts see them.
 use Rattle.trap_past.specs.declared.memory.MemoryPast.TheInside.{Inside}
-use Rattle.trap_past.specs.Memory.{Memory}
+use Rattle.trap_past.specs.Memory.{PastInMemory}
 
-abbrev pub memory_of : Inside → Memory
-memory_of past = record {
+abbrev pub past_memory_of : Inside → PastInMemory
+past_memory_of past = record {
   g = past.g;
   first = past.first;
   base_time = past.base_time;

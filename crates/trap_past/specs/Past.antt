@@ -1,5 +1,5 @@
 -- What a source of the past means, and what its methods do.
-use Rattle.std.specs.Prelude.{◌≡◌, ℕ, ◌+◌, ◌^◌, ◌<◌, ◌≤◌, length, Result, IfErr}
+use Rattle.std.specs.Prelude.{◌≡◌, ◌↔◌, ℕ, ◌+◌, ◌^◌, ◌<◌, ◌≤◌, length, Result, IfErr}
 use Rattle.trap_bank.specs.Faults.{HasCause}
 use Rattle.trap_model.specs.declared.history.Entry.{Entry}
 use Rattle.trap_model.specs.declared.history.State.{State}
@@ -45,7 +45,8 @@ pub record IsOf (v : Retained) (s : State) : Type 0 where
   pub sized : (block : ℕ) → block < v.volume → length (block_of s.base block) ≡ v.size
   pub first : s.first ≡ v.first
   pub last : last s ≡ v.last
-  pub items : (q : ℕ) → v.first < q → q ≤ v.last → IsOfEntry v.volume v.size (v.item q) (entry_at s q)
+  pub items : (q : ℕ) → v.first < q → q ≤ v.last
+      → IsOfEntry v.volume v.size (v.item q) (entry_at s q)
 
 -- the index tells of the source's entries, and has at least its blocks
 pub record IsIndexOf (i : Indexed) (v : Retained) : Type 0 where
@@ -71,16 +72,18 @@ pub record HasFewCalls (v : Past) : Type 0 where
   pub parities : v.parities ≤ 2 ^ 62
   pub snapshots : v.snapshots ≤ 2 ^ 62
 
--- A call fails only where the count of faults rose, and with a fault that has its cause. No count falls.
-pub record HasBlame {S T F : Type 0} (view : S → Past) (causes : S → S → F → Type 0) (result : Result T F) (old new : S)
+-- A call fails only where the count of faults rose, and with a fault that has its cause. No count
+-- falls.
+pub record HasBlame {S T F : Type 0} (view : S → Past) (causes : S → S → F → Type 0)
+    (result : Result T F) (old new : S)
     : Type 0 where
   pub cause : HasCause (view old).faults (view new).faults result
   pub caused : IfErr result (λ fault. causes old new fault)
 
--- no call changes what a source has, and it still stands for what it stood for
+-- no call changes what a source has, nor the states that it stands for
 pub record Remains (old new : Past) : Type 0 where
   pub has : new.has ≡ old.has
-  pub stands : (s : State) → old.stands s → new.stands s
+  pub stands : (s : State) → old.stands s ↔ new.stands s
 
 -- one call of a method: its count rises by one, and the other two stay
 pub record GivesPresent (old new : Past) : Type 0 where
@@ -101,14 +104,14 @@ pub record GivesSnapshot (old new : Past) : Type 0 where
   pub parities : new.parities ≡ old.parities
   pub snapshots : new.snapshots ≡ old.snapshots + 1
 
--- the present was asked for once and parities so many times, and no snapshot was
+-- the present was asked for once, parities `turns` times, and no snapshot was
 pub record Undoes (turns : ℕ) (old new : Past) : Type 0 where
   pub remains : Remains old new
   pub presents : new.presents ≡ old.presents + 1
   pub parities : new.parities ≡ old.parities + turns
   pub snapshots : new.snapshots ≡ old.snapshots
 
--- the present was asked for at most once and parities at most so many times, and no snapshot was
+-- the present was asked for at most once, parities at most `turns` times, and no snapshot was
 pub record UndoesAtMost (turns : ℕ) (old new : Past) : Type 0 where
   pub remains : Remains old new
   pub presents : new.presents ≤ old.presents + 1

@@ -15,11 +15,13 @@ write_parity image entry = xor (block_of image entry.block) entry.bytes
 abbrev pub parity_at : State → ℕ → List ℕ
 parity_at s q = write_parity (image_at s (q - 1)) (entry_at s q)
 
--- the parities of a block's writes among these entries, the first of them over this image, the newest write first
+-- the parities of a block's writes among these entries, the first of them over this image, the
+-- newest write first
 abbrev pub parities_over : ℕ → List (List ℕ) → List Entry → List (List ℕ)
 parities_over block image [] = []
 parities_over block image (entry ∷ later) =
-    parities_over block (written image entry) later ++ (if entry.block == block then write_parity image entry ∷ [] else [])
+    parities_over block (written image entry) later ++
+    (if entry.block == block then write_parity image entry ∷ [] else [])
 
 -- the parities of a block's entries above number q, the newest first
 abbrev pub parities_above : State → ℕ → ℕ → List (List ℕ)

@@ -8,7 +8,7 @@ ghost use Rattle.trap_model.specs.Image.{volume, block_of, image_after, zero_ima
 ghost use Rattle.trap_model.specs.Records.{entry_at};
 ghost use Rattle.trap_model.specs.State.{image, image_at};
 ghost use Rattle.trap_model.specs.declared.history.State.{State};
-ghost use Rattle.trap_past.specs.Memory.{entry_of, state_of, index_of, past_of, zero_past, with_entry, Stays, HasFailed, FailsAsChosen};
+ghost use Rattle.trap_past.specs.Memory.{kept_entry, state_of, index_of, past_of, zero_past, with_entry, Stays, CallFailed, FailsAsChosen};
 ghost use Rattle.trap_past.specs.Past.{IsOf, IsRetained, HasBlame, GivesPresent, GivesParity, GivesSnapshot};
 ghost use Rattle.trap_past.specs.Undo.{parity_at};
 
@@ -26,7 +26,8 @@ pub struct Kept {
     pub contents: Block,
 }
 
-/// Entries over a base, in memory. It stands for one state, and `fail_at` chooses a call that fails.
+/// Entries over a base, in memory. It stands for one state, and `fail_at` chooses a call that
+/// fails.
 #[derive(Drop)]
 pub struct MemoryPast {
     alloc: Global,
@@ -45,15 +46,15 @@ pub struct MemoryPast {
 }
 
 impl Model for MemoryPast {
-    ghost use Rattle.trap_past.specs.Memory.{Memory, IsMemory};
+    ghost use Rattle.trap_past.specs.Memory.{PastInMemory, IsPastInMemory};
 
-    ghost Value = { Memory };
+    ghost Value = { PastInMemory };
 
-    ghost use Rattle.trap_past.specs.MemoryFields.{memory_of};
+    ghost use Rattle.trap_past.specs.MemoryFields.{past_memory_of};
 
-    ghost view = { memory_of };
+    ghost view = { past_memory_of };
 
-    ghost invariant = { λ past. IsMemory (memory_of past) };
+    ghost invariant = { λ past. IsPastInMemory (past_memory_of past) };
 }
 
 impl MemoryPast {
@@ -84,7 +85,8 @@ impl MemoryPast {
         })
     }
 
-    /// Adds an entry with these contents, by the header of its record. The only error is want of memory.
+    /// Adds an entry with these contents, by the header of its record. The only error is want of
+    /// memory.
     pub fn write(&mut self, rec: &LogRec, contents: &[u8]) -> Result<(), OutOfMemory>
         requires block { rec.now.block < volume self.old.g }
         requires size { length contents.now ≡ self.old.g.block }
@@ -99,7 +101,8 @@ impl MemoryPast {
         Ok(())
     }
 
-    /// Makes the call with that number fail, counted from 1 over the three methods. 0 stands for none.
+    /// Makes the call with that number fail, counted from 1 over the three methods. 0 stands for
+    /// none.
     pub fn fail_at(&mut self, call: u64)
         ensures { self.new ≡ record self.old { failing = call } }
     {
@@ -108,7 +111,8 @@ impl MemoryPast {
 
     /// Counts a call, which fails where it was chosen.
     fn strike(&mut self) -> Result<(), Failed>
-        ensures counts { self.new ≡ record self.old { calls = one_more self.old.calls; faults = self.new.faults } }
+        ensures counts { self.new
+            ≡ record self.old { calls = one_more self.old.calls; faults = self.new.faults } }
         ensures ok { OnOk result (self.new.faults ≡ self.old.faults) }
         ensures err { OnErr result (self.new.faults ≡ one_more self.old.faults) }
         ensures struck { IsErr result ↔ (one_more self.old.calls ≡ self.old.failing) }
@@ -125,7 +129,7 @@ impl MemoryPast {
     fn kept(&self, seq: u64) -> &Kept
         requires low { self.now.first < seq }
         requires high { seq ≤ last_seq (index_of self.now) }
-        ensures is { entry_of result.now ≡ entry_at (state_of self.now) seq }
+        ensures is { kept_entry result.now ≡ entry_at (state_of self.now) seq }
         ensures block { result.now.rec.block < volume self.now.g }
         ensures size { length result.now.contents ≡ self.now.g.block }
     {
@@ -153,7 +157,7 @@ impl Present for MemoryPast {
 
     ghost goes = { Stays };
 
-    ghost causes = { HasFailed };
+    ghost causes = { CallFailed };
 
     fn present(&mut self, block: u32, into: &mut [u8], _scratch: &mut [u8]) -> Result<(), Failed>
         requires block { block < (past_of self.old).has.volume }
@@ -164,7 +168,7 @@ impl Present for MemoryPast {
             → OnOk result (into.new ≡ block_of (image s) block) }
         ensures call { GivesPresent (past_of self.old) (past_of self.new) }
         ensures goes { Stays self.old self.new }
-        ensures blame { HasBlame past_of HasFailed result self.old self.new }
+        ensures blame { HasBlame past_of CallFailed result self.old self.new }
         ensures told { (s : State) → (past_of self.old).stands s → IsOf (past_of self.old).has s }
         ensures struck { FailsAsChosen result self.old self.new }
     {
@@ -174,7 +178,8 @@ impl Present for MemoryPast {
         Ok(())
     }
 
-    ghost goes_then = { λ a b c ab bc. record { state = bc.state ∙ ab.state; faults = Prim.search rules } };
+    ghost goes_then = { λ a b c ab bc.
+        record { state = bc.state ∙ ab.state; faults = Prim.search rules } };
 
     ghost causes_since = { λ a b c fault ab bc. let before = ab.faults in Prim.search rules };
 
@@ -190,7 +195,7 @@ impl Parities for MemoryPast {
             → OnOk result (into.new ≡ parity_at s seq) }
         ensures call { GivesParity (past_of self.old) (past_of self.new) }
         ensures goes { Stays self.old self.new }
-        ensures blame { HasBlame past_of HasFailed result self.old self.new }
+        ensures blame { HasBlame past_of CallFailed result self.old self.new }
         ensures struck { FailsAsChosen result self.old self.new }
     {
         self.parities += 1;
@@ -210,7 +215,7 @@ impl Parities for MemoryPast {
             → OnOk result (into.new ≡ (entry_at s seq).bytes) }
         ensures call { GivesSnapshot (past_of self.old) (past_of self.new) }
         ensures goes { Stays self.old self.new }
-        ensures blame { HasBlame past_of HasFailed result self.old self.new }
+        ensures blame { HasBlame past_of CallFailed result self.old self.new }
         ensures struck { FailsAsChosen result self.old self.new }
     {
         self.snapshots += 1;
@@ -223,7 +228,7 @@ impl Parities for MemoryPast {
 /// A block's contents after these entries over a base.
 fn contents_after<'a>(base: &'a [Block], entries: &'a [Kept], block: usize) -> &'a Block
     requires { block < length base.now }
-    ensures { result.now ≡ block_of (image_after base.now (map entry_of entries.now)) block }
+    ensures { result.now ≡ block_of (image_after base.now (map kept_entry entries.now)) block }
 {
     let mut found = &base[block];
     for kept in entries {
@@ -240,15 +245,8 @@ fn zero_blocks(alloc: Global, g: &Geometry) -> Result<Vec<Block>, OutOfMemory>
 {
     let zeros = vec![in alloc; 0; g.block as usize]?;
     let mut blocks = Vec::new(alloc);
-    for _ in 0..volume(g) {
+    for _ in 0..g.volume() {
         blocks.push(Block::new(alloc, zeros.as_slice())?)?;
     }
     Ok(blocks)
-}
-
-/// How many blocks the array has.
-fn volume(g: &Geometry) -> usize
-    ensures { result ≡ volume g.now }
-{
-    g.rows as usize * (g.members as usize - 1)
 }

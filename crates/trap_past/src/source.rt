@@ -15,7 +15,8 @@ pub trait Present {
 
     ghost view: { Self → Past };
 
-    // What calls may do to a source beside what `view` tells, from before the first of them to behind the last.
+    // What calls may do to a source beside what `view` tells, from before the first of them to
+    // after the last.
     ghost goes: { Self → Self → Type 0 };
 
     // Why such calls ended with a fault.
@@ -45,9 +46,11 @@ pub trait Present {
     ghost goes_then: { (a b c : Self) → goes a b → goes b c → goes a c };
 
     // A fault of the last of some calls is one of them all, and what caused it stays true.
-    ghost causes_since: { (a b c : Self) (fault : Self.Fault) → goes a b → causes b c fault → causes a c fault };
+    ghost causes_since: { (a b c : Self) (fault : Self.Fault)
+        → goes a b → causes b c fault → causes a c fault };
 
-    ghost causes_still: { (a b c : Self) (fault : Self.Fault) → causes a b fault → goes b c → causes a c fault };
+    ghost causes_still: { (a b c : Self) (fault : Self.Fault)
+        → causes a b fault → goes b c → causes a c fault };
 }
 
 /// A source of the retained entries too.

@@ -63,8 +63,9 @@ fn enter(
     Ok(())
 }
 
-// Ten entries were dropped. Numbers 11, 13 and 14 write block 3, and number 12 writes block 5. The byte that each of
-// the block's has after an entry, or 0xff where the source's call with a number fails.
+// Ten entries were dropped. Numbers 11, 13 and 14 write block 3, and number 12 writes block 5. The
+// byte that each of the block's has after an entry, or 0xff where the source's call with a number
+// fails.
 fn byte_at(rt: &impl Abort, alloc: Global, block: u32, seq: u64, failing: u64) -> Result<u8, Fail> {
     let g = eight_blocks();
     let mut index = Index::new(alloc, &g, 10, 99, 1000)?;

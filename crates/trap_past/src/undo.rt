@@ -11,8 +11,9 @@ use crate::{Parities, Present};
 use trap_block::xor_into;
 use trap_index::Index;
 
-/// Gives a block's contents after the entry with this number: the present ones, with the parities of the block's
-/// later entries taken back. It uses `scratch`, and after a fault both hold any bytes.
+/// Gives a block's contents after the entry with this number: the present ones, with the parities
+/// of the block's later entries taken back. It uses `scratch`, and after a fault both hold any
+/// bytes.
 pub fn block_at<P: Parities>(
     source: &mut P,
     index: &Index,
@@ -32,7 +33,8 @@ pub fn block_at<P: Parities>(
     // It asks for the present and the path's parities, and for no more whatever it answers.
     ensures turns { OnOk result
         (Undoes (path_to index.now block seq).turns (P.view source.old) (P.view source.new)) }
-    ensures at_most { UndoesAtMost (path_to index.now block seq).turns (P.view source.old) (P.view source.new) }
+    ensures at_most { UndoesAtMost (path_to index.now block seq).turns
+        (P.view source.old) (P.view source.new) }
     ensures goes { P.goes source.old source.new }
     ensures blame { HasBlame P.view P.causes result source.old source.new }
 {
@@ -46,7 +48,8 @@ pub fn block_at<P: Parities>(
     Ok(())
 }
 
-/// The number of the previous entry of the block that this entry writes, or 0 where none is retained.
+/// The number of the previous entry of the block that this entry writes, or 0 where none is
+/// retained.
 fn previous(index: &Index, seq: u64) -> u64
     requires low { index.now.first < seq }
     requires high { seq ≤ last_seq index.now }

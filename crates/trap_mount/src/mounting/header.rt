@@ -4,17 +4,15 @@ ghost use Rattle.std.specs.Prelude.{◌≡◌, ◌≤◌, ◌+◌, length, IsTru
 ghost use Rattle.trap_bank.specs.Disks.{region};
 ghost use Rattle.trap_bank.specs.Faults.{Rose};
 ghost use Rattle.trap_bank.specs.Calls.{Fits};
-ghost use Rattle.trap_raid.specs.Reads.{OnlyReads};
+ghost use Rattle.trap_bank.specs.Steps.{OnlyReads};
 ghost use Rattle.trap_mount.specs.Mounting.{IsNoLog, Refuses, MountFails, names_member};
 ghost use Rattle.trap_mount.specs.MountSteps.{IsStable, ReadsHeader};
 
 use crate::MountFault;
 use trap_bank::{Bank, Failed};
+use trap_format::layout::SLOTS_AT;
 use trap_format::{is_log, log_len, read_log};
 use trap_model::Geometry;
-
-/// The bytes of the header and of the head's cell.
-const LEAST_BYTES: u64 = 192;
 
 /// Syncs a disk, and reads its first bytes.
 pub(super) fn settle<B: Bank>(bank: &mut B, d: u8, into: &mut [u8]) -> Result<(), Failed>
@@ -37,14 +35,16 @@ pub(super) fn read_header<B: Bank>(bank: &mut B) -> Result<Geometry, MountFault>
     ensures ok { IfOk result (λ g. ReadsHeader g (B.view bank.old) (B.view bank.new)) }
     ensures reads { OnlyReads (B.view bank.old) (B.view bank.new) }
     ensures no_log { IsNoLog ((B.view bank.old).sizes 0) → IsErrOf result MountFault.NotAnArray }
-    ensures refused { IfErr result (λ why. IsTrue (B.view bank.old).tells → Refuses (B.view bank.old) why) }
+    ensures refused { IfErr result (λ why. IsTrue (B.view bank.old).tells
+        → Refuses (B.view bank.old) why) }
     ensures cause { IfErr result (λ why. MountFails why (B.view bank.old) (B.view bank.new)) }
     ensures log { IfErr result (λ why. names_member why ≡ false) }
 {
     let Some(size) = bank.size(0) else {
         return Err(MountFault::NotAnArray);
     };
-    if size < LEAST_BYTES {
+    // A log has room at least for its header and the head's cell.
+    if size < SLOTS_AT {
         return Err(MountFault::NotAnArray);
     }
     let mut bytes = [0; 64];

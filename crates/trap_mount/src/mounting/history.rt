@@ -2,14 +2,14 @@
 
 ghost use Rattle.std.specs.Prelude.{◌≡◌, ◌≤◌, ◌+◌, ◌-◌, length, Some, IsTrue, OnOk, OnErr, IfOk, IfErr, IsErrOf, false};
 ghost use Rattle.trap_bank.specs.Calls.{Fits};
+ghost use Rattle.trap_bank.specs.Steps.{OnlyReads};
 ghost use Rattle.trap_cell.specs.Steps.{IsMounted};
-ghost use Rattle.trap_format.specs.LogDisk.{log_size};
+ghost use Rattle.trap_format.specs.LogDisk.{log_size, slots_at};
 ghost use Rattle.trap_format.specs.HeadValue.{IsHead};
 ghost use Rattle.trap_index.specs.Indexed.{nothing_indexed};
 ghost use Rattle.trap_model.specs.declared.numbers.Geometry.{Geometry};
-ghost use Rattle.trap_raid.specs.Reads.{OnlyReads};
 ghost use Rattle.trap_mount.specs.Holding.{head_place};
-ghost use Rattle.trap_mount.specs.Memory.{AreFor};
+ghost use Rattle.trap_mount.specs.Memory.{HaveBlocksOf};
 ghost use Rattle.trap_mount.specs.Mounting.{IsNoLog, Refuses, MountFails, HasHeader, HasHead, HasSlots, HasRecords, names_member};
 ghost use Rattle.trap_mount.specs.MountSteps.{IsStable, ReadsHead, ReadsStage, ReadsLog};
 ghost use Rattle.trap_mount.specs.Reading.{ReadsIndex};
@@ -20,6 +20,7 @@ use crate::{Buffers, Found, MountFault};
 use std::alloc::Global;
 use trap_bank::Bank;
 use trap_cell::{Cell, CellFault};
+use trap_format::layout::CELL_AT;
 use trap_format::{Head, log_len, read_head};
 use trap_index::Index;
 use trap_model::Geometry;
@@ -27,17 +28,15 @@ use trap_ring::Ring;
 use trap_scan::{CheckFault, Expected};
 use trap_stage::{Stage, StageFault};
 
-/// Where the head's cell stands on disk 0.
-const CELL_AT: u64 = 64;
-
 /// The version of the format.
 const VERSION: u8 = 1;
 
 /// Mounts the head's cell, and fills `value` with its value.
 fn mount_cell<B: Bank>(bank: &mut B, value: &mut [u8; 62]) -> Result<Cell, MountFault>
-    requires there { Fits (B.view bank.old) 0 192 }
+    requires there { Fits (B.view bank.old) 0 slots_at }
     requires stable { IsStable (B.view bank.old) 0 }
-    ensures mounted { IfOk result (IsMounted (B.view bank.old) (B.view bank.new) head_place value.new) }
+    ensures mounted { IfOk result
+        (IsMounted (B.view bank.old) (B.view bank.new) head_place value.new) }
     ensures reads { OnlyReads (B.view bank.old) (B.view bank.new) }
     ensures refused { IfErr result (λ why. (g : Geometry) → IsTrue (B.view bank.old).tells
         → HasHeader g (B.view bank.old).now.disks → Refuses (B.view bank.old) why) }
@@ -53,9 +52,10 @@ fn mount_cell<B: Bank>(bank: &mut B, value: &mut [u8; 62]) -> Result<Cell, Mount
 
 /// Reads the head from its cell.
 fn find_head<B: Bank>(bank: &mut B, g: &Geometry) -> Result<(Head, Cell), MountFault>
-    requires there { Fits (B.view bank.old) 0 192 }
+    requires there { Fits (B.view bank.old) 0 slots_at }
     requires stable { IsStable (B.view bank.old) 0 }
-    ensures ok { IfOk result (λ found. ReadsHead found.0 g.now found.1 (B.view bank.old) (B.view bank.new)) }
+    ensures ok { IfOk result
+        (λ found. ReadsHead found.0 g.now found.1 (B.view bank.old) (B.view bank.new)) }
     ensures reads { OnlyReads (B.view bank.old) (B.view bank.new) }
     ensures refused { IfErr result (λ why. IsTrue (B.view bank.old).tells
         → HasHeader g.now (B.view bank.old).now.disks → Refuses (B.view bank.old) why) }
@@ -98,7 +98,8 @@ fn find_stage<B: Bank>(
     }
 }
 
-/// Reads the records of the retained entries into an index that has none yet, and checks that they are such.
+/// Reads the records of the retained entries into an index that has none yet, and checks that they
+/// are such.
 fn take_history<B: Bank>(
     alloc: Global,
     bank: &mut B,
@@ -108,9 +109,11 @@ fn take_history<B: Bank>(
 ) -> Result<(), MountFault>
     requires size { (B.view bank.old).sizes 0 ≡ Some (log_size g.now) }
     requires head { IsHead g.now head.now }
-    requires none { index.old ≡ nothing_indexed g.now head.now.first head.now.base_time head.now.first_off }
+    requires none { index.old
+        ≡ nothing_indexed g.now head.now.first head.now.base_time head.now.first_off }
     ensures index { OnOk result (ReadsIndex g.now head.now index.new (B.view bank.old)) }
-    ensures ok { OnOk result (IsTrue (B.view bank.old).tells → HasSlots g.now head.now (B.view bank.old).now.disks
+    ensures ok { OnOk result
+        (IsTrue (B.view bank.old).tells → HasSlots g.now head.now (B.view bank.old).now.disks
         → HasRecords g.now head.now (B.view bank.old).now.disks) }
     ensures reads { OnlyReads (B.view bank.old) (B.view bank.new) }
     ensures refused { IfErr result (λ why. IsTrue (B.view bank.old).tells
@@ -122,7 +125,7 @@ fn take_history<B: Bank>(
     let ring = Ring::new(0, ring_start, g.ring);
     let expected = Expected {
         size: g.block,
-        volume: g.rows * u32::from(g.members - 1),
+        volume: g.volume(),
         first: head.first,
         base_time: head.base_time,
         first_off: head.first_off,
@@ -150,7 +153,8 @@ fn read_history<B: Bank>(
     requires size { (B.view bank.old).sizes 0 ≡ Some (log_size g.now) }
     requires head { IsHead g.now head.now }
     ensures index { IfOk result (λ index. ReadsIndex g.now head.now index (B.view bank.old)) }
-    ensures ok { OnOk result (IsTrue (B.view bank.old).tells → HasSlots g.now head.now (B.view bank.old).now.disks
+    ensures ok { OnOk result
+        (IsTrue (B.view bank.old).tells → HasSlots g.now head.now (B.view bank.old).now.disks
         → HasRecords g.now head.now (B.view bank.old).now.disks) }
     ensures reads { OnlyReads (B.view bank.old) (B.view bank.new) }
     ensures refused { IfErr result (λ why. IsTrue (B.view bank.old).tells
@@ -169,11 +173,13 @@ fn read_history<B: Bank>(
 pub(super) fn find_log<B: Bank>(alloc: Global, bank: &mut B) -> Result<Found, MountFault>
     ensures ok { IfOk result (λ found.
         ReadsLog found.g found.head found.cell found.stage (B.view bank.old) (B.view bank.new)) }
-    ensures index { IfOk result (λ found. ReadsIndex found.g found.head found.index (B.view bank.old)) }
-    ensures buffers { IfOk result (λ found. AreFor found.g.block found.buffers) }
+    ensures index { IfOk result
+        (λ found. ReadsIndex found.g found.head found.index (B.view bank.old)) }
+    ensures buffers { IfOk result (λ found. HaveBlocksOf found.g.block found.buffers) }
     ensures reads { OnlyReads (B.view bank.old) (B.view bank.new) }
     ensures no_log { IsNoLog ((B.view bank.old).sizes 0) → IsErrOf result MountFault.NotAnArray }
-    ensures refused { IfErr result (λ why. IsTrue (B.view bank.old).tells → Refuses (B.view bank.old) why) }
+    ensures refused { IfErr result (λ why. IsTrue (B.view bank.old).tells
+        → Refuses (B.view bank.old) why) }
     ensures cause { IfErr result (λ why. MountFails why (B.view bank.old) (B.view bank.new)) }
     ensures log { IfErr result (λ why. names_member why ≡ false) }
 {

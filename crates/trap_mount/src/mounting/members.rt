@@ -3,13 +3,13 @@
 ghost use Rattle.std.specs.Prelude.{◌≡◌, ◌≢◌, ◌≤◌, ◌<◌, ◌+◌, ◌↔◌, ℕ, Some, None, IsTrue, OnOk, OnErr, IfOk, IfErr, IfSome, IfNone};
 ghost use Rattle.std.specs.Option.{ForSome};
 ghost use Rattle.trap_bank.specs.Faults.{Rose};
+ghost use Rattle.trap_bank.specs.Steps.{OnlyReads};
 ghost use Rattle.trap_format.specs.MemberDisk.{member_size, member_header};
 ghost use Rattle.trap_format.specs.HeadValue.{IsHead};
 ghost use Rattle.trap_format.specs.declared.head.Head.{Head};
 ghost use Rattle.trap_raid.specs.Members.{IsMember};
-ghost use Rattle.trap_raid.specs.Reads.{OnlyReads};
 ghost use Rattle.trap_mount.specs.Mounting.{Refuses, MountFails, SizesShow, HasRecords, HasMembers};
-ghost use Rattle.trap_mount.specs.MountSteps.{IsStable, IsOnlyOut, IsFirstOut, FindsLost, ReadsMember, ReadsMembers, IsNext, KeepsRows, FindsMembers};
+ghost use Rattle.trap_mount.specs.MountSteps.{IsStable, IsOnlyOut, IsFirstOut, FindsLost, ReadsMember, ReadsMembers, IsNextMember, KeepsRows, FindsMembers};
 
 use crate::MountFault;
 use crate::mounting::header::settle;
@@ -20,9 +20,11 @@ use trap_model::Geometry;
 /// The lowest member whose disk is absent, but for one.
 fn lowest_absent<B: Bank>(bank: &B, members: u8, but: Option<u8>) -> Option<u8>
     requires { members ≤ 16 }
-    ensures some { IfSome result (λ m. (m < members) × (but ≢ Some m) × ((B.view bank.now).sizes (m + 1) ≡ None)
+    ensures some { IfSome result
+        (λ m. (m < members) × (but ≢ Some m) × ((B.view bank.now).sizes (m + 1) ≡ None)
         × ((k : ℕ) → k < m → but ≢ Some k → (B.view bank.now).sizes (k + 1) ≢ None)) }
-    ensures none { IfNone result ((k : ℕ) → k < members → but ≢ Some k → (B.view bank.now).sizes (k + 1) ≢ None) }
+    ensures none { IfNone result
+        ((k : ℕ) → k < members → but ≢ Some k → (B.view bank.now).sizes (k + 1) ≢ None) }
 {
     for member in 0..members {
         if but != Some(member) && bank.size(member + 1).is_none() {
@@ -94,7 +96,7 @@ fn check_member<B: Bank>(bank: &mut B, g: &Geometry, member: u8) -> Result<(), M
     ensures ok { OnOk result (ReadsMember g.now member (B.view bank.old) (B.view bank.new)) }
     ensures reads { OnlyReads (B.view bank.old) (B.view bank.new) }
     ensures wrong { IfErr result (λ why. IsTrue (B.view bank.old).tells → (h : Head)
-        → IsNext g.now h (B.view bank.old).now.disks member
+        → IsNextMember g.now h (B.view bank.old).now.disks member
         → HasMembers g.now h (B.view bank.old).now.disks → Refuses (B.view bank.old) why) }
     ensures cause { IfErr result (λ why. MountFails why (B.view bank.old) (B.view bank.new)) }
     ensures shown { IfErr result (λ why. SizesShow g.now why (B.view bank.old)) }
@@ -114,7 +116,8 @@ fn check_member<B: Bank>(bank: &mut B, g: &Geometry, member: u8) -> Result<(), M
 
 /// Checks that the disk of each member is its own, but for the lost one's.
 fn check_members<B: Bank>(bank: &mut B, g: &Geometry, lost: Option<u8>) -> Result<(), MountFault>
-    ensures ok { OnOk result (ReadsMembers g.now lost g.now.members (B.view bank.old) (B.view bank.new)) }
+    ensures ok { OnOk result
+        (ReadsMembers g.now lost g.now.members (B.view bank.old) (B.view bank.new)) }
     ensures reads { OnlyReads (B.view bank.old) (B.view bank.new) }
     ensures refused { IfErr result (λ why. IsTrue (B.view bank.old).tells → (h : Head)
         → IsOnlyOut g.now h.lost lost (B.view bank.old).now.disks
@@ -130,7 +133,8 @@ fn check_members<B: Bank>(bank: &mut B, g: &Geometry, lost: Option<u8>) -> Resul
     Ok(())
 }
 
-/// How many rows of a member that is recorded lost count: those before, or none where its disk isn't its own or fails.
+/// How many rows of a member that is recorded lost count: those before, or none where its disk
+/// isn't its own or fails.
 fn rows_of<B: Bank>(bank: &mut B, g: &Geometry, member: u8, rebuilt: u32) -> u32
     requires member { member < 16 }
     ensures rows { KeepsRows g.now member rebuilt result (B.view bank.old) (B.view bank.new) }
@@ -159,14 +163,16 @@ fn rebuilt_rows<B: Bank>(bank: &mut B, g: &Geometry, head: &Head) -> u32
     }
 }
 
-/// Looks at the members' disks: the head with the member that is out, and with how many of its rows count.
+/// Looks at the members' disks: the head with the member that is out, and with how many of its rows
+/// count.
 pub(super) fn find_members<B: Bank>(
     bank: &mut B,
     g: &Geometry,
     head: &Head,
 ) -> Result<Head, MountFault>
     requires head { IsHead g.now head.now }
-    ensures ok { IfOk result (λ next. FindsMembers g.now head.now next (B.view bank.old) (B.view bank.new)) }
+    ensures ok { IfOk result
+        (λ next. FindsMembers g.now head.now next (B.view bank.old) (B.view bank.new)) }
     ensures reads { OnlyReads (B.view bank.old) (B.view bank.new) }
     ensures refused { IfErr result (λ why. IsTrue (B.view bank.old).tells
         → HasRecords g.now head.now (B.view bank.old).now.disks → Refuses (B.view bank.old) why) }

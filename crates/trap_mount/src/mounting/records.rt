@@ -3,11 +3,11 @@
 ghost use Rattle.std.specs.Prelude.{◌≡◌, ℕ, ◌+◌, ◌-◌, ◌<◌, ◌≤◌, List, IsErrOf, OnOk, IsTrue};
 ghost use Rattle.trap_bank.specs.Calls.{Fits};
 ghost use Rattle.trap_bank.specs.Faults.{Rose};
+ghost use Rattle.trap_bank.specs.Steps.{OnlyReads};
 ghost use Rattle.trap_index.specs.Indexed.{last_seq, last_time};
-ghost use Rattle.trap_raid.specs.Reads.{OnlyReads};
 ghost use Rattle.trap_scan.specs.Window.{IsWindow, IsLoaded, IsAhead, Looks};
 ghost use Rattle.trap_scan.specs.Scan.{AreExpected, BreaksAt, IsAtFirst, AreAhead, BreaksAhead};
-ghost use Rattle.trap_mount.specs.Reading.{AreRead, Awaits, HasTaken};
+ghost use Rattle.trap_mount.specs.Reading.{AreRecordsRead, Awaits, HasTaken};
 
 use std::alloc::Global;
 use trap_bank::Bank;
@@ -32,10 +32,11 @@ fn take_records<B: Bank>(
     ensures right { IsTrue (B.view bank.old).tells → OnOk result ((bytes : List ℕ)
         → IsAhead ring.now scan.old.window bytes (B.view bank.old).now.disks
         → AreAhead scan.old bytes) }
-    ensures taken { OnOk result (HasTaken index.old index.new scan.old.expected.last scan.old.expected.last_time) }
+    ensures taken { OnOk result
+        (HasTaken index.old index.new scan.old.expected.last scan.old.expected.last_time) }
     ensures read { IsTrue (B.view bank.old).tells → OnOk result ((bytes : List ℕ)
         → IsAhead ring.now scan.old.window bytes (B.view bank.old).now.disks
-        → AreRead index.old.g.block index.new.recs bytes) }
+        → AreRecordsRead index.old.g.block index.new.recs bytes) }
     ensures damaged { IsTrue (B.view bank.old).tells → (at : ℕ)
         → IsErrOf result (ScanFault.Damaged at) → (bytes : List ℕ)
         → IsAhead ring.now scan.old.window bytes (B.view bank.old).now.disks
@@ -51,7 +52,8 @@ fn take_records<B: Bank>(
     Ok(())
 }
 
-/// Reads all records that are expected in the ring into an index that has none yet, and checks that they stand there.
+/// Reads all records that are expected in the ring into an index that has none yet, and checks that
+/// they stand there.
 pub(super) fn read_records<B: Bank>(
     alloc: Global,
     bank: &mut B,
@@ -60,21 +62,26 @@ pub(super) fn read_records<B: Bank>(
     index: &mut Index,
 ) -> Result<(), CheckFault>
     requires awaits { Awaits expected.now index.old }
-    requires empty { expected.now.first ≡ expected.now.last → expected.now.base_time ≡ expected.now.last_time }
+    requires empty { expected.now.first ≡ expected.now.last
+        → expected.now.base_time ≡ expected.now.last_time }
     requires order { expected.now.first ≤ expected.now.last }
     requires offsets { expected.now.first_off ≤ expected.now.end_off }
     requires room { expected.now.end_off - expected.now.first_off ≤ ring.now.len }
     requires there { Fits (B.view bank.old) ring.now.disk (ring.now.at + ring.now.len) }
     ensures right { IsTrue (B.view bank.old).tells → OnOk result ((bytes : List ℕ)
-        → IsWindow ring.now expected.now.first_off expected.now.end_off bytes (B.view bank.old).now.disks
+        → IsWindow ring.now expected.now.first_off expected.now.end_off bytes
+        (B.view bank.old).now.disks
         → AreExpected expected.now bytes) }
-    ensures taken { OnOk result (HasTaken index.old index.new expected.now.last expected.now.last_time) }
+    ensures taken { OnOk result
+        (HasTaken index.old index.new expected.now.last expected.now.last_time) }
     ensures read { IsTrue (B.view bank.old).tells → OnOk result ((bytes : List ℕ)
-        → IsWindow ring.now expected.now.first_off expected.now.end_off bytes (B.view bank.old).now.disks
-        → AreRead index.old.g.block index.new.recs bytes) }
+        → IsWindow ring.now expected.now.first_off expected.now.end_off bytes
+        (B.view bank.old).now.disks
+        → AreRecordsRead index.old.g.block index.new.recs bytes) }
     ensures damaged { IsTrue (B.view bank.old).tells → (at : ℕ)
         → IsErrOf result (CheckFault.Damaged at) → (bytes : List ℕ)
-        → IsWindow ring.now expected.now.first_off expected.now.end_off bytes (B.view bank.old).now.disks
+        → IsWindow ring.now expected.now.first_off expected.now.end_off bytes
+        (B.view bank.old).now.disks
         → BreaksAt expected.now bytes at }
     ensures reads { OnlyReads (B.view bank.old) (B.view bank.new) }
     ensures cause { IsErrOf result CheckFault.DiskFault

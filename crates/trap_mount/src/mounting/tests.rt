@@ -1,4 +1,5 @@
-//! Mounting over a bank in memory, of an empty array with three members whose disks are written by hand.
+//! Mounting over a bank in memory, of an empty array with three members whose disks are written by
+//! hand.
 
 ghost use Rattle.std.specs.Prelude.{◌≡◌, ◌≤◌, ◌+◌, IsTrue};
 ghost use Rattle.std.specs.Option.{ForSome};

@@ -1,11 +1,11 @@
 use Rattle.std.proofs.Common.{IsTrue, refl, ◌∙◌}
 use Rattle.trap_mount.specs.Mounting.{Refuses}
-use Rattle.trap_mount.specs.MountEnds.{MountsFor, MountEnds}
+use Rattle.trap_mount.specs.MountEnds.{MountEnds}
 use Rattle.trap_mount.specs.declared.fault.MountFault.TheVariants.{LogFault}
 use Rattle.trap_mount.proofs.MountReads.{reads_then, cause_before, rose_later, sizes_before, one_bit}
 use Rattle.trap_mount.proofs.MountHistory.{exit}
 use Rattle.trap_mount.proofs.MountRefusals.{never_refused}
-use Rattle.trap_mount.proofs.MountPuts.{complete, mounts_read, members_refused, put_failed, put_room, stage_put, index_put, stands_still, mounts_put, mounts_contents, mount_ready, mount_stands, mount_found, mount_knows, mount_head, head_read, writes_head, read_lost, read_others, put_lost, put_others}
+use Rattle.trap_mount.proofs.MountPuts.{complete, members_refused, put_failed, put_room, stage_put, index_put, stands_still, mount_ready, mount_stands, mount_found, mount_knows, mount_head, head_read, writes_head, keeps_read, read_others, keeps_put, put_others}
 use Rattle.trap_mount.proofs.mounting.mount.Goals as goal
 
 -- ---- the log was refused
@@ -18,14 +18,11 @@ returns-in_err-found-clause-ended g c =
     exit (λ why. MountEnds why old new) c.from_residual.result c.in_err-found.field-0.0 c.from_residual.ensures.1 (record {
       refused = refused;
       held = λ numbers s told holds. never_refused numbers s old.now.disks holds c.in_err-found.field-0.0 (refused told);
-      nothing_written = λ is told. c.find_log.ensures.reads.same told;
+      nothing_written = λ is. c.find_log.ensures.reads;
       cause = c.in_err-found.ensures.cause;
       shown = λ is. absurd (one_bit _ c.in_err-found.ensures.log is);
       complete = λ numbers h s told by log members. complete old new numbers h s told by log members c.in_err-found.field-0.0 refused c.in_err-found.ensures.cause;
     })
-
-pub returns-in_err-found-clause-any_moment : goal.returns-in_err-found-clause-any_moment
-returns-in_err-found-clause-any_moment g c = mounts_read (g.B.Bank.view c.args.bank.now) (g.B.Bank.view c.find_log.new.bank) c.find_log.ensures.reads
 
 -- ---- the members were refused
 
@@ -40,16 +37,12 @@ returns-in_err-head-clause-ended g c =
     exit (λ why. MountEnds why old new) c.from_residual-in_err-head.result c.in_err-head.field-0.0 c.from_residual-in_err-head.ensures.1 (record {
       refused = refused;
       held = λ numbers s told holds. never_refused numbers s old.now.disks holds c.in_err-head.field-0.0 (refused told);
-      nothing_written = λ is told. reads.same told;
+      nothing_written = λ is. reads;
       cause = cause_before old mid new _ c.find_log.ensures.reads c.in_err-head.ensures.cause;
       shown = λ is. (c.in_ok-found.found.g, c.in_ok-found.ensures.ok.header.size, sizes_before c.in_ok-found.found.g old mid _ c.find_log.ensures.reads.sizes c.in_err-head.ensures.shown);
       complete = λ numbers h s told by log members. complete old new numbers h s told by log members c.in_err-head.field-0.0 refused
           (cause_before old mid new _ c.find_log.ensures.reads c.in_err-head.ensures.cause);
     })
-
-pub returns-in_err-head-clause-any_moment : goal.returns-in_err-head-clause-any_moment
-returns-in_err-head-clause-any_moment g c = mounts_read (g.B.Bank.view c.args.bank.now) (g.B.Bank.view c.find_members.new.bank)
-    (reads_then (g.B.Bank.view c.args.bank.now) (g.B.Bank.view c.find_log.new.bank) (g.B.Bank.view c.find_members.new.bank) c.find_log.ensures.reads c.find_members.ensures.reads)
 
 -- ---- the put
 
@@ -66,11 +59,6 @@ put_changed-requires-clause-room g c = put_room c.in_ok-found.found.g c.in_ok-fo
 pub returns-in_default-clause-sizes : goal.returns-in_default-clause-sizes
 returns-in_default-clause-sizes g c = λ e. c.put_changed.ensures.sizes e ∙ c.find_members.ensures.reads.sizes e ∙ c.find_log.ensures.reads.sizes e
 
-pub returns-in_default-clause-contents : goal.returns-in_default-clause-contents
-returns-in_default-clause-contents g c = mounts_contents c.in_ok-found.found.g c.in_ok-found.found.head c.in_ok-head.head c.in_ok-found.found.cell c.in_ok-found.found.stage
-    (g.B.Bank.view c.args.bank.now) (g.B.Bank.view c.find_log.new.bank) (g.B.Bank.view c.find_members.new.bank) c.find_log.ensures.reads c.find_members.ensures.reads
-    (g.met.B.Bank.lawful c.find_log.new.bank) c.in_ok-found.ensures.ok c.in_ok-head.ensures.ok (g.B.Bank.view c.put_changed.new.bank) c.put_changed.ensures.contents
-
 pub returns-in_default-clause-ended : goal.returns-in_default-clause-ended
 returns-in_default-clause-ended g c =
     let old = g.B.Bank.view c.args.bank.now in
@@ -80,16 +68,11 @@ returns-in_default-clause-ended g c =
     record {
       refused = λ told. tt;
       held = λ numbers s told holds. refl;
-      nothing_written = λ is. absurd (cc is);
+      nothing_written = λ is. absurd (is refl);
       cause = put_failed old mid new LogFault reads c.in_default.ensures.cause refl;
       shown = λ is. absurd (cc is);
       complete = λ numbers h s told by log members. absurd (log (rose_later _ _ _ (reads.moves.faults 0) c.in_default.ensures.cause));
     }
-
-pub returns-in_default-clause-any_moment : goal.returns-in_default-clause-any_moment
-returns-in_default-clause-any_moment g c = mounts_put c.in_ok-found.found.g c.in_ok-found.found.head c.in_ok-head.head c.in_ok-found.found.cell c.in_ok-found.found.stage
-    (g.B.Bank.view c.args.bank.now) (g.B.Bank.view c.find_log.new.bank) (g.B.Bank.view c.find_members.new.bank) c.find_log.ensures.reads c.find_members.ensures.reads
-    (g.met.B.Bank.lawful c.find_log.new.bank) c.in_ok-found.ensures.ok c.in_ok-head.ensures.ok (g.B.Bank.view c.put_changed.new.bank) c.put_changed.ensures.any_moment
 
 -- ---- the array is mounted
 
@@ -131,30 +114,20 @@ returns-clause-mounted g c =
 pub returns-clause-sizes : goal.returns-clause-sizes
 returns-clause-sizes g c = λ e. c.put_changed.ensures.sizes e ∙ c.find_members.ensures.reads.sizes e ∙ c.find_log.ensures.reads.sizes e
 
-pub returns-clause-contents : goal.returns-clause-contents
-returns-clause-contents g c = mounts_contents c.in_ok-found.found.g c.in_ok-found.found.head c.in_ok-head.head c.in_ok-found.found.cell c.in_ok-found.found.stage
-    (g.B.Bank.view c.args.bank.now) (g.B.Bank.view c.find_log.new.bank) (g.B.Bank.view c.find_members.new.bank) c.find_log.ensures.reads c.find_members.ensures.reads
-    (g.met.B.Bank.lawful c.find_log.new.bank) c.in_ok-found.ensures.ok c.in_ok-head.ensures.ok (g.B.Bank.view c.put_changed.new.bank) c.put_changed.ensures.contents
-
-pub returns-clause-any_moment : goal.returns-clause-any_moment
-returns-clause-any_moment g c = mounts_put c.in_ok-found.found.g c.in_ok-found.found.head c.in_ok-head.head c.in_ok-found.found.cell c.in_ok-found.found.stage
-    (g.B.Bank.view c.args.bank.now) (g.B.Bank.view c.find_log.new.bank) (g.B.Bank.view c.find_members.new.bank) c.find_log.ensures.reads c.find_members.ensures.reads
-    (g.met.B.Bank.lawful c.find_log.new.bank) c.in_ok-found.ensures.ok c.in_ok-head.ensures.ok (g.B.Bank.view c.put_changed.new.bank) c.put_changed.ensures.any_moment
-
--- ---- the other disks, and the lost member
+-- ---- the other disks, and the states
 
 pub returns-in_err-found-clause-others : goal.returns-in_err-found-clause-others
 returns-in_err-found-clause-others g c = read_others (g.B.Bank.view c.args.bank.now) (g.B.Bank.view c.find_log.new.bank) c.find_log.ensures.reads
 
-pub returns-in_err-found-clause-lost : goal.returns-in_err-found-clause-lost
-returns-in_err-found-clause-lost g c = read_lost (g.B.Bank.view c.args.bank.now) (g.B.Bank.view c.find_log.new.bank) c.find_log.ensures.reads
+pub returns-in_err-found-clause-keeps : goal.returns-in_err-found-clause-keeps
+returns-in_err-found-clause-keeps g c = keeps_read (g.B.Bank.view c.args.bank.now) (g.B.Bank.view c.find_log.new.bank) c.find_log.ensures.reads
 
 pub returns-in_err-head-clause-others : goal.returns-in_err-head-clause-others
 returns-in_err-head-clause-others g c = read_others (g.B.Bank.view c.args.bank.now) (g.B.Bank.view c.find_members.new.bank)
     (reads_then (g.B.Bank.view c.args.bank.now) (g.B.Bank.view c.find_log.new.bank) (g.B.Bank.view c.find_members.new.bank) c.find_log.ensures.reads c.find_members.ensures.reads)
 
-pub returns-in_err-head-clause-lost : goal.returns-in_err-head-clause-lost
-returns-in_err-head-clause-lost g c = read_lost (g.B.Bank.view c.args.bank.now) (g.B.Bank.view c.find_members.new.bank)
+pub returns-in_err-head-clause-keeps : goal.returns-in_err-head-clause-keeps
+returns-in_err-head-clause-keeps g c = keeps_read (g.B.Bank.view c.args.bank.now) (g.B.Bank.view c.find_members.new.bank)
     (reads_then (g.B.Bank.view c.args.bank.now) (g.B.Bank.view c.find_log.new.bank) (g.B.Bank.view c.find_members.new.bank) c.find_log.ensures.reads c.find_members.ensures.reads)
 
 pub returns-in_default-clause-others : goal.returns-in_default-clause-others
@@ -162,20 +135,20 @@ returns-in_default-clause-others g c = put_others c.in_ok-found.found.g c.in_ok-
     (g.B.Bank.view c.args.bank.now) (g.B.Bank.view c.find_log.new.bank) (g.B.Bank.view c.find_members.new.bank) c.find_log.ensures.reads c.find_members.ensures.reads
     (g.met.B.Bank.lawful c.find_log.new.bank) c.in_ok-found.ensures.ok c.in_ok-head.ensures.ok (g.B.Bank.view c.put_changed.new.bank) c.put_changed.ensures.contents
 
-pub returns-in_default-clause-lost : goal.returns-in_default-clause-lost
-returns-in_default-clause-lost g c = put_lost c.in_ok-found.found.g c.in_ok-found.found.head c.in_ok-head.head c.in_ok-found.found.cell c.in_ok-found.found.stage
+pub returns-in_default-clause-keeps : goal.returns-in_default-clause-keeps
+returns-in_default-clause-keeps g c = keeps_put c.in_ok-found.found.g c.in_ok-found.found.head c.in_ok-head.head c.in_ok-found.found.cell c.in_ok-found.found.stage
     (g.B.Bank.view c.args.bank.now) (g.B.Bank.view c.find_log.new.bank) (g.B.Bank.view c.find_members.new.bank) c.find_log.ensures.reads c.find_members.ensures.reads
-    (g.met.B.Bank.lawful c.find_log.new.bank) c.in_ok-found.ensures.ok c.in_ok-head.ensures.ok (g.B.Bank.view c.put_changed.new.bank) c.put_changed.ensures.any_moment.faults c.put_changed.ensures.contents
+    (g.met.B.Bank.lawful c.find_log.new.bank) c.in_ok-found.ensures.ok c.in_ok-head.ensures.ok (g.B.Bank.view c.put_changed.new.bank) c.put_changed.ensures.any_moment c.put_changed.ensures.contents
 
 pub returns-clause-others : goal.returns-clause-others
 returns-clause-others g c = put_others c.in_ok-found.found.g c.in_ok-found.found.head c.in_ok-head.head c.in_ok-found.found.cell c.in_ok-found.found.stage
     (g.B.Bank.view c.args.bank.now) (g.B.Bank.view c.find_log.new.bank) (g.B.Bank.view c.find_members.new.bank) c.find_log.ensures.reads c.find_members.ensures.reads
     (g.met.B.Bank.lawful c.find_log.new.bank) c.in_ok-found.ensures.ok c.in_ok-head.ensures.ok (g.B.Bank.view c.put_changed.new.bank) c.put_changed.ensures.contents
 
-pub returns-clause-lost : goal.returns-clause-lost
-returns-clause-lost g c = put_lost c.in_ok-found.found.g c.in_ok-found.found.head c.in_ok-head.head c.in_ok-found.found.cell c.in_ok-found.found.stage
+pub returns-clause-keeps : goal.returns-clause-keeps
+returns-clause-keeps g c = keeps_put c.in_ok-found.found.g c.in_ok-found.found.head c.in_ok-head.head c.in_ok-found.found.cell c.in_ok-found.found.stage
     (g.B.Bank.view c.args.bank.now) (g.B.Bank.view c.find_log.new.bank) (g.B.Bank.view c.find_members.new.bank) c.find_log.ensures.reads c.find_members.ensures.reads
-    (g.met.B.Bank.lawful c.find_log.new.bank) c.in_ok-found.ensures.ok c.in_ok-head.ensures.ok (g.B.Bank.view c.put_changed.new.bank) c.put_changed.ensures.any_moment.faults c.put_changed.ensures.contents
+    (g.met.B.Bank.lawful c.find_log.new.bank) c.in_ok-found.ensures.ok c.in_ok-head.ensures.ok (g.B.Bank.view c.put_changed.new.bank) c.put_changed.ensures.any_moment c.put_changed.ensures.contents
 
 -- ---- nothing is written but the head
 

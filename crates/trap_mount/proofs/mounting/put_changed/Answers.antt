@@ -1,5 +1,4 @@
 use Rattle.std.proofs.lemmas.Result.{on_ok_weaker}
-use Rattle.std.proofs.Common.{◌≢◌}
 use Rattle.trap_mount.proofs.HeadTests.{heads_differ}
 use Rattle.trap_mount.proofs.MountPuts.{may_put, may_put_now, has_put}
 use Rattle.trap_mount.proofs.mounting.put_changed.Goals as goal

@@ -1,4 +1,4 @@
-use Rattle.std.proofs.Common.{◌≡◌, ℕ, ◌*◌, ◌-◌, Err, ap, refl, ◌∙◌, arith}
+use Rattle.std.proofs.Common.{◌≡◌, ℕ, ◌-◌, Err, ap, refl, ◌∙◌, arith}
 use Rattle.trap_format.specs.LogDisk.{ring_at}
 use Rattle.trap_model.specs.declared.numbers.Geometry.{Geometry}
 use Rattle.trap_ring.specs.Ring.{RingPlace}
@@ -13,14 +13,14 @@ pub returns-in-Ok-clause-ok : goal.returns-in-Ok-clause-ok
 returns-in-Ok-clause-ok g c = λ told slots.
     let start : c.log_len.result - c.args.g.now.ring ≡ ring_at c.args.g.now = omega arith in
     records_right c.args.g.now c.args.head.now _ _ (g.B.Bank.view c.args.bank.now).now.disks c.requires.head
-    (record { size = refl; volume_ = ap (λ (n : ℕ). c.args.g.now.rows * n) c.from.ensures; first = refl; base_time = refl; first_off = refl; last = refl; last_time = refl; end_off = refl })
+    (record { size = refl; volume_ = c.volume.ensures.is; first = refl; base_time = refl; first_off = refl; last = refl; last_time = refl; end_off = refl })
     (is_ring c.args.g.now c.new-ring.result _ c.new-ring.ensures start) slots (c.in-Ok.ensures.right told)
 
 pub returns-in-Err-Damaged-clause-refused : goal.returns-in-Err-Damaged-clause-refused
 returns-in-Err-Damaged-clause-refused g c = λ told slots.
     let start : c.log_len.result - c.args.g.now.ring ≡ ring_at c.args.g.now = omega arith in
     record_wrong c.args.g.now c.args.head.now _ _ (g.B.Bank.view c.args.bank.now).now.disks c.requires.head
-    (record { size = refl; volume_ = ap (λ (n : ℕ). c.args.g.now.rows * n) c.from.ensures; first = refl; base_time = refl; first_off = refl; last = refl; last_time = refl; end_off = refl })
+    (record { size = refl; volume_ = c.volume.ensures.is; first = refl; base_time = refl; first_off = refl; last = refl; last_time = refl; end_off = refl })
     (is_ring c.args.g.now c.new-ring.result _ c.new-ring.ensures start) slots c.in-Err-Damaged.at _
     (c.in-Err-Damaged.ensures.damaged told _ (ap Err c.in-Err-Damaged.field-0-is)) (omega arith)
 
@@ -28,5 +28,5 @@ pub returns-in-Ok-clause-index : goal.returns-in-Ok-clause-index
 returns-in-Ok-clause-index g c =
     let start : c.log_len.result - c.args.g.now.ring ≡ ring_at c.args.g.now = omega arith in
     index_read c.args.g.now c.args.head.now _ _ _ _ (g.B.Bank.view c.args.bank.now)
-    (record { size = refl; volume_ = ap (λ (n : ℕ). c.args.g.now.rows * n) c.from.ensures; first = refl; base_time = refl; first_off = refl; last = refl; last_time = refl; end_off = refl })
+    (record { size = refl; volume_ = c.volume.ensures.is; first = refl; base_time = refl; first_off = refl; last = refl; last_time = refl; end_off = refl })
     (is_ring c.args.g.now c.new-ring.result _ c.new-ring.ensures start) c.requires.none c.in-Ok.ensures.taken c.in-Ok.ensures.read

@@ -1,5 +1,5 @@
 use Rattle.std.proofs.Common.{◌+◌, sym, subst, ◌∙◌, arith}
-use Rattle.trap_raid.specs.Reads.{OnlyReads}
+use Rattle.trap_bank.specs.Steps.{OnlyReads}
 use Rattle.trap_mount.specs.MountSteps.{ReadsMembers}
 use Rattle.trap_mount.proofs.MountReads.{reads_then, reads_none, sizes_before}
 use Rattle.trap_mount.proofs.MountHistory.{exit}

@@ -1,4 +1,4 @@
-use Rattle.trap_raid.specs.Reads.{OnlyReads}
+use Rattle.trap_bank.specs.Steps.{OnlyReads}
 use Rattle.trap_mount.specs.MountSteps.{ReadsMembers}
 use Rattle.trap_mount.proofs.mounting.members.check_members.Given as goal
 
