@@ -1,8 +1,9 @@
 -- Which bytes the steps of a write touch.
-use Rattle.std.proofs.Common.{◌≡◌, ◌⊎◌, ℕ, ◌+◌, ◌-◌, ◌<◌, ◌≤◌, List, [], ◌∷◌, length, take, drop, Option, Some, None, Bool, true, false, not, ◌==◌, if◌then◌else◌, IsTrue, Result, OnOk, inl, inr, ⊎_elim, refl, sym, ap, subst, ◌∙◌, arith}
+use Rattle.std.proofs.Common.{◌≡◌, ◌⊎◌, ℕ, ◌+◌, ◌-◌, ◌<◌, ◌≤◌, List, [], ◌∷◌, take, drop, Option, Some, None, Bool, true, false, not, ◌==◌, if◌then◌else◌, IsTrue, inl, inr, ⊎_elim, refl, sym, ap, subst, ◌∙◌, arith}
 use Rattle.std.specs.Option.{option_or}
 use Rattle.std.proofs.lemmas.Bool.{eqb-true}
-use Rattle.trap_bank.specs.Disks.{View, Area, Within, Contents, Differs, Torn, Quiet}
+use Rattle.std.proofs.lemmas.List.{take-append-drop}
+use Rattle.trap_bank.specs.Disks.{View, Area, Within, Differs, Torn, Quiet}
 use Rattle.trap_bank.specs.Steps.{Moves, Same}
 use Rattle.trap_bank.proofs.Moves.{no_moves, moves_weaken, moves_again, moves_mono, moves_same, torn_again, torn_same, torn_mono}
 use Rattle.trap_cell.specs.Slots.{Place, Slots, slot_at, other_slot}
@@ -13,17 +14,17 @@ use Rattle.trap_map.specs.Layout.{parity_member, block_place}
 use Rattle.trap_model.specs.declared.numbers.Geometry.{Geometry}
 use Rattle.trap_raid.specs.Condition.{Condition}
 use Rattle.trap_raid.specs.Draining.{InDrained, writes_to}
-use Rattle.trap_raid.specs.Members.{Counts, Covered}
-use Rattle.trap_raid.specs.Reads.{OnlyReads}
+use Rattle.trap_raid.specs.Members.{Counts}
+use Rattle.trap_raid.proofs.DrainLemmas.{drained_older}
 use Rattle.trap_ring.specs.Ring.{RingPlace, InRing}
-use Rattle.trap_stage.specs.Slots.{Stage, slot_area, last_of}
+use Rattle.trap_stage.specs.Slots.{slot_area, last_of}
 use Rattle.trap_stage.specs.Staged.{Staged, staged_at, newest_at}
 use Rattle.trap_array.specs.Areas.{Touches, InCommit, InDrain, InBlock, InWrite}
 use Rattle.trap_array.specs.Beside.{StaysFrom}
-use Rattle.trap_array.specs.Calls.{Mounted, GoesOn, going}
+use Rattle.trap_array.specs.Calls.{Mounted, SameArray, running}
 use Rattle.trap_array.specs.Holding.{head_place, log_ring, InCell}
-use Rattle.trap_array.specs.Log.{Log, AreInStep}
-use Rattle.trap_array.specs.NextHead.{committed, drained_to}
+use Rattle.trap_array.specs.Log.{Log}
+use Rattle.trap_array.specs.NextHead.{drained_to}
 use Rattle.trap_array.proofs.Beside.{stays_torn}
 
 -- ---- one step after another
@@ -82,62 +83,60 @@ module _ (log : Log) (is_head : log.cell.place ≡ head_place) (same : log.stage
     (fits : log.head.end_off + len ≤ log.head.first_off + log.g.ring) (v v1 : View)
     (torn : IsTrue v.tells → Torn (InRing ring log.head.end_off len) v.now v1.now) (moves : Moves v v1 (Differs (InRing ring log.head.end_off len)) (Differs (InRing ring log.head.end_off len))) where
   abbrev area : Area
-  area = InCommit (going log)
+  area = InCommit (running log)
 
-  in_free : (e i : ℕ) → InRing ring log.head.end_off len e i → InCommit (going log) e i
+  in_free : (e i : ℕ) → InRing ring log.head.end_off len e i → InCommit (running log) e i
   in_free e i inside =
       let there = subst (λ (r : RingPlace). InRing r log.head.end_off len e i) is_ring inside in
       inl (record { disk = there.disk; offset = there.offset; low = there.low; high = omega (arith, there.high, fits); place = there.place })
 
-  pub append_touches : Touches (InCommit (going log)) v v1
-  append_touches = touches_mono (InRing ring log.head.end_off len) (InCommit (going log)) v v1 in_free (record { contents = torn; any_moment = moves })
+  pub append_touches : Touches (InCommit (running log)) v v1
+  append_touches = touches_mono (InRing ring log.head.end_off len) (InCommit (running log)) v v1 in_free (record { contents = torn; any_moment = moves })
 
   module _ (v2 : View) (torn_slot : IsTrue v1.tells → Torn (slot_area log.stage.g (log.head.last + 1)) v1.now v2.now)
       (moves_slot : Moves v1 v2 (Differs (slot_area log.stage.g (log.head.last + 1))) (Differs (slot_area log.stage.g (log.head.last + 1)))) where
-    pub fill_touches : Touches (InCommit (going log)) v v2
+    pub fill_touches : Touches (InCommit (running log)) v v2
     fill_touches =
-        touches_then (InCommit (going log)) v v1 v2 append_touches
-        (touches_mono (slot_area log.stage.g (log.head.last + 1)) (InCommit (going log)) v1 v2
+        touches_then (InCommit (running log)) v v1 v2 append_touches
+        (touches_mono (slot_area log.stage.g (log.head.last + 1)) (InCommit (running log)) v1 v2
         (λ e i inside. inr (inl (subst (λ (g : Geometry). slot_area g (log.head.last + 1) e i) same inside)))
         (record { contents = torn_slot; any_moment = moves_slot }))
 
     module _ (v3 : View) (still : IsTrue v2.tells → v3.now ≡ v2.now) (sync : Moves v2 v3 Same Same) where
-      pub sync_touches : Touches (InCommit (going log)) v v3
-      sync_touches = touches_then (InCommit (going log)) v v2 v3 fill_touches (touches_same (InCommit (going log)) v2 v3 still sync)
+      pub sync_touches : Touches (InCommit (running log)) v v3
+      sync_touches = touches_then (InCommit (running log)) v v2 v3 fill_touches (touches_same (InCommit (running log)) v2 v3 still sync)
 
       pub commit_touches : (v4 : View) (value : List ℕ) → (IsTrue v3.tells → Quiet (PutsIn log.cell value) v3.now v4.now) → Moves v3 v4 (PutsIn log.cell value) (PutsIn log.cell value)
-          → Touches (InCommit (going log)) v v4
+          → Touches (InCommit (running log)) v v4
       commit_touches v4 value puts moves_put =
-          touches_then (InCommit (going log)) v v3 v4 sync_touches
-          (touches_mono InCell (InCommit (going log)) v3 v4 (λ e i inside. inr (inr inside)) (put_touches v3 v4 log.cell value is_head puts moves_put))
+          touches_then (InCommit (running log)) v v3 v4 sync_touches
+          (touches_mono InCell (InCommit (running log)) v3 v4 (λ e i inside. inr (inr inside)) (put_touches v3 v4 log.cell value is_head puts moves_put))
 
 -- ---- a drain
 pub take_none : (n : ℕ) (writes : List Staged) → n ≡ 0 → take n writes ≡ []
 take_none n writes none = ap (λ (k : ℕ). take k writes) none
 
-drop_none : (n : ℕ) (writes : List Staged) → n ≡ 0 → drop n writes ≡ writes
-drop_none n writes none = ap (λ (k : ℕ). drop k writes) none
+-- the older of the pending writes are some of them
+older_in : (g : Geometry) (lost : Option ℕ) (rebuilt n : ℕ) (writes : List Staged) (e i : ℕ) → InDrained g lost rebuilt (drop n writes) e i → InDrained g lost rebuilt writes e i
+older_in g lost rebuilt n writes e i inside =
+    subst (λ (w : List Staged). InDrained g lost rebuilt w e i) (take-append-drop n writes) (drained_older g lost rebuilt (take n writes) (drop n writes) e i inside)
 
-module _ (log : Log) (is_head : log.cell.place ≡ head_place) (in_step : AreInStep log.head log.stage log.index) (k : Condition) (is_raid : k ≡ record { g = log.g; lost = log.head.lost; rebuilt = log.head.rebuilt }) (v v1 : View)
-    (torn : IsTrue v.tells → Torn (InDrained k.g k.lost k.rebuilt (writes_to log.stage log.head.last)) v.now v1.now)
-    (moves : Moves v v1 (Differs (InDrained k.g k.lost k.rebuilt (writes_to log.stage log.head.last))) (Differs (InDrained k.g k.lost k.rebuilt (writes_to log.stage log.head.last)))) where
-  all_writes : writes_to log.stage log.head.last ≡ log.stage.pending
-  all_writes = drop_none (last_of log.stage - log.head.last) log.stage.pending (omega (arith, in_step.last))
-
-  in_places : (e i : ℕ) → InDrained k.g k.lost k.rebuilt (writes_to log.stage log.head.last) e i → InDrain (going log) e i
+module _ (log : Log) (is_head : log.cell.place ≡ head_place) (upto : ℕ) (k : Condition) (is_raid : k ≡ record { g = log.g; lost = log.head.lost; rebuilt = log.head.rebuilt }) (v v1 : View)
+    (torn : IsTrue v.tells → Torn (InDrained k.g k.lost k.rebuilt (writes_to log.stage upto)) v.now v1.now)
+    (moves : Moves v v1 (Differs (InDrained k.g k.lost k.rebuilt (writes_to log.stage upto))) (Differs (InDrained k.g k.lost k.rebuilt (writes_to log.stage upto)))) where
+  in_places : (e i : ℕ) → InDrained k.g k.lost k.rebuilt (writes_to log.stage upto) e i → InDrain (running log) e i
   in_places e i inside =
-      let P : Condition → Type 0 = λ (c : Condition). InDrained c.g c.lost c.rebuilt (writes_to log.stage log.head.last) e i in
-      let Q : List Staged → Type 0 = λ (writes : List Staged). InDrained log.g log.head.lost log.head.rebuilt writes e i in
-      inl (subst Q all_writes (subst P is_raid inside))
+      let P : Condition → Type 0 = λ (c : Condition). InDrained c.g c.lost c.rebuilt (writes_to log.stage upto) e i in
+      inl (older_in log.g log.head.lost log.head.rebuilt (last_of log.stage - upto) log.stage.pending e i (subst P is_raid inside))
 
-  pub raid_touches : Touches (InDrain (going log)) v v1
+  pub raid_touches : Touches (InDrain (running log)) v v1
   raid_touches =
-      touches_mono (InDrained k.g k.lost k.rebuilt (writes_to log.stage log.head.last)) (InDrain (going log)) v v1 in_places (record { contents = torn; any_moment = moves })
+      touches_mono (InDrained k.g k.lost k.rebuilt (writes_to log.stage upto)) (InDrain (running log)) v v1 in_places (record { contents = torn; any_moment = moves })
 
-  pub drain_touches : (v2 : View) (value : List ℕ) → (IsTrue v1.tells → Quiet (PutsIn log.cell value) v1.now v2.now) → Moves v1 v2 (PutsIn log.cell value) (PutsIn log.cell value) → Touches (InDrain (going log)) v v2
+  pub drain_touches : (v2 : View) (value : List ℕ) → (IsTrue v1.tells → Quiet (PutsIn log.cell value) v1.now v2.now) → Moves v1 v2 (PutsIn log.cell value) (PutsIn log.cell value) → Touches (InDrain (running log)) v v2
   drain_touches v2 value puts moves_put =
-      touches_then (InDrain (going log)) v v1 v2 raid_touches
-      (touches_mono InCell (InDrain (going log)) v1 v2 (λ e i inside. inr inside) (put_touches v1 v2 log.cell value is_head puts moves_put))
+      touches_then (InDrain (running log)) v v1 v2 raid_touches
+      (touches_mono InCell (InDrain (running log)) v1 v2 (λ e i inside. inr inside) (put_touches v1 v2 log.cell value is_head puts moves_put))
 
 -- ---- a whole write
 -- a place that a further write covers is its block's or its parity's, or one that was covered before
@@ -194,23 +193,23 @@ module _ (g : Geometry) (lost : Option ℕ) (rebuilt : ℕ) (staged : Staged) (w
           Within_row row = Within (inside.covered.member + 1) (row_at g row) g.block e i
 
 -- a commit and its drain
-module _ (a b : Log) (staged : Staged) (on : GoesOn (going a) (going b)) (further : b.stage.pending ≡ staged ∷ a.stage.pending) where
-  in_both : (e i : ℕ) → InDrain (going b) e i → InWrite (going a) staged.block e i
+module _ (a b : Log) (staged : Staged) (on : SameArray (running a) (running b)) (further : b.stage.pending ≡ staged ∷ a.stage.pending) where
+  in_both : (e i : ℕ) → InDrain (running b) e i → InWrite (running a) staged.block e i
   in_both e i inside = ⊎_elim
       (λ drained.
       let there = subst (λ (writes : List Staged). InDrained a.g a.head.lost a.head.rebuilt writes e i) further
-      (subst (λ (n : ℕ). InDrained a.g a.head.lost n b.stage.pending e i) on.rebuilt
-      (subst (λ (lost : Option ℕ). InDrained a.g lost b.head.rebuilt b.stage.pending e i) on.lost
+      (subst (λ (n : ℕ). InDrained a.g a.head.lost n b.stage.pending e i) on.follows.rebuilt
+      (subst (λ (lost : Option ℕ). InDrained a.g lost b.head.rebuilt b.stage.pending e i) on.follows.lost
       (subst (λ (g : Geometry). InDrained g b.head.lost b.head.rebuilt b.stage.pending e i) on.g drained))) in
       ⊎_elim (λ old. inr (inl (inl old))) (λ block. inr (inr block)) (one_further a.g a.head.lost a.head.rebuilt staged a.stage.pending e i there))
       (λ cell. inr (inl (inr cell)))
       inside
 
-  pub write_touches : (u v w : View) → Touches (InCommit (going a)) u v → Touches (InDrain (going b)) v w → Touches (InWrite (going a) staged.block) u w
+  pub write_touches : (u v w : View) → Touches (InCommit (running a)) u v → Touches (InDrain (running b)) v w → Touches (InWrite (running a) staged.block) u w
   write_touches u v w commit drain =
-      touches_then (InWrite (going a) staged.block) u v w
-      (touches_mono (InCommit (going a)) (InWrite (going a) staged.block) u v (λ e i inside. inl inside) commit)
-      (touches_mono (InDrain (going b)) (InWrite (going a) staged.block) v w in_both drain)
+      touches_then (InWrite (running a) staged.block) u v w
+      (touches_mono (InCommit (running a)) (InWrite (running a) staged.block) u v (λ e i inside. inl inside) commit)
+      (touches_mono (InDrain (running b)) (InWrite (running a) staged.block) v w in_both drain)
 
 pub commit_within : (a : Mounted) (block : ℕ) (v w : View) → Touches (InCommit a) v w → Touches (InWrite a block) v w
 commit_within a block v w commit = touches_mono (InCommit a) (InWrite a block) v w (λ e i inside. inl inside) commit

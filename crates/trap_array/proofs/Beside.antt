@@ -1,19 +1,10 @@
 -- The disks beside an array's own: which changes are none of theirs.
-use Rattle.std.proofs.Common.{◌≡◌, ℕ, ◌+◌, ◌<◌, List, IsTrue, refl, sym, ap, subst, ◌∙◌, arith}
-use Rattle.trap_bank.specs.Disks.{Contents, View, Area, Torn, Quiet}
+use Rattle.std.proofs.Common.{◌≡◌, ℕ, ◌+◌, ◌<◌, IsTrue, refl, sym, ap, subst, ◌∙◌, arith}
+use Rattle.trap_bank.specs.Disks.{Contents, View, Area, Torn}
 use Rattle.trap_bank.proofs.Regions.{disk_apart}
-use Rattle.trap_cell.specs.Slots.{Place, Slots, other_slot}
-use Rattle.trap_cell.specs.Steps.{PutsIn}
 use Rattle.trap_model.specs.declared.numbers.Geometry.{Geometry}
-use Rattle.trap_raid.specs.Condition.{Condition}
-use Rattle.trap_raid.specs.Members.{Covered}
-use Rattle.trap_ring.specs.Ring.{RingPlace, InRing}
-use Rattle.trap_stage.specs.Slots.{slot_area}
-use Rattle.trap_stage.specs.Staged.{Staged}
 use Rattle.trap_array.specs.Beside.{StaysFrom}
-use Rattle.trap_array.specs.Calls.{Mounted, GoesOn}
-use Rattle.trap_array.specs.Holding.{head_place, log_ring}
-use Rattle.trap_array.specs.Log.{Log}
+use Rattle.trap_array.specs.Calls.{Mounted, SameArray}
 
 -- no call at all
 pub stays_none : (d : ℕ) (v : View) → StaysFrom d v v
@@ -28,7 +19,7 @@ pub stays_then : (d : ℕ) (a b c : View) → b.tells ≡ a.tells → StaysFrom 
 stays_then d a b c tells first second told e above = second (subst IsTrue (sym tells) told) e above ∙ first told e above
 
 -- one call of an array after another
-pub both_stay : (a b : Mounted) (u v w : View) → GoesOn a b → v.tells ≡ u.tells → StaysFrom (a.g.members + 1) u v → StaysFrom (b.g.members + 1) v w → StaysFrom (a.g.members + 1) u w
+pub both_stay : (a b : Mounted) (u v w : View) → SameArray a b → v.tells ≡ u.tells → StaysFrom (a.g.members + 1) u v → StaysFrom (b.g.members + 1) v w → StaysFrom (a.g.members + 1) u w
 both_stay a b u v w on tells first second = stays_then (a.g.members + 1) u v w tells first (subst (λ (g : Geometry). StaysFrom (g.members + 1) v w) on.g second)
 
 -- a change of lower disks alone

@@ -1,11 +1,11 @@
 -- The steps of a commit, one after the other.
-use Rattle.std.proofs.Common.{◌≡◌, ℕ, ◌+◌, List, ◌∷◌, length, Ok, false, IsTrue, refl, sym, ap, subst, ◌∙◌, arith}
+use Rattle.std.proofs.Common.{◌≡◌, ℕ, ◌+◌, List, ◌∷◌, length, Some, Ok, false, IsTrue, sym, ap, subst, ◌∙◌, arith}
 use Rattle.trap_bank.specs.Disks.{Disks, Contents, View, Differs, Torn, byte}
 use Rattle.trap_bank.specs.Calls.{MayLeave, Syncs, Fits as FitsIn}
 use Rattle.trap_bank.specs.Steps.{Moves, Same, Always}
-use Rattle.trap_bank.proofs.Moves.{synced_steps}
+use Rattle.trap_bank.proofs.Moves.{synced_steps, always_same}
 use Rattle.trap_bank.proofs.Regions.{byte_of_disk, region_of_disk}
-use Rattle.trap_cell.specs.Slots.{Place, Slots, Stands, cell_len}
+use Rattle.trap_cell.specs.Slots.{Place, Slots, Stands, cell_len, cell_value}
 use Rattle.trap_cell.specs.Steps.{PutsIn, IsPut}
 use Rattle.trap_format.specs.HeadValue.{IsHead, head_value}
 use Rattle.trap_format.specs.LogDisk.{log_size, slot_len}
@@ -22,12 +22,13 @@ use Rattle.trap_stage.specs.Slots.{Stage, slot_area, slot_start, SlotHas}
 use Rattle.trap_stage.specs.Staged.{Staged}
 use Rattle.trap_stage.proofs.PendingWrites.{pending-added}
 use Rattle.trap_stage.proofs.SlotAreas.{slot_below_ring, slot_behind_cell}
-use Rattle.trap_array.specs.Holding.{head_place, log_ring, InCell, Fits}
-use Rattle.trap_array.specs.Calls.{Mounted, StandsFor, MayTurn, HasTurned, going}
+use Rattle.trap_array.specs.Holding.{head_place, log_ring, InCell, MatchesHead}
+use Rattle.trap_array.specs.Calls.{Mounted, StandsFor, AtAnyMoment, StandsAfterCall, running}
 use Rattle.trap_array.specs.Log.{Log}
 use Rattle.trap_array.specs.NextHead.{committed, IsPlanned}
-use Rattle.trap_array.specs.Ready.{CanCommit}
+use Rattle.trap_array.specs.Ready.{CanCommit, KnowsCell}
 use Rattle.trap_mount.proofs.Frames.{ring_stays, cell_stands}
+use Rattle.trap_array.proofs.NextHeads.{later_committed}
 use Rattle.trap_array.proofs.IndexSteps.{rec_for, further_told}
 use Rattle.trap_array.proofs.Commits.{record_outside, slot_outside, next_fits}
 use Rattle.trap_array.proofs.Turns.{StillIf, still_beside, still_same, still_then_still, still_may, still_then_may, still_then_has, asked_may, asked_has, put_may, put_has}
@@ -44,6 +45,22 @@ stands_apart area cell v w is_head apart moves stands c left =
     let from = moves.now c left in
     cell_stands area from.origin.disks c.disks from.by.disks apart cell is_head (stands from.origin from.was)
 
+-- ---- the cell as the log knows it
+-- after its head was put
+pub put_known : (log : Log) (cell : Slots) (v w : View) (bytes : List ℕ) → cell.place ≡ head_place → bytes ≡ head_value log.head → Moves v w (PutsIn cell bytes) (IsPut w cell log.cell bytes) → KnowsCell log w
+put_known log cell v w bytes is_head is moves = record {
+  stands = λ c left. let from = moves.now c left in from.by.disks.stands;
+  value = λ c left. let from = moves.now c left in
+      subst (λ (p : Place). cell_value p c.disks ≡ Some (head_value log.head)) is_head (from.by.disks.value ∙ ap (λ (b : List ℕ). Some b) is);
+}
+
+-- after calls that change nothing
+pub known_same : (log : Log) (v w : View) → Moves v w Same Same → KnowsCell log v → KnowsCell log w
+known_same log v w moves known = record {
+  stands = always_same v w (Stands log.cell) moves known.stands;
+  value = always_same v w (λ disks. cell_value head_place disks ≡ Some (head_value log.head)) moves known.value;
+}
+
 abbrev staged_with : ℕ → List ℕ → List ℕ → Staged
 staged_with block bytes parity = record { block = block; bytes = bytes; parity = parity }
 
@@ -53,7 +70,7 @@ module _ (log : Log) (is_head : log.cell.place ≡ head_place) (same : log.stage
   asks s = IsPlanned log.g s entry parity spelled
 
   abbrev here : Mounted
-  here = going log
+  here = running log
 
   abbrev next : State → State
   next s = added s entry
@@ -78,21 +95,21 @@ module _ (log : Log) (is_head : log.cell.place ≡ head_place) (same : log.stage
       moves
 
   module _ (v1 : View) (append : Moves v v1 (Differs (InRing r log.head.end_off (length spelled))) (Differs (InRing r log.head.end_off (length spelled)))) where
-    pub append_any : Moves v v1 (MayTurn here v next) (MayTurn here v next)
+    pub append_any : Moves v v1 (AtAnyMoment here v next) (AtAnyMoment here v next)
     append_any = asked_may here asks next v v1 can.planned (still_may here asks next v v1 (appended v1 append))
 
     module _ (v2 : View) (fill : Moves v1 v2 (Differs (slot_area log.stage.g (log.head.last + 1))) (Differs (slot_area log.stage.g (log.head.last + 1)))) where
       both_still : Moves v v2 (StillIf here v asks) (StillIf here v asks)
       both_still = still_then_still here asks v v1 v2 (appended v1 append) (filled v1 v2 fill)
 
-      pub fill_any : Moves v v2 (MayTurn here v next) (MayTurn here v next)
+      pub fill_any : Moves v v2 (AtAnyMoment here v next) (AtAnyMoment here v next)
       fill_any = asked_may here asks next v v2 can.planned (still_may here asks next v v2 both_still)
 
       module _ (v3 : View) (sync : Moves v2 v3 Same Same) where
         all_still : Moves v v3 (StillIf here v asks) (StillIf here v asks)
         all_still = still_then_still here asks v v2 v3 both_still (still_same here asks v2 v3 sync)
 
-        pub sync_any : Moves v v3 (MayTurn here v next) (MayTurn here v next)
+        pub sync_any : Moves v v3 (AtAnyMoment here v next) (AtAnyMoment here v next)
         sync_any = asked_may here asks next v v3 can.planned (still_may here asks next v v3 all_still)
 
         -- the cell stands through all this
@@ -104,7 +121,7 @@ module _ (log : Log) (is_head : log.cell.place ≡ head_place) (same : log.stage
             fill
             (stands_apart (InRing r log.head.end_off (length spelled)) log.cell v v1 is_head
             (λ e i inside ring. omega (arith, inside.to, (subst (λ (q : RingPlace). InRing q log.head.end_off (length spelled) e i) is_ring ring).place))
-            append can.stands) in
+            append can.cell.stands) in
             subst (λ (x : Disks). Stands log.cell x) (sym from.by.disks) (stands from.origin from.was)
 
         -- every crash leaves the record and the slot
@@ -139,28 +156,28 @@ module _ (log : Log) (is_head : log.cell.place ≡ head_place) (same : log.stage
           staged_same : (s : State) → asks s → staged_with entry.block entry.bytes parity ≡ staged_in log.g (image (added s entry)) entry
           staged_same s planned = ap (staged_with entry.block entry.bytes) planned.parity_is
 
-          fits_then : (s : State) (x : Contents) → MayLeave v3 x → StandsFor here s x.disks → asks s → Fits log.g (committed log.head entry.time (length spelled)) (added s entry) x.disks
+          fits_then : (s : State) (x : Contents) → MayLeave v3 x → StandsFor here s x.disks → asks s → MatchesHead log.g (committed log.head entry.time (length spelled)) (added s entry) x.disks
           fits_then s x left stands planned =
-              subst (λ (bytes : List ℕ). Fits log.g (committed log.head entry.time (length bytes)) (added s entry) x.disks) (sym planned.spelled_is)
+              subst (λ (bytes : List ℕ). MatchesHead log.g (committed log.head entry.time (length bytes)) (added s entry) x.disks) (sym planned.spelled_is)
               (next_fits log.g log.head s entry x.disks stands.by.fits (next_at s planned) can.is_entry (omega (arith, can.later, stands.by.fits.head.last_time))
               (subst (λ (bytes : List ℕ). RingHas (log_ring log.g) log.head.end_off bytes x.disks) planned.spelled_is (record_there x left))
               (subst (λ (staged : Staged). SlotHas log.g (log.head.last + 1) staged x.disks) (staged_same s planned) (slot_there x left)))
 
           module _ (v4 : View) (bytes : List ℕ) (is_value : bytes ≡ head_value (committed log.head entry.time (length spelled))) where
-            pub put_any : Moves v3 v4 (PutsIn log.cell bytes) (PutsIn log.cell bytes) → Moves v v4 (MayTurn here v next) (MayTurn here v next)
+            pub put_any : Moves v3 v4 (PutsIn log.cell bytes) (PutsIn log.cell bytes) → Moves v v4 (AtAnyMoment here v next) (AtAnyMoment here v next)
             put_any moves =
                 asked_may here asks next v v4 can.planned
                 (still_then_may here asks next v v3 v4 all_still
-                (put_may here asks next (committed log.head entry.time (length spelled)) v3 v4 is_head refl refl fits_then
+                (put_may here asks next (committed log.head entry.time (length spelled)) v3 v4 is_head (later_committed log.head entry.time (length spelled)) fits_then
                 (subst (λ (b : List ℕ). Moves v3 v4 (PutsIn log.cell b) (PutsIn log.cell b)) is_value moves)))
 
             pub put_ok : (cell : Slots) (stage : Stage) (index : Indexed) → index ≡ with_record log.index (rec_for log.head entry (length spelled)) → stage ≡ record log.stage { pending = staged_with entry.block entry.bytes parity ∷ log.stage.pending }
                 → Moves v3 v4 (PutsIn log.cell bytes) (IsPut v4 log.cell cell bytes)
-                → Moves v v4 (MayTurn here v next) (HasTurned here (going (record { g = log.g; head = committed log.head entry.time (length spelled); cell = cell; stage = stage; index = index })) v next)
+                → Moves v v4 (AtAnyMoment here v next) (StandsAfterCall here (running (record { g = log.g; head = committed log.head entry.time (length spelled); cell = cell; stage = stage; index = index })) v next)
             put_ok cell stage index known more moves =
-                asked_has here asks next (going (record { g = log.g; head = committed log.head entry.time (length spelled); cell = cell; stage = stage; index = index })) v v4 can.planned
-                (still_then_has here asks next (going (record { g = log.g; head = committed log.head entry.time (length spelled); cell = cell; stage = stage; index = index })) v v3 v4 all_still
-                (put_has here asks next (committed log.head entry.time (length spelled)) v3 v4 is_head refl refl fits_then cell stage.pending index
+                asked_has here asks next (running (record { g = log.g; head = committed log.head entry.time (length spelled); cell = cell; stage = stage; index = index })) v v4 can.planned
+                (still_then_has here asks next (running (record { g = log.g; head = committed log.head entry.time (length spelled); cell = cell; stage = stage; index = index })) v v3 v4 all_still
+                (put_has here asks next (committed log.head entry.time (length spelled)) v3 v4 is_head (later_committed log.head entry.time (length spelled)) fits_then cell stage.pending index
                 (λ s x left stands planned.
                 let fits = stands.by.fits in
                 ap (λ (t : Stage). t.pending) more

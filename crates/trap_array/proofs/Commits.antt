@@ -26,7 +26,7 @@ use Rattle.trap_stage.specs.Slots.{slot_area, SlotHas, SlotsHold, InSlots}
 use Rattle.trap_stage.specs.Staged.{Staged}
 use Rattle.trap_stage.proofs.PendingWrites.{staged_of-added, staged_of_last, pending-added}
 use Rattle.trap_stage.proofs.SlotAreas.{slots_apart, slot_below_ring, slot_behind_cell}
-use Rattle.trap_array.specs.Holding.{log_ring, IsHeadOf, Fits, Outside}
+use Rattle.trap_array.specs.Holding.{log_ring, IsHeadOf, MatchesHead, Outside}
 use Rattle.trap_array.specs.NextHead.{committed}
 
 -- bytes of the ring behind others
@@ -40,7 +40,7 @@ ring-append r from to a b x behind first second k below =
     ap (λ (n : ℕ). ring_byte r n x) at ∙ second (k - length a) (omega arith) ∙ sym (get_or-append_right a b (length a) k 0 refl back))
     (cases_lt k (length a))
 
-module _ (g : Geometry) (h : Head) (s : State) (e : Entry) (x : Disks) (fits : Fits g h s x) (next : IsHead g (committed h e.time (length (next_record s e)))) where
+module _ (g : Geometry) (h : Head) (s : State) (e : Entry) (x : Disks) (fits : MatchesHead g h s x) (next : IsHead g (committed h e.time (length (next_record s e)))) where
   -- the record stands behind the window, where nothing matters
   pub record_outside : (f i : ℕ) → InRing (log_ring g) h.end_off (length (next_record s e)) f i → Outside g h s f i
   record_outside f i ring = record {
@@ -146,7 +146,7 @@ module _ (g : Geometry) (h : Head) (s : State) (e : Entry) (x : Disks) (fits : F
         (image_is_image g s fits.valid) entry.block (ap (λ (i : List (List ℕ)). row_parity g i (block_place g e.block).row) after)))
 
     -- with both there, the disks fit the next head
-    pub next_fits : RingHas (log_ring g) h.end_off (next_record s e) x → SlotHas g (h.last + 1) (staged_in g (image (added s e)) e) x → Fits g (committed h e.time (length (next_record s e))) (added s e) x
+    pub next_fits : RingHas (log_ring g) h.end_off (next_record s e) x → SlotHas g (h.last + 1) (staged_in g (image (added s e)) e) x → MatchesHead g (committed h e.time (length (next_record s e))) (added s e) x
     next_fits ring slot = record {
       valid = next_valid;
       head = next_head;

@@ -1,22 +1,20 @@
 -- Why a call answers no value, case by case.
-use Rattle.std.proofs.Common.{◌≡◌, ◌≢◌, ◌↔◌, ◌⊎◌, ℕ, ◌<◌, ◌≤◌, Bool, true, false, if◌then◌else◌, ◌==◌, ◌^◌, nat_lt, Option, Some, None, Result, Ok, Err, IfErr, inl, inr, ⊎_elim, refl, sym, ap, subst, ◌∙◌, arith}
-use Rattle.trap_bank.specs.Disks.{Contents, View}
-use Rattle.trap_bank.specs.Faults.{Rose}
+use Rattle.std.proofs.Common.{◌≡◌, ◌≢◌, ◌↔◌, ℕ, ◌<◌, ◌≤◌, Bool, true, false, if◌then◌else◌, ◌==◌, ◌^◌, nat_lt, Option, Some, None, Result, Err, IfErr, ⊎_elim, refl, subst, arith}
+use Rattle.trap_bank.specs.Disks.{View}
 use Rattle.trap_format.specs.declared.head.Head.{Head}
 use Rattle.trap_index.specs.Indexed.{Indexed, last_seq}
 use Rattle.trap_model.specs.Image.{volume}
 use Rattle.trap_model.specs.Limits.{greatest_record}
 use Rattle.trap_model.specs.declared.request.Refusal.{Refusal}
 use Rattle.trap_model.specs.declared.request.Refusal.TheVariants.{NoBlock, TimeBack, Worn, Full, NotKept, Ahead}
-use Rattle.trap_raid.specs.Reads.{HasFailed}
 use Rattle.trap_raid.proofs.FitLemmas.{others_count}
 use Rattle.trap_array.specs.Calls.{Mounted, MemberFails}
-use Rattle.trap_array.specs.Causes.{Reasons, DeniedBy, of_write, of_reading, of_read, of_number, of_time}
+use Rattle.trap_array.specs.Causes.{Reasons, DeniedBy, of_write, of_reading}
 use Rattle.trap_array.specs.Instants.{DeniesInstant, FailsRead, number_refused, time_refused}
 use Rattle.trap_array.specs.Turning.{Denies, IsFull, early_refusal}
 use Rattle.trap_array.specs.Untouched.{Untouched}
 use Rattle.trap_array.specs.declared.fault.Denied.{Denied}
-use Rattle.trap_array.specs.declared.fault.Denied.TheVariants.{Refused, LogFault, MemberFault, Damaged, Stopped}
+use Rattle.trap_array.specs.declared.fault.Denied.TheVariants.{Refused, LogFault, MemberFault, Stopped}
 
 -- ---- no call of the bank
 pub untouched_none : (v : View) → Untouched v v
@@ -54,22 +52,22 @@ module _ {T : Type 0} (a : Mounted) (block : ℕ) (reasons : Reasons) (v : View)
     stopped = ((λ is. (inside, stopped)), (λ both. refl));
     untouched = λ either. untouched_none v;
     at_once = λ why is. untouched_none v;
-    refused = λ why other free. ((λ is. absurd (cc is)), (λ all. absurd (going all.1)));
+    refused = λ why other free. ((λ is. absurd (cc is)), (λ all. absurd (running all.1)));
     full = λ is. absurd (cc is);
     log = λ is. absurd (cc is);
     member = λ first second is. absurd (cc is);
     used = λ first second is. absurd (cc is);
   }
     where
-      going : a.is_stopped ≡ false → ⊥
-      going is = cc (is, stopped)
+      running : a.is_stopped ≡ false → ⊥
+      running is = cc (is, stopped)
 
 -- what a result's error meets, an error that it is meets
 error_meets : {T : Type 0} (P : Denied → Type 0) (result : Result T Denied) (e : Denied) → IfErr result P → result ≡ Err e → P e
 error_meets {T = T} P result e holds is = subst (λ (r : Result T Denied). IfErr r P) is holds
 
 -- ---- a write that went on
-module _ (a : Mounted) (time block : ℕ) (result : Result ℕ Denied) (v w : View) (inside : block < volume a.g) (going : a.is_stopped ≡ false)
+module _ (a : Mounted) (time block : ℕ) (result : Result ℕ Denied) (v w : View) (inside : block < volume a.g) (running : a.is_stopped ≡ false)
     (cause : IfErr result (Denies a v w)) where
   pub denied_write : ((why : Refusal) → why ≢ Full → (result ≡ Err (Refused why)) ↔ (early_refusal a.head time ≡ Some why))
       → (result ≡ Err (Refused Full) → IsFull a.g a.head (greatest_record a.g.block)) → ((why : Refusal) → early_refusal a.head time ≡ Some why → Untouched v w) → DeniedBy a block (of_write a time) result v w
@@ -78,7 +76,7 @@ module _ (a : Mounted) (time block : ℕ) (result : Result ℕ Denied) (v w : Vi
     stopped = ((λ is. absurd (error_meets (Denies a v w) result Stopped cause is)), (λ both. absurd (not_both both.1)));
     untouched = λ either. absurd (⊎_elim (λ above. omega (arith, inside, above)) (λ stopped. not_both stopped) either);
     at_once = at_once;
-    refused = λ why other free. ((λ is. (inside, going, (refused why free).0 is)), (λ all. (refused why free).1 all.2));
+    refused = λ why other free. ((λ is. (inside, running, (refused why free).0 is)), (λ all. (refused why free).1 all.2));
     full = full;
     log = λ is. error_meets (Denies a v w) result LogFault cause is;
     member = λ first second is. error_meets (Denies a v w) result (MemberFault first second) cause is;
@@ -86,7 +84,7 @@ module _ (a : Mounted) (time block : ℕ) (result : Result ℕ Denied) (v w : Vi
   }
     where
       not_both : a.is_stopped ≡ true → ⊥
-      not_both stopped = cc (stopped, going)
+      not_both stopped = cc (stopped, running)
 
 -- ---- a read that went on
 member_of : (a : Mounted) (v w : View) (first second : ℕ) → FailsRead a first second v w → MemberFails a first second v w
@@ -97,7 +95,7 @@ member_of a v w first second fails = record {
   rose = fails.member.rose;
 }
 
-module _ {T : Type 0} (a : Mounted) (block : ℕ) (own : Option Refusal) (result : Result T Denied) (v w : View) (inside : block < volume a.g) (going : a.is_stopped ≡ false)
+module _ {T : Type 0} (a : Mounted) (block : ℕ) (own : Option Refusal) (result : Result T Denied) (v w : View) (inside : block < volume a.g) (running : a.is_stopped ≡ false)
     (cause : IfErr result (DeniesInstant a v w)) where
   pub denied_reading : ((why : Refusal) → (result ≡ Err (Refused why)) ↔ (own ≡ Some why)) → (own ≡ Some Full → ⊥) → ((why : Refusal) → own ≡ Some why → Untouched v w) → DeniedBy a block (of_reading a own) result v w
   denied_reading refused not_full at_once = record {
@@ -105,7 +103,7 @@ module _ {T : Type 0} (a : Mounted) (block : ℕ) (own : Option Refusal) (result
     stopped = ((λ is. absurd (error_meets (DeniesInstant a v w) result Stopped cause is)), (λ both. absurd (not_both both.1)));
     untouched = λ either. absurd (⊎_elim (λ above. omega (arith, inside, above)) (λ stopped. not_both stopped) either);
     at_once = at_once;
-    refused = λ why other free. ((λ is. (inside, going, (refused why).0 is)), (λ all. (refused why).1 all.2));
+    refused = λ why other free. ((λ is. (inside, running, (refused why).0 is)), (λ all. (refused why).1 all.2));
     full = λ is. not_full ((refused Full).0 is);
     log = λ is. error_meets (DeniesInstant a v w) result LogFault cause is;
     member = λ first second is. member_of a v w first second (error_meets (DeniesInstant a v w) result (MemberFault first second) cause is);
@@ -113,7 +111,7 @@ module _ {T : Type 0} (a : Mounted) (block : ℕ) (own : Option Refusal) (result
   }
     where
       not_both : a.is_stopped ≡ true → ⊥
-      not_both stopped = cc (stopped, going)
+      not_both stopped = cc (stopped, running)
 
 -- ---- what the array's own numbers refuse
 not_full_if : (b : Bool) (it : Refusal) (other : Option Refusal) → it ≢ Full → (other ≡ Some Full → ⊥) → (if b then Some it else other) ≡ Some Full → ⊥

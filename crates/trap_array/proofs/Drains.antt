@@ -13,7 +13,7 @@ use Rattle.trap_stage.specs.Pending.{pending}
 use Rattle.trap_stage.specs.Slots.{InSlots}
 use Rattle.trap_stage.specs.Staged.{Staged}
 use Rattle.trap_stage.proofs.PendingWrites.{pending-split}
-use Rattle.trap_array.specs.Holding.{log_ring, Fits, Outside}
+use Rattle.trap_array.specs.Holding.{log_ring, MatchesHead, Outside}
 use Rattle.trap_array.specs.NextHead.{drained_to}
 use Rattle.trap_array.proofs.NextHeads.{head_drained}
 
@@ -32,7 +32,7 @@ covered_outside g h s newer older parts f i covered =
     }
 
 -- with the older ones on the members, the disks fit a head that says so
-pub drained_fits : (g : Geometry) (h : Head) (s : State) (upto : ℕ) (x : Disks) → Fits g h s x → h.drained ≤ upto → upto ≤ h.last → AreDrained g h.lost h.rebuilt (drop (last s - upto) (pending g s h.drained)) x → Fits g (drained_to h upto) s x
+pub drained_fits : (g : Geometry) (h : Head) (s : State) (upto : ℕ) (x : Disks) → MatchesHead g h s x → h.drained ≤ upto → upto ≤ h.last → AreDrained g h.lost h.rebuilt (drop (last s - upto) (pending g s h.drained)) x → MatchesHead g (drained_to h upto) s x
 drained_fits g h s upto x fits low high drained =
     let parts = pending-split g s h.drained upto low (omega (arith, high, fits.head.last)) in
     record {

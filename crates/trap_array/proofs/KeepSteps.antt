@@ -2,10 +2,9 @@
 use Rattle.std.proofs.Common.{◌≡◌, ◌≢◌, ◌⊎◌, ℕ, ◌+◌, ◌-◌, ◌<◌, ◌≤◌, ◌^◌, List, length, Option, Some, None, Bool, true, false, if◌then◌else◌, ◌==◌, nat_lt, Result, Err, IsTrue, inl, inr, ⊎_elim, refl, sym, ap, subst, ◌∙◌, arith}
 use Rattle.std.proofs.lemmas.Bool.{ltb-true, ltb-false, eqb-true, eqb-false, cases_lt}
 use Rattle.trap_bank.specs.Disks.{Disks, Contents, View}
-use Rattle.trap_bank.specs.Steps.{Moves, Same, Always}
-use Rattle.trap_bank.proofs.Moves.{moves_weaken, always_same, read_is_left}
+use Rattle.trap_bank.specs.Steps.{Moves, Same, OnlyReads}
+use Rattle.trap_bank.proofs.Moves.{moves_weaken, read_is_left}
 use Rattle.trap_block.specs.Xor.{xor}
-use Rattle.trap_cell.specs.Slots.{Stands}
 use Rattle.trap_format.specs.HeadValue.{IsHead}
 use Rattle.trap_format.specs.declared.head.Head.{Head}
 use Rattle.trap_model.specs.ArrayStep.{added, step}
@@ -22,17 +21,18 @@ use Rattle.trap_model.specs.declared.request.Reply.TheVariants.{Kept}
 use Rattle.trap_model.specs.declared.request.Request.TheVariants.{Write}
 use Rattle.trap_model.proofs.Adding.{not_refused}
 use Rattle.trap_raid.specs.Plan.{IsPlan}
-use Rattle.trap_raid.specs.Reads.{OnlyReads, HasFailed}
+use Rattle.trap_raid.specs.Reads.{FailedMember}
 use Rattle.trap_raid.proofs.FitLemmas.{others_count}
 use Rattle.trap_array.specs.Beside.{StaysFrom}
-use Rattle.trap_array.specs.Calls.{Mounted, StandsFor, GoesOn, MayTurn, going}
+use Rattle.trap_array.specs.Calls.{Mounted, StandsFor, SameArray, AtAnyMoment, running}
 use Rattle.trap_array.specs.Log.{Log}
 use Rattle.trap_array.specs.NextHead.{entry_for, IsPlanned}
-use Rattle.trap_array.specs.Ready.{CanCommit, CanDrain}
+use Rattle.trap_array.specs.Ready.{CanCommit, CanDrain, KnowsCell}
 use Rattle.trap_array.specs.Turning.{IsFaultOf, Turns, IsFull, early_refusal}
 use Rattle.trap_array.specs.declared.fault.Denied.{Denied}
 use Rattle.trap_array.specs.declared.fault.Denied.TheVariants.{Refused, MemberFault}
 use Rattle.trap_array.proofs.Beside.{stays_same}
+use Rattle.trap_array.proofs.CommitSteps.{known_same}
 use Rattle.trap_array.proofs.NextHeads.{head_committed}
 use Rattle.trap_array.proofs.Sizes.{sizes_still}
 use Rattle.trap_array.proofs.Turns.{holds_still, same_keeps}
@@ -46,19 +46,19 @@ abbrev pub reply_of : Geometry → ℕ → ℕ → List ℕ → State → Reply
 reply_of g time block bytes s = (step g).reply s (Write time block bytes)
 
 -- ---- faults before the commit
-pub same_may : (a : Mounted) (v w : View) (next : State → State) → Moves v w Same Same → Moves v w (MayTurn a v next) (MayTurn a v next)
+pub same_may : (a : Mounted) (v w : View) (next : State → State) → Moves v w Same Same → Moves v w (AtAnyMoment a v next) (AtAnyMoment a v next)
 same_may a v w next moves =
-    moves_weaken v w Same Same (MayTurn a v next) (MayTurn a v next) moves
+    moves_weaken v w Same Same (AtAnyMoment a v next) (AtAnyMoment a v next) moves
     (λ x y was same s always. inl (holds_still a s y.disks (subst (λ (d : Disks). StandsFor a s d) (sym same) (always x was))))
     (λ x y was left same s always. inl (holds_still a s y.disks (subst (λ (d : Disks). StandsFor a s d) (sym same) (always x was))))
 
-pub kept_may : (a : Mounted) (v w : View) (next : State → State) → Moves v w (MayTurn a v (λ s. s)) (MayTurn a v (λ s. s)) → Moves v w (MayTurn a v next) (MayTurn a v next)
+pub kept_may : (a : Mounted) (v w : View) (next : State → State) → Moves v w (AtAnyMoment a v (λ s. s)) (AtAnyMoment a v (λ s. s)) → Moves v w (AtAnyMoment a v next) (AtAnyMoment a v next)
 kept_may a v w next moves =
-    moves_weaken v w (MayTurn a v (λ s. s)) (MayTurn a v (λ s. s)) (MayTurn a v next) (MayTurn a v next) moves
+    moves_weaken v w (AtAnyMoment a v (λ s. s)) (AtAnyMoment a v (λ s. s)) (AtAnyMoment a v next) (AtAnyMoment a v next) moves
     (λ x y was step s always. ⊎_elim inl inl (step s always))
     (λ x y was left step s always. ⊎_elim inl inl (step s always))
 
-pub member_fault : (a : Mounted) (v w : View) (m : ℕ) → HasFailed a.g a.head.lost v w m → IsFaultOf a v w (MemberFault m m)
+pub member_fault : (a : Mounted) (v w : View) (m : ℕ) → FailedMember a.g a.head.lost v w m → IsFaultOf a v w (MemberFault m m)
 member_fault a v w m failed = record {
   same = refl;
   inside = failed.inside;
@@ -66,13 +66,13 @@ member_fault a v w m failed = record {
   rose = failed.rose;
 }
 
-pub plan_failed : (a : Log) (v w : View) (next : State → State) (replies : State → Reply) (m : ℕ) → HasFailed a.g a.head.lost v w m → OnlyReads v w → Turns a a next replies (Err (MemberFault m m)) v w
+pub plan_failed : (a : Log) (v w : View) (next : State → State) (replies : State → Reply) (m : ℕ) → FailedMember a.g a.head.lost v w m → OnlyReads v w → Turns a a next replies (Err (MemberFault m m)) v w
 plan_failed a v w next replies m failed reads =
-    turns_failed a a next replies (MemberFault m m) v w (member_fault (going a) v w m failed) (goes_still (going a)) reads.sizes (stays_same (a.g.members + 1) v w reads.same) (same_may (going a) v w next reads.moves)
+    turns_failed a a next replies (MemberFault m m) v w (member_fault (running a) v w m failed) (goes_still (running a)) reads.sizes (stays_same (a.g.members + 1) v w reads.same) (same_may (running a) v w next reads.moves)
 
-pub room_failed : (a b : Log) (v w : View) (next : State → State) (replies : State → Reply) (e : Denied) → IsFaultOf (going a) v w e → GoesOn (going a) (going b) → ((d : ℕ) → w.sizes d ≡ v.sizes d) → StaysFrom (a.g.members + 1) v w
-    → Moves v w (MayTurn (going a) v (λ s. s)) (MayTurn (going a) v (λ s. s)) → Turns a b next replies (Err e) v w
-room_failed a b v w next replies e fault on sizes others moves = turns_failed a b next replies e v w fault on sizes others (kept_may (going a) v w next moves)
+pub room_failed : (a b : Log) (v w : View) (next : State → State) (replies : State → Reply) (e : Denied) → IsFaultOf (running a) v w e → SameArray (running a) (running b) → ((d : ℕ) → w.sizes d ≡ v.sizes d) → StaysFrom (a.g.members + 1) v w
+    → Moves v w (AtAnyMoment (running a) v (λ s. s)) (AtAnyMoment (running a) v (λ s. s)) → Turns a b next replies (Err e) v w
+room_failed a b v w next replies e fault on sizes others moves = turns_failed a b next replies e v w fault on sizes others (kept_may (running a) v w next moves)
 
 -- ---- refusals by time and number
 picked : (b : Bool) (x y : Refusal) (other : Option Refusal) → (if b then Some x else other) ≡ Some y → ((b ≡ true) × (y ≡ x)) ⊎ ((b ≡ false) × (other ≡ Some y))
@@ -88,10 +88,10 @@ early_none h time none =
 pub early_turns : (a : Log) (v : View) (time block : ℕ) (bytes : List ℕ) (why : Refusal) → CanDrain a v → block < volume a.g → early_refusal a.head time ≡ Some why → Turns a a (next_of a.g time block bytes) (reply_of a.g time block bytes) (Err (Refused why)) v v
 early_turns a v time block bytes why can inside is =
     ⊎_elim
-    (λ back. subst P (sym back.1) (turns_refused a next replies (TimeBack a.head.last_time) v v (λ e. cc) (none_moves v) (λ told. refl) (λ d. refl) can.in_step can.stands
+    (λ back. subst P (sym back.1) (turns_refused a next replies (TimeBack a.head.last_time) v v (λ e. cc) (none_moves v) (λ told. refl) (λ d. refl) can.in_step can.cell
     (λ s told stands. back_refused a.g s time block bytes v.now.disks a refl stands inside (ltb-true time a.head.last_time back.0))))
     (λ later. ⊎_elim
-    (λ worn. subst P (sym worn.1) (turns_refused a next replies Worn v v (λ e. cc) (none_moves v) (λ told. refl) (λ d. refl) can.in_step can.stands
+    (λ worn. subst P (sym worn.1) (turns_refused a next replies Worn v v (λ e. cc) (none_moves v) (λ told. refl) (λ d. refl) can.in_step can.cell
     (λ s told stands. worn_refused a.g s time block bytes v.now.disks a refl stands inside (ltb-false time a.head.last_time later.0) (eqb-true a.head.last (2 ^ 40) worn.0))))
     (λ none. absurd (nothing why none.1))
     (picked (a.head.last == 2 ^ 40) Worn why None later.1))
@@ -122,20 +122,20 @@ module _ (a : Log) (v w : View) (time block size : ℕ) (bytes delta parity spel
     (free : a.head.last < a.head.drained + a.g.slots) (later : a.head.last_time ≤ time) (not_worn : a.head.last < 2 ^ 40) (fits : time < 2 ^ 64)
     (inside : block < volume a.g) (whole : length bytes ≡ a.g.block) (parity_size : length parity ≡ a.g.block)
     (long : length spelled ≡ size) (short : size ≤ greatest_record a.g.block) (code : (30 ≤ size) × (size ≤ a.g.block + 33))
-    (plan : IsTrue v.tells → (s : State) → StandsFor (going a) s v.now.disks → IsPlan a.g (image s) block bytes delta parity)
+    (plan : IsTrue v.tells → (s : State) → StandsFor (running a) s v.now.disks → IsPlan a.g (image s) block bytes delta parity)
     (record_is : (old fresh : List ℕ) → delta ≡ xor old fresh → spelled ≡ record_of (a.head.last + 1) old (entry_for time block fresh)) where
-  planned_at : (s : State) → IsTrue v.tells → StandsFor (going a) s v.now.disks → IsPlanned a.g s (entry_for time block bytes) parity spelled
+  planned_at : (s : State) → IsTrue v.tells → StandsFor (running a) s v.now.disks → IsPlanned a.g s (entry_for time block bytes) parity spelled
   planned_at s told stands = planned_from a s v.now.disks time block bytes delta parity spelled stands (plan told s stands) record_is
 
-  size_is : (s : State) → IsTrue v.tells → StandsFor (going a) s v.now.disks → size ≡ length (next_record s (entry_for time block bytes))
+  size_is : (s : State) → IsTrue v.tells → StandsFor (running a) s v.now.disks → size ≡ length (next_record s (entry_for time block bytes))
   size_is s told stands = sym long ∙ ap (λ (xs : List ℕ). length xs) (planned_at s told stands).spelled_is
 
-  stands_still : Always w (Stands a.cell)
-  stands_still = always_same v w (Stands a.cell) reads.moves can.stands
+  cell_known : KnowsCell a w
+  cell_known = known_same a v w reads.moves can.cell
 
   pub full_turns : IsFull a.g a.head size → Turns a a (next_of a.g time block bytes) (reply_of a.g time block bytes) (Err (Refused Full)) v w
   full_turns full =
-      turns_refused a (next_of a.g time block bytes) (reply_of a.g time block bytes) Full v w (λ e. cc) reads.moves reads.same reads.sizes can.in_step stands_still
+      turns_refused a (next_of a.g time block bytes) (reply_of a.g time block bytes) Full v w (λ e. cc) reads.moves reads.same reads.sizes can.in_step cell_known
       (λ s told stands. full_refused a.g s time block bytes v.now.disks a refl stands inside later not_worn size (size_is s told stands) full)
 
   pub can_commit : (IsFull a.g a.head size → ⊥) → CanCommit a w (entry_for time block bytes) parity spelled
@@ -144,7 +144,7 @@ module _ (a : Log) (v w : View) (time block size : ℕ) (bytes delta parity spel
       record {
         in_step = can.in_step;
         sizes = sizes_still a.g a.head.lost a.head.rebuilt v w reads.sizes can.sizes;
-        stands = stands_still;
+        cell = cell_known;
         next = head_committed a.g a.head is_head time (length spelled) later fits not_worn free left.0 (omega (arith, long, left.1)) (omega (arith, long, short));
         later = later;
         is_entry = record { block = inside; size = whole };
@@ -152,7 +152,7 @@ module _ (a : Log) (v w : View) (time block size : ℕ) (bytes delta parity spel
         code = (omega (arith, long, code.0), omega (arith, long, code.1));
         planned = λ s told always.
             let before = subst (λ t. IsTrue t) reads.moves.tells told in
-            planned_at s before (subst (λ (now : Contents). StandsFor (going a) s now.disks) (reads.same before) (always w.now (read_is_left w told)));
+            planned_at s before (subst (λ (now : Contents). StandsFor (running a) s now.disks) (reads.same before) (always w.now (read_is_left w told)));
       }
 
   pub kept_turns : (IsFull a.g a.head size → ⊥) → (b : Log) (result : Result ℕ Denied) (x : View)
@@ -162,4 +162,4 @@ module _ (a : Log) (v w : View) (time block size : ℕ) (bytes delta parity spel
       let replies : State → Reply = λ (s : State). Kept (last s + 1) in
       turns_same a b next replies (next_of a.g time block bytes) (reply_of a.g time block bytes) result v x
       (λ s told stands. goes_on a.g s time block bytes v.now.disks a refl stands inside later not_worn size (size_is s told stands) not_full)
-      (turns_after a b next replies a result v w x (goes_still (going a)) (same_keeps (going a) v w reads.moves) reads.sizes (stays_same (a.g.members + 1) v w reads.same) turns)
+      (turns_after a b next replies a result v w x (goes_still (running a)) (same_keeps (running a) v w reads.moves) reads.sizes (stays_same (a.g.members + 1) v w reads.same) turns)

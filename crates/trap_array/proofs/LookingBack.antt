@@ -2,6 +2,7 @@
 use Rattle.std.proofs.Common.{◌≡◌, List, ℕ, ◌+◌, ◌-◌, ◌*◌, ◌<◌, ◌≤◌, Option, Some, None, Result, IfErr, IsErrOf, IsTrue, refl, ap, sym, subst, arith}
 use Rattle.std.proofs.Math.Nat.{mul-zero, mul-one, mul-le-mul_left, lt_of_not-le}
 use Rattle.std.proofs.lemmas.Bool.{le-leb, leb-true, false≢true}
+use Rattle.trap_bank.specs.Steps.{OnlyReads}
 use Rattle.trap_bank.specs.Disks.{View}
 use Rattle.trap_bank.specs.Calls.{Fits}
 use Rattle.trap_format.specs.LogDisk.{log_size}
@@ -13,13 +14,15 @@ use Rattle.trap_model.specs.State.{IsValid}
 use Rattle.trap_past.specs.Past.{IsIndexOf}
 use Rattle.trap_past.proofs.Telling.{of_described}
 use Rattle.trap_past.proofs.Tracing.{IsLawful}
-use Rattle.trap_raid.specs.Reads.{OnlyReads, ReadCosts, Costs, CostsAtMost}
+use Rattle.trap_raid.specs.Standing.{reads_of}
+use Rattle.trap_raid.proofs.StandingLemmas.{reads_with_all, reads_with_one_lost}
+use Rattle.trap_bank.specs.Called.{CalledAtMost, TakesCalls}
 use Rattle.trap_stage.specs.Staged.{Staged, newest_at}
 use Rattle.trap_model.specs.declared.history.State.{State}
-use Rattle.trap_array.specs.Calls.{StandsFor, going}
+use Rattle.trap_array.specs.Calls.{StandsFor, running}
 use Rattle.trap_array.specs.Instants.{CanLookBack}
 use Rattle.trap_array.specs.Log.{Log}
-use Rattle.trap_array.specs.Sources.{CallCounts, is_long, IsFor, past_of, CallsAtMost, present_reads, LooksOn, LooksInVain}
+use Rattle.trap_array.specs.Sources.{CallCounts, is_long, IsFor, past_of, CallsAtMost, present_reads, OnlyLooked, LookFailed}
 use Rattle.trap_array.specs.declared.fault.Denied.{Denied}
 use Rattle.trap_array.specs.declared.fault.Denied.TheVariants.{Damaged}
 
@@ -76,33 +79,26 @@ module _ (log : Log) (v : View) (n : CallCounts) (same : log.index.g ≡ log.g) 
 none_called : (calls : ℕ) (v : View) → CallsAtMost calls v v
 none_called calls v = record { way = refl; moment = λ told one. omega arith }
 
-few_calls : (few calls : ℕ) (old new : View) → few ≤ calls → CostsAtMost few old new → CallsAtMost calls old new
-few_calls few calls old new most costs = record {
-  way = costs.way;
-  moment = λ told one. (let at = costs.moment told one in omega arith);
-}
-
-exact_calls : (few calls : ℕ) (old new : View) → few ≤ calls → Costs few old new → CallsAtMost calls old new
-exact_calls few calls old new most costs = record {
-  way = costs.way;
-  moment = λ told one. (let at = costs.moment told one in omega arith);
+few_calls : (few calls : ℕ) (old new : View) → few ≤ calls → CalledAtMost few old new → CallsAtMost calls old new
+few_calls few calls old new most called = record {
+  way = called.by_one;
+  moment = λ told one. (let at = called.moment told one in omega arith);
 }
 
 -- a read of a place takes as many as the present contents of a block
-pub place_calls : {T E : Type 0} (result : Result T E) (g : Geometry) (lost : Option ℕ) (writes : List Staged) (row member : ℕ) (old new : View) → ReadCosts g lost writes row member result old new → CallsAtMost (present_reads g lost) old new
-place_calls result g (Some gone) writes row member old new costs = few_calls (g.members - 1) (g.members - 1) old new (omega arith) costs.most
-place_calls result g None writes row member old new costs = by_pending (newest_at g writes row member) refl
-  where
-    by_pending : (found : Option (List ℕ)) → newest_at g writes row member ≡ found → CallsAtMost 1 old new
-    by_pending None is = exact_calls 1 1 old new (omega arith) (costs.own (λ same. cc) is)
-    by_pending (Some bytes) is = exact_calls 0 1 old new (omega arith) (costs.pending (λ same. cc))
+pub place_calls : {T E : Type 0} (result : Result T E) (g : Geometry) (lost : Option ℕ) (writes : List Staged) (row member : ℕ) (old new : View) → member < g.members
+    → TakesCalls (reads_of g lost writes row member) result old new → CallsAtMost (present_reads g lost) old new
+place_calls result g (Some gone) writes row member old new inside takes =
+    few_calls (reads_of g (Some gone) writes row member) (g.members - 1) old new (reads_with_one_lost g gone writes row member inside) takes.most
+place_calls result g None writes row member old new inside takes =
+    few_calls (reads_of g None writes row member) 1 old new (reads_with_all g writes row member) takes.most
 
 -- no calls yet
 abbrev pub no_counts : CallCounts
 no_counts = record { presents = 0; parities = 0; snapshots = 0; faults = 0 }
 
 -- one present block and so many parities
-pub look_calls : (log : Log) (n : CallCounts) (turns : ℕ) (old new : View) → n.presents ≤ 0 + 1 → n.parities ≤ 0 + turns → n.snapshots ≡ 0 → LooksOn log no_counts n old new → CallsAtMost (present_reads log.g log.head.lost + 2 * turns) old new
+pub look_calls : (log : Log) (n : CallCounts) (turns : ℕ) (old new : View) → n.presents ≤ 0 + 1 → n.parities ≤ 0 + turns → n.snapshots ≡ 0 → OnlyLooked log no_counts n old new → CallsAtMost (present_reads log.g log.head.lost + 2 * turns) old new
 look_calls log n turns old new one few none looks =
     let none_is : present_reads log.g log.head.lost * 0 ≡ 0 = mul-zero (present_reads log.g log.head.lost) in
     let most : present_reads log.g log.head.lost * n.presents ≤ present_reads log.g log.head.lost * 1 = mul-le-mul_left (present_reads log.g log.head.lost) (omega arith) in
@@ -110,9 +106,9 @@ look_calls log n turns old new one few none looks =
     record { way = looks.way; moment = λ told by_one. (let calls = looks.calls told by_one in omega arith) }
 
 -- a record isn't damaged where the log stands for a state
-pub look_damaged : (log same : Log) (was now : CallCounts) (old new : View) (result : Result (Unit {0}) Denied) (offset : ℕ) → IfErr result (λ fault. (log ≡ same) × LooksInVain log was now old new fault) → IsErrOf result (Damaged offset) → IsTrue old.tells → (s : State) → StandsFor (going log) s old.now.disks → ⊥
+pub look_damaged : (log same : Log) (was now : CallCounts) (old new : View) (result : Result (Unit {0}) Denied) (offset : ℕ) → IfErr result (λ fault. (log ≡ same) × LookFailed log was now old new fault) → IsErrOf result (Damaged offset) → IsTrue old.tells → (s : State) → StandsFor (running log) s old.now.disks → ⊥
 look_damaged log same was now old new result offset caused is told s stands =
-    (subst (λ (r : Result (Unit {0}) Denied). IfErr r (λ fault. (log ≡ same) × LooksInVain log was now old new fault)) is caused).1.damaged offset refl told s stands
+    (subst (λ (r : Result (Unit {0}) Denied). IfErr r (λ fault. (log ≡ same) × LookFailed log was now old new fault)) is caused).1.damaged offset refl told s stands
 
 -- ---- there is one last number by a time
 none_later : (i : Indexed) (time p q : ℕ) → IsLastBy i time p → IsLastBy i time q → p < q → ⊥

@@ -1,11 +1,12 @@
 -- The next head is one of such an array.
-use Rattle.std.proofs.Common.{ℕ, ◌+◌, ◌*◌, ◌-◌, ◌<◌, ◌≤◌, ◌^◌, Option, Some, subst, arith}
+use Rattle.std.proofs.Common.{ℕ, ◌+◌, ◌*◌, ◌-◌, ◌<◌, ◌≤◌, ◌^◌, Option, Some, refl, subst, arith}
 use Rattle.std.specs.Option.{ForSome}
 use Rattle.std.proofs.Math.Nat.{mul-le-mul}
 use Rattle.trap_format.specs.HeadValue.{lost_byte, IsHead}
 use Rattle.trap_format.specs.declared.head.Head.{Head}
 use Rattle.trap_model.specs.Limits.{greatest_record}
 use Rattle.trap_model.specs.declared.numbers.Geometry.{Geometry}
+use Rattle.trap_array.specs.Growing.{IsLaterHead}
 use Rattle.trap_array.specs.NextHead.{committed, drained_to}
 
 -- the ring's offsets are far below 2^64
@@ -21,6 +22,14 @@ lost_inside g h is member there =
     let most : lost_byte (Some member) ≤ g.members = subst (λ (lost : Option ℕ). lost_byte lost ≤ g.members) there is.lost.member in
     omega (arith, most)
 
+-- ---- it is a later head
+pub later_committed : (h : Head) (time size : ℕ) → IsLaterHead h (committed h time size)
+later_committed h time size = record { grows = record { first = refl; base_time = refl; first_off = refl; end_off = omega arith; last = omega arith; drained = omega arith }; lost = refl; rebuilt = refl }
+
+pub later_drained : (h : Head) (upto : ℕ) → h.drained ≤ upto → IsLaterHead h (drained_to h upto)
+later_drained h upto low = record { grows = record { first = refl; base_time = refl; first_off = refl; end_off = omega arith; last = omega arith; drained = low }; lost = refl; rebuilt = refl }
+
+-- ---- and one of such an array
 module _ (g : Geometry) (h : Head) (is : IsHead g h) where
   pub head_committed : (time size : ℕ) → h.last_time ≤ time → time < 2 ^ 64 → h.last < 2 ^ 40 → h.last < h.drained + g.slots → h.last < h.first + g.entries → h.end_off - h.first_off + size ≤ g.ring → size ≤ greatest_record g.block → IsHead g (committed h time size)
   head_committed time size later fits worn free few room short = record {

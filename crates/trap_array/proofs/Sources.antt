@@ -32,7 +32,7 @@ use Rattle.trap_record.proofs.Getting.{written-whole}
 use Rattle.trap_ring.specs.Ring.{RingPlace, RingHas, ring_pos}
 use Rattle.trap_scan.proofs.Fronts.{ring_front, snapshot_most}
 use Rattle.trap_scan.proofs.Taking.{ring_behind}
-use Rattle.trap_array.specs.Calls.{Mounted, StandsFor, going}
+use Rattle.trap_array.specs.Calls.{Mounted, StandsFor, running}
 use Rattle.trap_array.specs.Holding.{log_ring}
 use Rattle.trap_array.specs.Instants.{HasEntry, HasBadRecord, FailsRecord, FailsLooking, DeniesInstant}
 use Rattle.trap_array.specs.Log.{Log}
@@ -145,7 +145,7 @@ module _ (g : Geometry) (i : Indexed) (s : State) (q : ℕ) (valid : IsValid g s
       (ZeroRun-apart into (entry_at s q).bytes (snapshot_of (keeping.rec_of q (item_at i q)) bytes) (code_of (entry_at s q).bytes) [] [] (block ∙ sym long_bytes) (omega arith) spells (code_of_spells (entry_at s q).bytes) (ap (λ (l : List ℕ). l ++ []) (apart.2 ∙ code))).0
 
 -- the same, of the log's array and an item that was taken from its index
-module _ (log : Log) (s : State) (disks : Disks) (q : ℕ) (item : Item) (stands : StandsFor (going log) s disks) (has : HasEntry log.index q) (is : item ≡ item_at log.index q) (time : item.time < 2 ^ 64) where
+module _ (log : Log) (s : State) (disks : Disks) (q : ℕ) (item : Item) (stands : StandsFor (running log) s disks) (has : HasEntry log.index q) (is : item ≡ item_at log.index q) (time : item.time < 2 ^ 64) where
   time_of : (item_at log.index q).time < 2 ^ 64
   time_of = subst (λ (x : Item). x.time < 2 ^ 64) is time
 

@@ -5,11 +5,10 @@ use Rattle.trap_bank.specs.Disks.{Disks, View}
 use Rattle.trap_bank.specs.Faults.{Rose}
 use Rattle.trap_bank.specs.Steps.{Moves, Same, Always}
 use Rattle.trap_bank.proofs.Moves.{moves_weaken, no_moves, read_is_left}
-use Rattle.trap_cell.specs.Slots.{Stands}
 use Rattle.trap_block.specs.Xor.{xor}
 use Rattle.trap_map.specs.Layout.{block_place}
 use Rattle.trap_map.specs.Table.{row_parity}
-use Rattle.trap_model.specs.ArrayStep.{added, step, refusal, unless, accepted, after}
+use Rattle.trap_model.specs.ArrayStep.{added, step, refusal, or_refused, accepted, after}
 use Rattle.trap_model.specs.Image.{volume, block_of}
 use Rattle.trap_model.specs.Records.{record_of, next_record}
 use Rattle.trap_model.specs.Size.{entry_size}
@@ -29,20 +28,30 @@ use Rattle.trap_model.proofs.Refusals.{is_block, write_back, write_worn, write_m
 use Rattle.trap_raid.specs.Members.{Counts}
 use Rattle.trap_raid.specs.Plan.{IsPlan}
 use Rattle.trap_array.specs.Beside.{StaysFrom}
-use Rattle.trap_array.specs.Calls.{Mounted, StandsFor, HoldsLike, GoesOn, MayTurn, HasTurned, MemberFails, WriteReplies, is_done, going}
+use Rattle.trap_array.specs.Calls.{Mounted, StandsFor, HoldsLike, SameArray, AtAnyMoment, StandsAfterCall, MemberFails, WriteReplies, is_over, running}
+use Rattle.trap_format.specs.declared.head.Head.{Head}
+use Rattle.trap_array.specs.Growing.{IsLaterHead}
 use Rattle.trap_array.specs.Log.{Log, AreInStep}
 use Rattle.trap_array.specs.NextHead.{entry_for, IsPlanned}
+use Rattle.trap_array.specs.Ready.{KnowsCell}
 use Rattle.trap_array.specs.Turning.{IsFaultOf, Denies, Turns, IsFull}
 use Rattle.trap_array.specs.declared.fault.Denied.{Denied}
 use Rattle.trap_array.specs.declared.fault.Denied.TheVariants.{Refused, LogFault, MemberFault, Damaged, Stopped}
 use Rattle.trap_array.proofs.Beside.{stays_same, both_stay}
-use Rattle.trap_array.proofs.Turns.{holds_still, turned_may, always_turned, keep_then_may, keep_then_has}
+use Rattle.trap_array.proofs.Turns.{later_same, later_then, holds_still, turned_may, always_turned, keep_then_may, keep_then_has}
 
-pub goes_still : (a : Mounted) → GoesOn a a
-goes_still a = record { g = refl; lost = refl; rebuilt = refl }
+pub goes_still : (a : Mounted) → SameArray a a
+goes_still a = record { g = refl; follows = later_same a.head }
 
-pub goes_then : (a b c : Mounted) → GoesOn a b → GoesOn b c → GoesOn a c
-goes_then a b c first second = record { g = second.g ∙ first.g; lost = second.lost ∙ first.lost; rebuilt = second.rebuilt ∙ first.rebuilt }
+pub goes_then : (a b c : Mounted) → SameArray a b → SameArray b c → SameArray a c
+goes_then a b c first second = record { g = second.g ∙ first.g; follows = later_then a.head b.head c.head first.follows second.follows }
+
+-- a call whose head is the same, or a later one
+pub goes_same : (a b : Log) → b.g ≡ a.g → b.head ≡ a.head → SameArray (running a) (running b)
+goes_same a b g head = record { g = g; follows = subst (λ (h : Head). IsLaterHead a.head h) (sym head) (later_same a.head) }
+
+pub goes_later : (a b : Log) → b.g ≡ a.g → IsLaterHead a.head b.head → SameArray (running a) (running b)
+goes_later a b g later = record { g = g; follows = later }
 
 -- ---- faults
 fault_denies : (a : Mounted) (v w : View) (e : Denied) → IsFaultOf a v w e → Denies a v w e
@@ -52,7 +61,7 @@ fault_denies a v w (MemberFault first second) fault = fault
 fault_denies a v w (Damaged offset) fault = fault
 fault_denies a v w Stopped fault = fault
 
-fault_not_done : (a : Mounted) (v w : View) (e : Denied) → IsFaultOf a v w e → IsTrue (is_done {T = ℕ} (Err e)) → ⊥
+fault_not_done : (a : Mounted) (v w : View) (e : Denied) → IsFaultOf a v w e → IsTrue (is_over {T = ℕ} (Err e)) → ⊥
 fault_not_done a v w (Refused why) fault done = fault
 fault_not_done a v w LogFault fault done = cc
 fault_not_done a v w (MemberFault first second) fault done = cc
@@ -70,22 +79,22 @@ fault_replies a v w Stopped fault reply = tt
 rose_since : (a b c : ℕ) → a ≤ b → Rose b c → Rose a c
 rose_since a b c le rose = omega arith
 
-member_since : (a b : Mounted) (u v w : View) (first second : ℕ) → GoesOn a b → ((e : ℕ) → u.faults e ≤ v.faults e) → MemberFails b first second v w → MemberFails a first second u w
+member_since : (a b : Mounted) (u v w : View) (first second : ℕ) → SameArray a b → ((e : ℕ) → u.faults e ≤ v.faults e) → MemberFails b first second v w → MemberFails a first second u w
 member_since a b u v w first second on le fails = record {
   same = fails.same;
   inside = subst (λ (g : Geometry). second < g.members) on.g fails.inside;
-  counts = subst (λ (n : ℕ). Counts a.head.lost n 0 second) on.rebuilt (subst (λ (lost : Option ℕ). Counts lost b.head.rebuilt 0 second) on.lost fails.counts);
+  counts = subst (λ (n : ℕ). Counts a.head.lost n 0 second) on.follows.rebuilt (subst (λ (lost : Option ℕ). Counts lost b.head.rebuilt 0 second) on.follows.lost fails.counts);
   rose = rose_since (u.faults (second + 1)) (v.faults (second + 1)) (w.faults (second + 1)) (le (second + 1)) fails.rose;
 }
 
-denies_since : (a b : Mounted) (u v w : View) → GoesOn a b → ((e : ℕ) → u.faults e ≤ v.faults e) → (e : Denied) → Denies b v w e → Denies a u w e
+denies_since : (a b : Mounted) (u v w : View) → SameArray a b → ((e : ℕ) → u.faults e ≤ v.faults e) → (e : Denied) → Denies b v w e → Denies a u w e
 denies_since a b u v w on le (Refused why) denies = denies
 denies_since a b u v w on le LogFault denies = rose_since (u.faults 0) (v.faults 0) (w.faults 0) (le 0) denies
 denies_since a b u v w on le (MemberFault first second) denies = member_since a b u v w first second on le denies
 denies_since a b u v w on le (Damaged offset) denies = denies
 denies_since a b u v w on le Stopped denies = denies
 
-pub fault_since : (a b : Mounted) (u v w : View) → GoesOn a b → ((e : ℕ) → u.faults e ≤ v.faults e) → (e : Denied) → IsFaultOf b v w e → IsFaultOf a u w e
+pub fault_since : (a b : Mounted) (u v w : View) → SameArray a b → ((e : ℕ) → u.faults e ≤ v.faults e) → (e : Denied) → IsFaultOf b v w e → IsFaultOf a u w e
 fault_since a b u v w on le (Refused why) fault = fault
 fault_since a b u v w on le LogFault fault = rose_since (u.faults 0) (v.faults 0) (w.faults 0) (le 0) fault
 fault_since a b u v w on le (MemberFault first second) fault = member_since a b u v w first second on le fault
@@ -98,94 +107,94 @@ if_err_since (Err e) P Q more holds = more e holds
 
 -- ---- whole turns
 module _ (a b : Log) (next : State → State) (replies : State → Reply) where
-  pub turns_failed : (e : Denied) (v w : View) → IsFaultOf (going a) v w e → GoesOn (going a) (going b) → ((d : ℕ) → w.sizes d ≡ v.sizes d) → StaysFrom (a.g.members + 1) v w
-      → Moves v w (MayTurn (going a) v next) (MayTurn (going a) v next) → Turns a b next replies (Err e) v w
+  pub turns_failed : (e : Denied) (v w : View) → IsFaultOf (running a) v w e → SameArray (running a) (running b) → ((d : ℕ) → w.sizes d ≡ v.sizes d) → StaysFrom (a.g.members + 1) v w
+      → Moves v w (AtAnyMoment (running a) v next) (AtAnyMoment (running a) v next) → Turns a b next replies (Err e) v w
   turns_failed e v w fault on sizes others any = record {
-    reply = λ told s always. fault_replies (going a) v w e fault (replies s);
-    turned = λ done. absurd (fault_not_done (going a) v w e fault done);
-    in_step = λ done. absurd (fault_not_done (going a) v w e fault done);
-    stands = λ done. absurd (fault_not_done (going a) v w e fault done);
+    reply = λ told s always. fault_replies (running a) v w e fault (replies s);
+    turned = λ done. absurd (fault_not_done (running a) v w e fault done);
+    in_step = λ done. absurd (fault_not_done (running a) v w e fault done);
+    cell = λ done. absurd (fault_not_done (running a) v w e fault done);
     goes_on = on;
     sizes = sizes;
     others = others;
-    cause = fault_denies (going a) v w e fault;
+    cause = fault_denies (running a) v w e fault;
     any_moment = any;
   }
 
-  pub turns_done : (seq : ℕ) (v w : View) → (IsTrue v.tells → (s : State) → Always v (StandsFor (going a) s) → replies s ≡ Kept seq)
-      → Moves v w (MayTurn (going a) v next) (HasTurned (going a) (going b) v next) → AreInStep b.head b.stage b.index → Always w (Stands b.cell) → GoesOn (going a) (going b) → ((d : ℕ) → w.sizes d ≡ v.sizes d)
+  pub turns_done : (seq : ℕ) (v w : View) → (IsTrue v.tells → (s : State) → Always v (StandsFor (running a) s) → replies s ≡ Kept seq)
+      → Moves v w (AtAnyMoment (running a) v next) (StandsAfterCall (running a) (running b) v next) → AreInStep b.head b.stage b.index → KnowsCell b w → SameArray (running a) (running b) → ((d : ℕ) → w.sizes d ≡ v.sizes d)
       → StaysFrom (a.g.members + 1) v w → Turns a b next replies (Ok seq) v w
-  turns_done seq v w kept moves in_step stands on sizes others = record {
+  turns_done seq v w kept moves in_step cell on sizes others = record {
     reply = kept;
     turned = λ done. moves;
     in_step = λ done. in_step;
-    stands = λ done. stands;
+    cell = λ done. cell;
     goes_on = on;
     sizes = sizes;
     others = others;
     cause = tt;
-    any_moment = turned_may (going a) (going b) on v w next moves;
+    any_moment = turned_may (running a) (running b) on v w next moves;
   }
 
   -- after a call that keeps the state
-  pub turns_after : (m : Log) (result : Result ℕ Denied) (u v w : View) → GoesOn (going a) (going m) → Moves u v (MayTurn (going a) u (λ s. s)) (HasTurned (going a) (going m) u (λ s. s)) → ((d : ℕ) → v.sizes d ≡ u.sizes d)
+  pub turns_after : (m : Log) (result : Result ℕ Denied) (u v w : View) → SameArray (running a) (running m) → Moves u v (AtAnyMoment (running a) u (λ s. s)) (StandsAfterCall (running a) (running m) u (λ s. s)) → ((d : ℕ) → v.sizes d ≡ u.sizes d)
       → StaysFrom (a.g.members + 1) u v → Turns m b next replies result v w → Turns a b next replies result u w
   turns_after m result u v w on first sizes others turns = record {
-    reply = λ told s always. turns.reply (subst (λ t. IsTrue t) (sym first.tells) told) s (always_turned (going a) (going m) u v (λ s. s) (MayTurn (going a) u (λ s. s)) first s always);
-    turned = λ done. keep_then_has (going a) (going m) on u v w next first (going b) (turns.turned done);
+    reply = λ told s always. turns.reply (subst (λ t. IsTrue t) (sym first.tells) told) s (always_turned (running a) (running m) u v (λ s. s) (AtAnyMoment (running a) u (λ s. s)) first s always);
+    turned = λ done. keep_then_has (running a) (running m) on u v w next first (running b) (turns.turned done);
     in_step = turns.in_step;
-    stands = turns.stands;
-    goes_on = goes_then (going a) (going m) (going b) on turns.goes_on;
+    cell = turns.cell;
+    goes_on = goes_then (running a) (running m) (running b) on turns.goes_on;
     sizes = λ d. turns.sizes d ∙ sizes d;
-    others = both_stay (going a) (going m) u v w on first.tells others turns.others;
-    cause = if_err_since result (Denies (going m) v w) (Denies (going a) u w) (denies_since (going a) (going m) u v w on first.faults) turns.cause;
-    any_moment = keep_then_may (going a) (going m) on u v w next first turns.any_moment;
+    others = both_stay (running a) (running m) u v w on first.tells others turns.others;
+    cause = if_err_since result (Denies (running m) v w) (Denies (running a) u w) (denies_since (running a) (running m) u v w on first.faults) turns.cause;
+    any_moment = keep_then_may (running a) (running m) on u v w next first turns.any_moment;
   }
 
   -- where the next state and the reply are known
   pub turns_same : (next_too : State → State) (replies_too : State → Reply) (result : Result ℕ Denied) (v w : View)
-      → ((s : State) → IsTrue v.tells → StandsFor (going a) s v.now.disks → (next s ≡ next_too s) × (replies s ≡ replies_too s))
+      → ((s : State) → IsTrue v.tells → StandsFor (running a) s v.now.disks → (next s ≡ next_too s) × (replies s ≡ replies_too s))
       → Turns a b next replies result v w → Turns a b next_too replies_too result v w
   turns_same next_too replies_too result v w same turns = record {
     reply = λ told s always. subst (λ (r : Reply). WriteReplies result r) (same s told (always v.now (read_is_left v told))).1 (turns.reply told s always);
-    turned = λ done. moves_weaken v w (MayTurn (going a) v next) (HasTurned (going a) (going b) v next) (MayTurn (going a) v next_too) (HasTurned (going a) (going b) v next_too) (turns.turned done)
+    turned = λ done. moves_weaken v w (AtAnyMoment (running a) v next) (StandsAfterCall (running a) (running b) v next) (AtAnyMoment (running a) v next_too) (StandsAfterCall (running a) (running b) v next_too) (turns.turned done)
         (λ x y was step s always. may_too s y.disks was.told (always v.now (read_is_left v was.told)) (step s always))
-        (λ x y was left step s always. subst (λ (t : State). StandsFor (going b) t y.disks) (same s was.told (always v.now (read_is_left v was.told))).0 (step s always));
+        (λ x y was left step s always. subst (λ (t : State). StandsFor (running b) t y.disks) (same s was.told (always v.now (read_is_left v was.told))).0 (step s always));
     in_step = turns.in_step;
-    stands = turns.stands;
+    cell = turns.cell;
     goes_on = turns.goes_on;
     sizes = turns.sizes;
     others = turns.others;
     cause = turns.cause;
-    any_moment = moves_weaken v w (MayTurn (going a) v next) (MayTurn (going a) v next) (MayTurn (going a) v next_too) (MayTurn (going a) v next_too) turns.any_moment
+    any_moment = moves_weaken v w (AtAnyMoment (running a) v next) (AtAnyMoment (running a) v next) (AtAnyMoment (running a) v next_too) (AtAnyMoment (running a) v next_too) turns.any_moment
         (λ x y was step s always. may_too s y.disks was.told (always v.now (read_is_left v was.told)) (step s always))
         (λ x y was left step s always. may_too s y.disks was.told (always v.now (read_is_left v was.told)) (step s always));
   }
     where
-      may_too : (s : State) (y : Disks) → IsTrue v.tells → StandsFor (going a) s v.now.disks → HoldsLike a.g a.head s y ⊎ HoldsLike a.g a.head (next s) y → HoldsLike a.g a.head s y ⊎ HoldsLike a.g a.head (next_too s) y
+      may_too : (s : State) (y : Disks) → IsTrue v.tells → StandsFor (running a) s v.now.disks → HoldsLike a.g a.head s y ⊎ HoldsLike a.g a.head (next s) y → HoldsLike a.g a.head s y ⊎ HoldsLike a.g a.head (next_too s) y
       may_too s y told stands either = ⊎_elim inl (λ new. inr (subst (λ (t : State). HoldsLike a.g a.head t y) (same s told stands).0 new)) either
 
 -- a refusal after calls that change nothing
-pub turns_refused : (a : Log) (next : State → State) (replies : State → Reply) (why : Refusal) (v w : View) → why ≢ NoBlock → Moves v w Same Same → (IsTrue v.tells → w.now ≡ v.now) → ((d : ℕ) → w.sizes d ≡ v.sizes d) → AreInStep a.head a.stage a.index → Always w (Stands a.cell)
-    → ((s : State) → IsTrue v.tells → StandsFor (going a) s v.now.disks → (next s ≡ s) × (replies s ≡ No why)) → Turns a a next replies (Err (Refused why)) v w
-turns_refused a next replies why v w other moves same sizes in_step stands refused = record {
+pub turns_refused : (a : Log) (next : State → State) (replies : State → Reply) (why : Refusal) (v w : View) → why ≢ NoBlock → Moves v w Same Same → (IsTrue v.tells → w.now ≡ v.now) → ((d : ℕ) → w.sizes d ≡ v.sizes d) → AreInStep a.head a.stage a.index → KnowsCell a w
+    → ((s : State) → IsTrue v.tells → StandsFor (running a) s v.now.disks → (next s ≡ s) × (replies s ≡ No why)) → Turns a a next replies (Err (Refused why)) v w
+turns_refused a next replies why v w other moves same sizes in_step cell refused = record {
   reply = λ told s always. (refused s told (always v.now (read_is_left v told))).1;
   turned = λ done. turned;
   in_step = λ done. in_step;
-  stands = λ done. stands;
-  goes_on = goes_still (going a);
+  cell = λ done. cell;
+  goes_on = goes_still (running a);
   sizes = sizes;
   others = stays_same (a.g.members + 1) v w same;
   cause = other;
-  any_moment = turned_may (going a) (going a) (goes_still (going a)) v w next turned;
+  any_moment = turned_may (running a) (running a) (goes_still (running a)) v w next turned;
 }
   where
-    turned : Moves v w (MayTurn (going a) v next) (HasTurned (going a) (going a) v next)
-    turned = moves_weaken v w Same Same (MayTurn (going a) v next) (HasTurned (going a) (going a) v next) moves
-        (λ x y was same s always. inl (holds_still (going a) s y.disks (subst (λ (d : Disks). StandsFor (going a) s d) (sym same) (always x was))))
+    turned : Moves v w (AtAnyMoment (running a) v next) (StandsAfterCall (running a) (running a) v next)
+    turned = moves_weaken v w Same Same (AtAnyMoment (running a) v next) (StandsAfterCall (running a) (running a) v next) moves
+        (λ x y was same s always. inl (holds_still (running a) s y.disks (subst (λ (d : Disks). StandsFor (running a) s d) (sym same) (always x was))))
         (λ x y was left same s always.
-        let P : Disks → Type 0 = λ (d : Disks). StandsFor (going a) s d in
-        let Q : State → Type 0 = λ (t : State). StandsFor (going a) t y.disks in
+        let P : Disks → Type 0 = λ (d : Disks). StandsFor (running a) s d in
+        let Q : State → Type 0 = λ (t : State). StandsFor (running a) t y.disks in
         subst Q (sym (refused s was.told (always v.now (read_is_left v was.told))).0) (subst P (sym same) (always x was)))
 
 -- a run without a call
@@ -201,12 +210,12 @@ module _ (g : Geometry) (s : State) (time block : ℕ) (bytes : List ℕ) where
   entry = entry_for time block bytes
 
   step_refused : (why : Refusal) → refusal g s asked ≡ Some why → ((step g).next s asked ≡ s) × ((step g).reply s asked ≡ No why)
-  step_refused why is = (ap (λ (o : Option Refusal). unless o (after g s asked) (λ _. s)) is, ap (λ (o : Option Refusal). unless o (accepted s asked) No) is)
+  step_refused why is = (ap (λ (o : Option Refusal). or_refused o (after g s asked) (λ _. s)) is, ap (λ (o : Option Refusal). or_refused o (accepted s asked) No) is)
 
   step_goes : refusal g s asked ≡ None → (added s entry ≡ (step g).next s asked) × (Kept (last s + 1) ≡ (step g).reply s asked)
-  step_goes is = (sym (ap (λ (o : Option Refusal). unless o (after g s asked) (λ _. s)) is), sym (ap (λ (o : Option Refusal). unless o (accepted s asked) No) is))
+  step_goes is = (sym (ap (λ (o : Option Refusal). or_refused o (after g s asked) (λ _. s)) is), sym (ap (λ (o : Option Refusal). or_refused o (accepted s asked) No) is))
 
-  module _ (x : Disks) (a : Log) (same : a.g ≡ g) (stands : StandsFor (going a) s x) (inside : block < volume g) where
+  module _ (x : Disks) (a : Log) (same : a.g ≡ g) (stands : StandsFor (running a) s x) (inside : block < volume g) where
     pub back_refused : time < a.head.last_time → ((step g).next s asked ≡ s) × ((step g).reply s asked ≡ No (TimeBack a.head.last_time))
     back_refused before =
         let time_is = stands.by.fits.head.last_time in
@@ -245,7 +254,7 @@ module _ (g : Geometry) (s : State) (time block : ℕ) (bytes : List ℕ) where
 
 -- ---- what was planned
 -- the plan and the record are those of the entry
-pub planned_from : (a : Log) (s : State) (x : Disks) (time block : ℕ) (bytes delta parity spelled : List ℕ) → StandsFor (going a) s x → IsPlan a.g (image s) block bytes delta parity
+pub planned_from : (a : Log) (s : State) (x : Disks) (time block : ℕ) (bytes delta parity spelled : List ℕ) → StandsFor (running a) s x → IsPlan a.g (image s) block bytes delta parity
     → ((old fresh : List ℕ) → delta ≡ xor old fresh → spelled ≡ record_of (a.head.last + 1) old (entry_for time block fresh))
     → IsPlanned a.g s (entry_for time block bytes) parity spelled
 planned_from a s x time block bytes delta parity spelled stands plan record_is = record {

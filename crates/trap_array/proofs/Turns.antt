@@ -1,5 +1,5 @@
 -- How the calls of an array follow one another: each keeps the state that it stands for, or turns it into the next one.
-use Rattle.std.proofs.Common.{◌≡◌, ◌⊎◌, ℕ, List, false, IsTrue, inl, inr, ⊎_elim, refl, sym, subst, ◌∙◌}
+use Rattle.std.proofs.Common.{◌≡◌, ◌⊎◌, ℕ, List, false, IsTrue, inl, inr, ⊎_elim, refl, sym, subst, ◌∙◌, arith}
 use Rattle.trap_bank.specs.Disks.{Disks, Contents, View, Area, Differs}
 use Rattle.trap_bank.specs.Calls.{MayLeave}
 use Rattle.trap_bank.specs.Steps.{Moves, Same, Always}
@@ -15,10 +15,30 @@ use Rattle.trap_model.specs.declared.history.State.{State}
 use Rattle.trap_model.specs.declared.numbers.Geometry.{Geometry}
 use Rattle.trap_stage.specs.Pending.{pending}
 use Rattle.trap_stage.specs.Staged.{Staged}
-use Rattle.trap_array.specs.Holding.{head_place, Fits, HoldsBy, Outside}
-use Rattle.trap_array.specs.Calls.{Mounted, StandsFor, HoldsLike, GoesOn, MayTurn, HasTurned}
+use Rattle.trap_array.specs.Holding.{head_place, MatchesHead, HoldsBy, Outside}
+use Rattle.trap_array.specs.Growing.{IsLaterHead}
+use Rattle.trap_array.specs.Calls.{Mounted, StandsFor, HoldsLike, SameArray, AtAnyMoment, StandsAfterCall}
 use Rattle.trap_mount.proofs.Frames.{holds_outside, cell_stands}
 use Rattle.trap_mount.proofs.Puts.{put_holds, put_held}
+
+-- ---- the head
+-- it may stay, and one call may follow another
+pub later_same : (h : Head) → IsLaterHead h h
+later_same h = record { grows = record { first = refl; base_time = refl; first_off = refl; end_off = omega arith; last = omega arith; drained = omega arith }; lost = refl; rebuilt = refl }
+
+pub later_then : (h t u : Head) → IsLaterHead h t → IsLaterHead t u → IsLaterHead h u
+later_then h t u one two = record {
+  grows = record {
+    first = two.grows.first ∙ one.grows.first;
+    base_time = two.grows.base_time ∙ one.grows.base_time;
+    first_off = two.grows.first_off ∙ one.grows.first_off;
+    end_off = omega (arith, one.grows.end_off, two.grows.end_off);
+    last = omega (arith, one.grows.last, two.grows.last);
+    drained = omega (arith, one.grows.drained, two.grows.drained);
+  };
+  lost = two.lost ∙ one.lost;
+  rebuilt = two.rebuilt ∙ one.rebuilt;
+}
 
 -- ---- inside a call, where something is known of the state
 -- at a moment
@@ -40,22 +60,20 @@ Whatever s = Unit {0}
 
 module _ (a : Mounted) where
   pub holds_still : (s : State) (x : Disks) → StandsFor a s x → HoldsLike a.g a.head s x
-  holds_still s x stands = record { head = a.head; by = stands.by; lost = refl; rebuilt = refl }
+  holds_still s x stands = record { head = a.head; by = stands.by; follows = later_same a.head }
 
-  pub holds_next : (b : Mounted) → GoesOn a b → (s : State) (x : Disks) → StandsFor b s x → HoldsLike a.g a.head s x
+  pub holds_next : (b : Mounted) → SameArray a b → (s : State) (x : Disks) → StandsFor b s x → HoldsLike a.g a.head s x
   holds_next b on s x stands = record {
     head = b.head;
     by = subst (λ (g : Geometry). HoldsBy g b.head s x) on.g stands.by;
-    lost = on.lost;
-    rebuilt = on.rebuilt;
+    follows = on.follows;
   }
 
-  pub holds_along : (b : Mounted) → GoesOn a b → (s : State) (x : Disks) → HoldsLike b.g b.head s x → HoldsLike a.g a.head s x
+  pub holds_along : (b : Mounted) → SameArray a b → (s : State) (x : Disks) → HoldsLike b.g b.head s x → HoldsLike a.g a.head s x
   holds_along b on s x holds = record {
     head = holds.head;
     by = subst (λ (g : Geometry). HoldsBy g holds.head s x) on.g holds.by;
-    lost = holds.lost ∙ on.lost;
-    rebuilt = holds.rebuilt ∙ on.rebuilt;
+    follows = later_then a.head b.head holds.head on.follows holds.follows;
   }
 
   module _ (asks : State → Type 0) where
@@ -117,25 +135,25 @@ module _ (a : Mounted) where
           (λ x y z was step mid more s always asked. more s (always_still u v (StillIf a u asks) first s always asked) asked)
 
       -- where it is known of each state that the array stands for, nothing is left to ask
-      pub asked_may : (v w : View) → ((s : State) → IsTrue v.tells → Always v (StandsFor a s) → asks s) → Moves v w (MayTurnIf a v asks next) (MayTurnIf a v asks next) → Moves v w (MayTurn a v next) (MayTurn a v next)
+      pub asked_may : (v w : View) → ((s : State) → IsTrue v.tells → Always v (StandsFor a s) → asks s) → Moves v w (MayTurnIf a v asks next) (MayTurnIf a v asks next) → Moves v w (AtAnyMoment a v next) (AtAnyMoment a v next)
       asked_may v w known moves =
-          moves_weaken v w (MayTurnIf a v asks next) (MayTurnIf a v asks next) (MayTurn a v next) (MayTurn a v next) moves
+          moves_weaken v w (MayTurnIf a v asks next) (MayTurnIf a v asks next) (AtAnyMoment a v next) (AtAnyMoment a v next) moves
           (λ x y was step s always. step s always (known s was.told always))
           (λ x y was left step s always. step s always (known s was.told always))
 
-      pub asked_has : (b : Mounted) (v w : View) → ((s : State) → IsTrue v.tells → Always v (StandsFor a s) → asks s) → Moves v w (MayTurnIf a v asks next) (HasTurnedIf a b v asks next) → Moves v w (MayTurn a v next) (HasTurned a b v next)
+      pub asked_has : (b : Mounted) (v w : View) → ((s : State) → IsTrue v.tells → Always v (StandsFor a s) → asks s) → Moves v w (MayTurnIf a v asks next) (HasTurnedIf a b v asks next) → Moves v w (AtAnyMoment a v next) (StandsAfterCall a b v next)
       asked_has b v w known moves =
-          moves_weaken v w (MayTurnIf a v asks next) (HasTurnedIf a b v asks next) (MayTurn a v next) (HasTurned a b v next) moves
+          moves_weaken v w (MayTurnIf a v asks next) (HasTurnedIf a b v asks next) (AtAnyMoment a v next) (StandsAfterCall a b v next) moves
           (λ x y was step s always. step s always (known s was.told always))
           (λ x y was left step s always. step s always (known s was.told always))
 
       -- a put of a head that the disks fit already
-      module _ (t : Head) (v w : View) (is_head : a.cell.place ≡ head_place) (lost : t.lost ≡ a.head.lost) (rebuilt : t.rebuilt ≡ a.head.rebuilt)
-          (fits : (s : State) (x : Contents) → MayLeave v x → StandsFor a s x.disks → asks s → Fits a.g t (next s) x.disks) where
+      module _ (t : Head) (v w : View) (is_head : a.cell.place ≡ head_place) (later : IsLaterHead a.head t)
+          (fits : (s : State) (x : Contents) → MayLeave v x → StandsFor a s x.disks → asks s → MatchesHead a.g t (next s) x.disks) where
         put_may_at : (s : State) (x y : Contents) → MayLeave v x → StandsFor a s x.disks → asks s → PutsIn a.cell (head_value t) x.disks y.disks → HoldsLike a.g a.head s y.disks ⊎ HoldsLike a.g a.head (next s) y.disks
         put_may_at s x y was stands asked puts =
-            ⊎_elim (λ old. inl (record { head = a.head; by = old; lost = refl; rebuilt = refl }))
-            (λ new. inr (record { head = t; by = new; lost = lost; rebuilt = rebuilt }))
+            ⊎_elim (λ old. inl (record { head = a.head; by = old; follows = later_same a.head }))
+            (λ new. inr (record { head = t; by = new; follows = later }))
             (put_holds a.g a.head t s (next s) a.cell is_head x.disks y.disks stands.by (fits s x was stands asked) puts)
 
         pub put_may : Moves v w (PutsIn a.cell (head_value t)) (PutsIn a.cell (head_value t)) → Moves v w (MayTurnIf a v asks next) (MayTurnIf a v asks next)
@@ -162,61 +180,61 @@ module _ (a : Mounted) where
 
 -- ---- one call after another
 -- every crash leaves the next state
-pub always_turned : (a b : Mounted) (v w : View) (next : State → State) (during : Disks → Disks → Type 0) → Moves v w during (HasTurned a b v next) → (s : State) → Always v (StandsFor a s) → Always w (StandsFor b (next s))
+pub always_turned : (a b : Mounted) (v w : View) (next : State → State) (during : Disks → Disks → Type 0) → Moves v w during (StandsAfterCall a b v next) → (s : State) → Always v (StandsFor a s) → Always w (StandsFor b (next s))
 always_turned a b v w next during moves s always c left = let from = moves.now c left in from.by.disks s always
 
-module _ (a b : Mounted) (on : GoesOn a b) (u v w : View) (next : State → State) where
+module _ (a b : Mounted) (on : SameArray a b) (u v w : View) (next : State → State) where
   -- first one that keeps the state
-  module _ (first : Moves u v (MayTurn a u (λ s. s)) (HasTurned a b u (λ s. s))) where
+  module _ (first : Moves u v (AtAnyMoment a u (λ s. s)) (StandsAfterCall a b u (λ s. s))) where
     abbrev kept_at : (s : State) (y : Disks) → HoldsLike a.g a.head s y ⊎ HoldsLike a.g a.head s y → HoldsLike a.g a.head s y ⊎ HoldsLike a.g a.head (next s) y
     kept_at s y either = ⊎_elim inl inl either
 
     abbrev along : (s : State) (z : Disks) → HoldsLike b.g b.head s z ⊎ HoldsLike b.g b.head (next s) z → HoldsLike a.g a.head s z ⊎ HoldsLike a.g a.head (next s) z
     along s z either = ⊎_elim (λ old. inl (holds_along a b on s z old)) (λ new. inr (holds_along a b on (next s) z new)) either
 
-    pub keep_then_may : Moves v w (MayTurn b v next) (MayTurn b v next) → Moves u w (MayTurn a u next) (MayTurn a u next)
+    pub keep_then_may : Moves v w (AtAnyMoment b v next) (AtAnyMoment b v next) → Moves u w (AtAnyMoment a u next) (AtAnyMoment a u next)
     keep_then_may second =
-        moves_then u v w (MayTurn a u (λ s. s)) (HasTurned a b u (λ s. s)) (MayTurn b v next) (MayTurn b v next) (MayTurn a u next) (MayTurn a u next) first second
+        moves_then u v w (AtAnyMoment a u (λ s. s)) (StandsAfterCall a b u (λ s. s)) (AtAnyMoment b v next) (AtAnyMoment b v next) (AtAnyMoment a u next) (AtAnyMoment a u next) first second
         (λ x y was step s always. kept_at s y.disks (step s always))
-        (λ x y z was step mid more s always. along s z.disks (more s (always_turned a b u v (λ s. s) (MayTurn a u (λ s. s)) first s always)))
-        (λ x y z was step mid more s always. along s z.disks (more s (always_turned a b u v (λ s. s) (MayTurn a u (λ s. s)) first s always)))
+        (λ x y z was step mid more s always. along s z.disks (more s (always_turned a b u v (λ s. s) (AtAnyMoment a u (λ s. s)) first s always)))
+        (λ x y z was step mid more s always. along s z.disks (more s (always_turned a b u v (λ s. s) (AtAnyMoment a u (λ s. s)) first s always)))
 
-    pub keep_then_has : (c : Mounted) → Moves v w (MayTurn b v next) (HasTurned b c v next) → Moves u w (MayTurn a u next) (HasTurned a c u next)
+    pub keep_then_has : (c : Mounted) → Moves v w (AtAnyMoment b v next) (StandsAfterCall b c v next) → Moves u w (AtAnyMoment a u next) (StandsAfterCall a c u next)
     keep_then_has c second =
-        moves_then u v w (MayTurn a u (λ s. s)) (HasTurned a b u (λ s. s)) (MayTurn b v next) (HasTurned b c v next) (MayTurn a u next) (HasTurned a c u next) first second
+        moves_then u v w (AtAnyMoment a u (λ s. s)) (StandsAfterCall a b u (λ s. s)) (AtAnyMoment b v next) (StandsAfterCall b c v next) (AtAnyMoment a u next) (StandsAfterCall a c u next) first second
         (λ x y was step s always. kept_at s y.disks (step s always))
-        (λ x y z was step mid more s always. along s z.disks (more s (always_turned a b u v (λ s. s) (MayTurn a u (λ s. s)) first s always)))
-        (λ x y z was step mid more s always. more s (always_turned a b u v (λ s. s) (MayTurn a u (λ s. s)) first s always))
+        (λ x y z was step mid more s always. along s z.disks (more s (always_turned a b u v (λ s. s) (AtAnyMoment a u (λ s. s)) first s always)))
+        (λ x y z was step mid more s always. more s (always_turned a b u v (λ s. s) (AtAnyMoment a u (λ s. s)) first s always))
 
   -- first one that turns it
-  module _ (first : Moves u v (MayTurn a u next) (HasTurned a b u next)) where
+  module _ (first : Moves u v (AtAnyMoment a u next) (StandsAfterCall a b u next)) where
     abbrev onward : (s : State) (z : Disks) → HoldsLike b.g b.head (next s) z ⊎ HoldsLike b.g b.head (next s) z → HoldsLike a.g a.head s z ⊎ HoldsLike a.g a.head (next s) z
     onward s z either = inr (holds_along a b on (next s) z (⊎_elim (λ old. old) (λ new. new) either))
 
-    pub then_keep_may : Moves v w (MayTurn b v (λ s. s)) (MayTurn b v (λ s. s)) → Moves u w (MayTurn a u next) (MayTurn a u next)
+    pub then_keep_may : Moves v w (AtAnyMoment b v (λ s. s)) (AtAnyMoment b v (λ s. s)) → Moves u w (AtAnyMoment a u next) (AtAnyMoment a u next)
     then_keep_may second =
-        moves_then u v w (MayTurn a u next) (HasTurned a b u next) (MayTurn b v (λ s. s)) (MayTurn b v (λ s. s)) (MayTurn a u next) (MayTurn a u next) first second
+        moves_then u v w (AtAnyMoment a u next) (StandsAfterCall a b u next) (AtAnyMoment b v (λ s. s)) (AtAnyMoment b v (λ s. s)) (AtAnyMoment a u next) (AtAnyMoment a u next) first second
         (λ x y was step. step)
-        (λ x y z was step mid more s always. onward s z.disks (more (next s) (always_turned a b u v next (MayTurn a u next) first s always)))
-        (λ x y z was step mid more s always. onward s z.disks (more (next s) (always_turned a b u v next (MayTurn a u next) first s always)))
+        (λ x y z was step mid more s always. onward s z.disks (more (next s) (always_turned a b u v next (AtAnyMoment a u next) first s always)))
+        (λ x y z was step mid more s always. onward s z.disks (more (next s) (always_turned a b u v next (AtAnyMoment a u next) first s always)))
 
-    pub then_keep_has : (c : Mounted) → Moves v w (MayTurn b v (λ s. s)) (HasTurned b c v (λ s. s)) → Moves u w (MayTurn a u next) (HasTurned a c u next)
+    pub then_keep_has : (c : Mounted) → Moves v w (AtAnyMoment b v (λ s. s)) (StandsAfterCall b c v (λ s. s)) → Moves u w (AtAnyMoment a u next) (StandsAfterCall a c u next)
     then_keep_has c second =
-        moves_then u v w (MayTurn a u next) (HasTurned a b u next) (MayTurn b v (λ s. s)) (HasTurned b c v (λ s. s)) (MayTurn a u next) (HasTurned a c u next) first second
+        moves_then u v w (AtAnyMoment a u next) (StandsAfterCall a b u next) (AtAnyMoment b v (λ s. s)) (StandsAfterCall b c v (λ s. s)) (AtAnyMoment a u next) (StandsAfterCall a c u next) first second
         (λ x y was step. step)
-        (λ x y z was step mid more s always. onward s z.disks (more (next s) (always_turned a b u v next (MayTurn a u next) first s always)))
-        (λ x y z was step mid more s always. more (next s) (always_turned a b u v next (MayTurn a u next) first s always))
+        (λ x y z was step mid more s always. onward s z.disks (more (next s) (always_turned a b u v next (AtAnyMoment a u next) first s always)))
+        (λ x y z was step mid more s always. more (next s) (always_turned a b u v next (AtAnyMoment a u next) first s always))
 
 -- a run that changes nothing keeps the state
-pub same_keeps : (a : Mounted) (v w : View) → Moves v w Same Same → Moves v w (MayTurn a v (λ s. s)) (HasTurned a a v (λ s. s))
+pub same_keeps : (a : Mounted) (v w : View) → Moves v w Same Same → Moves v w (AtAnyMoment a v (λ s. s)) (StandsAfterCall a a v (λ s. s))
 same_keeps a v w moves =
-    moves_weaken v w Same Same (MayTurn a v (λ s. s)) (HasTurned a a v (λ s. s)) moves
+    moves_weaken v w Same Same (AtAnyMoment a v (λ s. s)) (StandsAfterCall a a v (λ s. s)) moves
     (λ x y was same s always. inl (holds_still a s y.disks (subst (λ (d : Disks). StandsFor a s d) (sym same) (always x was))))
     (λ x y was left same s always. subst (λ (d : Disks). StandsFor a s d) (sym same) (always x was))
 
 -- and so it may be at any moment
-pub turned_may : (a b : Mounted) → GoesOn a b → (v w : View) (next : State → State) → Moves v w (MayTurn a v next) (HasTurned a b v next) → Moves v w (MayTurn a v next) (MayTurn a v next)
+pub turned_may : (a b : Mounted) → SameArray a b → (v w : View) (next : State → State) → Moves v w (AtAnyMoment a v next) (StandsAfterCall a b v next) → Moves v w (AtAnyMoment a v next) (AtAnyMoment a v next)
 turned_may a b on v w next moves =
-    moves_weaken v w (MayTurn a v next) (HasTurned a b v next) (MayTurn a v next) (MayTurn a v next) moves
+    moves_weaken v w (AtAnyMoment a v next) (StandsAfterCall a b v next) (AtAnyMoment a v next) (AtAnyMoment a v next) moves
     (λ x y was step. step)
     (λ x y was left step s always. inr (holds_next a b on (next s) y.disks (step s always)))

@@ -11,38 +11,47 @@ use Rattle.trap_model.specs.declared.request.Reply.TheVariants.{Kept, Is, At, No
 use Rattle.trap_raid.specs.Members.{Counts}
 use Rattle.trap_array.specs.Holding.{HoldsBy}
 pub use Rattle.trap_mount.specs.Mounted.{Mounted, StandsFor, HasSizes, IsReady}
+use Rattle.trap_array.specs.Growing.{IsLaterHead}
 use Rattle.trap_array.specs.Log.{Log}
 use Rattle.trap_array.specs.declared.fault.Denied.{Denied}
 use Rattle.trap_array.specs.declared.fault.Denied.TheVariants.{Refused, LogFault, MemberFault, Damaged, Stopped}
 
 -- an array that isn't stopped, by what it knows of its log
-abbrev pub going : Log → Mounted
-going log = record { g = log.g; head = log.head; cell = log.cell; pending = log.stage.pending; index = log.index; is_stopped = false }
+abbrev pub running : Log → Mounted
+running log = record {
+  g = log.g;
+  head = log.head;
+  cell = log.cell;
+  pending = log.stage.pending;
+  index = log.index;
+  is_stopped = false;
+}
 
--- no call changes the numbers of an array, nor which member is lost
-pub record GoesOn (a b : Mounted) : Type 0 where
+-- no call changes the numbers of an array, and its head is a later one
+pub record SameArray (a b : Mounted) : Type 0 where
   pub g : b.g ≡ a.g
-  pub lost : b.head.lost ≡ a.head.lost
-  pub rebuilt : b.head.rebuilt ≡ a.head.rebuilt
+  pub follows : IsLaterHead a.head b.head
 
--- the disks hold the state by a head with the same lost member
+-- the disks hold the state by this head or a later one
 pub record HoldsLike (g : Geometry) (h : Head) (s : State) (disks : Disks) : Type 0 where
   pub head : Head
   pub by : HoldsBy g head s disks
-  pub lost : head.lost ≡ h.lost
-  pub rebuilt : head.rebuilt ≡ h.rebuilt
+  pub follows : IsLaterHead h head
 
--- At a moment of a call. Whatever state the array stood for on entry, the disks hold it, or the next one.
-abbrev pub MayTurn : Mounted → View → (State → State) → Disks → Disks → Type 0
-MayTurn a v next old new =
-    (s : State) → Always v (StandsFor a s) → HoldsLike a.g a.head s new ⊎ HoldsLike a.g a.head (next s) new
+-- At a moment of a call. Whatever state the array stood for on entry, the disks hold it, or the
+-- next one.
+abbrev pub AtAnyMoment : Mounted → View → (State → State) → Disks → Disks → Type 0
+AtAnyMoment a v next old new =
+    (s : State) → Always v (StandsFor a s) → HoldsLike a.g a.head s new
+    ⊎ HoldsLike a.g a.head (next s) new
 
 -- After a call. Whatever state the array stood for on entry, it stands for the next one.
-abbrev pub HasTurned : Mounted → Mounted → View → (State → State) → Disks → Disks → Type 0
-HasTurned a b v next old new = (s : State) → Always v (StandsFor a s) → StandsFor b (next s) new
+abbrev pub StandsAfterCall : Mounted → Mounted → View → (State → State) → Disks → Disks → Type 0
+StandsAfterCall a b v next old new = (s : State) → Always v (StandsFor a s)
+    → StandsFor b (next s) new
 
--- A member failed of which some row counts, so not the lost one unless it is being rebuilt: the count of its disk rose.
--- Both numbers are its own.
+-- A member failed of which some row counts, so not the lost one unless it is being rebuilt: the
+-- count of its disk rose. Both numbers are its own.
 pub record MemberFails (a : Mounted) (first second : ℕ) (old new : View) : Type 0 where
   pub same : first ≡ second
   pub inside : second < a.g.members
@@ -59,13 +68,21 @@ is_fault (Err (Damaged offset)) = false
 is_fault (Err Stopped) = false
 
 -- the call did nothing, since the array was stopped, or a fault came
-abbrev pub is_done : {T : Type 0} → Result T Denied → Bool
-is_done (Ok value) = true
-is_done (Err (Refused why)) = true
-is_done (Err LogFault) = false
-is_done (Err (MemberFault first second)) = false
-is_done (Err (Damaged offset)) = true
-is_done (Err Stopped) = false
+abbrev pub is_over : {T : Type 0} → Result T Denied → Bool
+is_over (Ok value) = true
+is_over (Err (Refused why)) = true
+is_over (Err LogFault) = false
+is_over (Err (MemberFault first second)) = false
+is_over (Err (Damaged offset)) = true
+is_over (Err Stopped) = false
+
+-- What a call makes of the state that the array stood for: unless it failed, the array stands for
+-- the next one. Stopped at any moment, the disks hold the state or the next one.
+pub record TakesTo {T : Type 0} (a b : Mounted) (next : State → State) (result : Result T Denied)
+    (old new : View) : Type 0 where
+  pub turned : IsTrue (is_over result) → Moves old new (AtAnyMoment a old next)
+      (StandsAfterCall a b old next)
+  pub any_moment : Moves old new (AtAnyMoment a old next) (AtAnyMoment a old next)
 
 -- the answer to a write is this reply
 abbrev pub WriteReplies : Result ℕ Denied → Reply → Type 0

@@ -33,7 +33,11 @@ of_write a time = record {
 
 -- the lost member's places are never read
 abbrev pub of_reading : Mounted → Option Refusal → Reasons
-of_reading a refusal = record { own = refusal; tight = ⊥; uses = λ member. a.head.lost ≢ Some member }
+of_reading a refusal = record {
+  own = refusal;
+  tight = ⊥;
+  uses = λ member. a.head.lost ≢ Some member;
+}
 
 abbrev pub of_read : Mounted → Reasons
 of_read a = of_reading a None
@@ -44,17 +48,20 @@ of_number a seq = of_reading a (number_refused a.index seq)
 abbrev pub of_time : Mounted → ℕ → Reasons
 of_time a time = of_reading a (time_refused a.index time)
 
--- A block that isn't there is refused first, and then a stopped array denies it. Then the array's own
--- numbers refuse it, whatever the bank tells. None of these makes a call of the bank. Where a disk
--- failed, its count rose.
-pub record DeniedBy {T : Type 0} (a : Mounted) (block : ℕ) (reasons : Reasons) (result : Result T Denied) (old new : View) : Type 0 where
+-- A block that isn't there is refused first, and then a stopped array denies it. Then the array's
+-- own numbers refuse it, whatever the bank tells. None of these makes a call of the bank. Where a
+-- disk failed, its count rose.
+pub record DeniedBy {T : Type 0} (a : Mounted) (block : ℕ) (reasons : Reasons)
+    (result : Result T Denied) (old new : View) : Type 0 where
   pub no_block : (result ≡ Err (Refused NoBlock)) ↔ (volume a.g ≤ block)
   pub stopped : (result ≡ Err Stopped) ↔ ((block < volume a.g) × (a.is_stopped ≡ true))
   pub untouched : (volume a.g ≤ block) ⊎ (a.is_stopped ≡ true) → Untouched old new
   pub at_once : (why : Refusal) → reasons.own ≡ Some why → Untouched old new
   pub refused : (why : Refusal) → why ≢ NoBlock → why ≢ Full
-      → (result ≡ Err (Refused why)) ↔ ((block < volume a.g) × (a.is_stopped ≡ false) × (reasons.own ≡ Some why))
+      → (result ≡ Err (Refused why)) ↔ ((block < volume a.g) × (a.is_stopped ≡ false)
+      × (reasons.own ≡ Some why))
   pub full : result ≡ Err (Refused Full) → reasons.tight
   pub log : result ≡ Err LogFault → Rose (old.faults 0) (new.faults 0)
-  pub member : (first second : ℕ) → result ≡ Err (MemberFault first second) → MemberFails a first second old new
+  pub member : (first second : ℕ) → result ≡ Err (MemberFault first second)
+      → MemberFails a first second old new
   pub used : (first second : ℕ) → result ≡ Err (MemberFault first second) → reasons.uses second

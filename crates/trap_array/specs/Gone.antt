@@ -7,7 +7,8 @@ use Rattle.trap_model.specs.declared.numbers.Geometry.{Geometry}
 use Rattle.trap_raid.specs.Members.{IsOut}
 use Rattle.trap_array.specs.Holding.{HoldsBy}
 
--- the disks hold the state, and no member is out but perhaps this one: by the head, or since its disk is absent
+-- the disks hold the state, and no member is out but perhaps this one: by the head, or since its
+-- disk is absent
 pub record HoldsBut (g : Geometry) (s : State) (m : ℕ) (disks : Disks) : Type 0 where
   pub head : Head
   pub by : HoldsBy g head s disks

@@ -1,8 +1,11 @@
--- How a write moves the head.
-use Rattle.std.specs.Prelude.{◌≡◌, ℕ, ◌+◌, ◌<◌, ◌≤◌, Result, Ok, Err}
+-- How a write moves the head, and what it adds to the index.
+use Rattle.std.specs.Prelude.{◌≡◌, ◌⊎◌, ℕ, ◌+◌, ◌<◌, ◌≤◌, Result, Ok, Err}
 use Rattle.trap_format.specs.declared.head.Head.{Head}
+use Rattle.trap_index.specs.Indexed.{Indexed, with_record, rec_len}
 use Rattle.trap_model.specs.Limits.{greatest_record}
+use Rattle.trap_model.specs.declared.log_record.LogRec.{LogRec}
 use Rattle.trap_model.specs.declared.numbers.Geometry.{Geometry}
+use Rattle.trap_mount.specs.Mounted.{Mounted}
 use Rattle.trap_array.specs.NextHead.{committed, drained_to}
 use Rattle.trap_array.specs.declared.fault.Denied.{Denied}
 use Rattle.trap_array.specs.declared.fault.Denied.TheVariants.{Refused, LogFault, MemberFault, Damaged, Stopped}
@@ -17,7 +20,14 @@ pub record Grows (h t : Head) : Type 0 where
   pub last : h.last ≤ t.last
   pub drained : h.drained ≤ t.drained
 
--- There was room for one entry more, with the next number. Its record stands right behind the
+-- what a call may make of the head: nothing that was committed is dropped or moved, and the same
+-- member is lost
+pub record IsLaterHead (h t : Head) : Type 0 where
+  pub grows : Grows h t
+  pub lost : t.lost ≡ h.lost
+  pub rebuilt : t.rebuilt ≡ h.rebuilt
+
+-- There was room for one entry more, with the next number. Its record stands right after the
 -- others.
 pub record HasOneMore (g : Geometry) (h t : Head) (time seq : ℕ) : Type 0 where
   pub number : seq ≡ h.last + 1
@@ -37,3 +47,28 @@ HeadAfter g h t time (Err LogFault) = Grows h t
 HeadAfter g h t time (Err (MemberFault first second)) = Grows h t
 HeadAfter g h t time (Err (Damaged offset)) = t ≡ h
 HeadAfter g h t time (Err Stopped) = t ≡ h
+
+-- the index has one record more
+pub record HasRecordMore (i j : Indexed) : Type 0 where
+  pub rec : LogRec
+  pub added : j ≡ with_record i rec
+
+-- The index has one record more: that of the entry with this number, time and block. It is as long
+-- as the head's window grew.
+pub record HasRecordOf (a b : Mounted) (seq time block : ℕ) : Type 0 where
+  pub rec : LogRec
+  pub added : b.index ≡ with_record a.index rec
+  pub number : rec.seq ≡ seq
+  pub time_is : rec.time ≡ time
+  pub block_is : rec.block ≡ block
+  pub long : b.head.end_off ≡ a.head.end_off + rec_len rec
+
+-- the index after a write: a refusal leaves it, and so may a fault
+abbrev pub IndexAfter : Mounted → Mounted → ℕ → ℕ → Result ℕ Denied → Type 0
+IndexAfter a b time block (Ok seq) = HasRecordOf a b seq time block
+IndexAfter a b time block (Err (Refused why)) = b.index ≡ a.index
+IndexAfter a b time block (Err LogFault) = (b.index ≡ a.index) ⊎ HasRecordMore a.index b.index
+IndexAfter a b time block (Err (MemberFault first second)) =
+    (b.index ≡ a.index) ⊎ HasRecordMore a.index b.index
+IndexAfter a b time block (Err (Damaged offset)) = b.index ≡ a.index
+IndexAfter a b time block (Err Stopped) = b.index ≡ a.index

@@ -1,4 +1,5 @@
--- What a read of an earlier instant needs below its contract: whether a number or a time is refused, and how it fails.
+-- What a read of an earlier instant needs below its contract: whether a number or a time is
+-- refused, and how it fails.
 use Rattle.std.specs.Prelude.{◌≡◌, ◌≢◌, ℕ, ◌<◌, ◌≤◌, List, Option, Some, None, IsTrue, nat_lt, if◌then◌else◌}
 use Rattle.trap_bank.specs.Disks.{Disks, View}
 use Rattle.trap_bank.specs.Faults.{Rose}
@@ -8,7 +9,7 @@ use Rattle.trap_model.specs.LogRecord.{LogRecord}
 use Rattle.trap_model.specs.declared.numbers.Geometry.{Geometry}
 use Rattle.trap_model.specs.declared.request.Refusal.{Refusal}
 use Rattle.trap_model.specs.declared.request.Refusal.TheVariants.{NoBlock, NotKept, Ahead}
-use Rattle.trap_raid.specs.Reads.{HasFailed}
+use Rattle.trap_raid.specs.Reads.{FailedMember}
 use Rattle.trap_ring.specs.Ring.{ring_pos, RingHas}
 use Rattle.trap_array.specs.Calls.{Mounted, HasSizes}
 use Rattle.trap_array.specs.Holding.{log_ring}
@@ -42,12 +43,14 @@ pub record HasInstant (i : Indexed) (seq : ℕ) : Type 0 where
   pub low : i.first ≤ seq
   pub high : seq ≤ last_seq i
 
--- Of a retained entry, whose record should begin at this byte of disk 0, no record with the known header stands there.
+-- Of a retained entry, whose record should begin at this byte of disk 0, no record with the known
+-- header stands there.
 pub record HasBadRecord (g : Geometry) (i : Indexed) (disks : Disks) (offset : ℕ) : Type 0 where
   pub seq : ℕ
   pub entry : HasEntry i seq
   pub place : offset ≡ ring_pos (log_ring g) (item_at i seq).off
-  pub none : (parity snapshot bytes : List ℕ) → LogRecord g.block (rec_of seq (item_at i seq)) parity snapshot bytes
+  pub none : (parity snapshot bytes : List ℕ)
+      → LogRecord g.block (rec_of seq (item_at i seq)) parity snapshot bytes
       → RingHas (log_ring g) (item_at i seq).off bytes disks → ⊥
 
 -- the log's disk failed, and its count of faults rose, or a record isn't the one that was there
@@ -55,20 +58,23 @@ abbrev pub FailsRecord : Mounted → View → View → Denied → Type 0
 FailsRecord a old new (Refused why) = ⊥
 FailsRecord a old new LogFault = Rose (old.faults 0) (new.faults 0)
 FailsRecord a old new (MemberFault first second) = ⊥
-FailsRecord a old new (Damaged offset) = IsTrue old.tells → HasBadRecord a.g a.index old.now.disks offset
+FailsRecord a old new (Damaged offset) = IsTrue old.tells
+    → HasBadRecord a.g a.index old.now.disks offset
 FailsRecord a old new Stopped = ⊥
 
--- A member failed that isn't the lost one, and the count of its disk rose. Both numbers are its own.
+-- A member failed that isn't the lost one, and the count of its disk rose. Both numbers are its
+-- own.
 pub record FailsRead (a : Mounted) (first second : ℕ) (old new : View) : Type 0 where
   pub same : first ≡ second
-  pub member : HasFailed a.g a.head.lost old new second
+  pub member : FailedMember a.g a.head.lost old new second
 
 -- A disk failed, and its count of faults rose, or a record isn't the one that was there.
 abbrev pub FailsLooking : Mounted → View → View → Denied → Type 0
 FailsLooking a old new (Refused why) = ⊥
 FailsLooking a old new LogFault = Rose (old.faults 0) (new.faults 0)
 FailsLooking a old new (MemberFault first second) = FailsRead a first second old new
-FailsLooking a old new (Damaged offset) = IsTrue old.tells → HasBadRecord a.g a.index old.now.disks offset
+FailsLooking a old new (Damaged offset) = IsTrue old.tells
+    → HasBadRecord a.g a.index old.now.disks offset
 FailsLooking a old new Stopped = ⊥
 
 -- the same, or an instant of a block that is there is refused
@@ -76,5 +82,6 @@ abbrev pub DeniesInstant : Mounted → View → View → Denied → Type 0
 DeniesInstant a old new (Refused why) = why ≢ NoBlock
 DeniesInstant a old new LogFault = Rose (old.faults 0) (new.faults 0)
 DeniesInstant a old new (MemberFault first second) = FailsRead a first second old new
-DeniesInstant a old new (Damaged offset) = IsTrue old.tells → HasBadRecord a.g a.index old.now.disks offset
+DeniesInstant a old new (Damaged offset) = IsTrue old.tells
+    → HasBadRecord a.g a.index old.now.disks offset
 DeniesInstant a old new Stopped = ⊥

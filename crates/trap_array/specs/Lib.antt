@@ -2,11 +2,11 @@ pub use Rattle.trap_mount.specs.Holding
 pub mod Log
 pub mod NextHead
 pub mod Beside
+pub mod Growing
 pub mod Calls
 pub mod Causes
 pub mod Untouched
 pub mod Owed
-pub mod Growing
 pub mod Areas
 pub mod Taking
 pub mod Ready
@@ -15,6 +15,7 @@ pub mod Gone
 pub use Rattle.trap_mount.specs.OnDisks
 pub use Rattle.trap_mount.specs.Mounting
 pub use Rattle.trap_mount.specs.MountEnds
+pub use Rattle.trap_mount.specs.CreateEnds
 pub use Rattle.trap_mount.specs.Creating
 pub use Rattle.trap_mount.specs.MountSteps
 pub use Rattle.trap_mount.specs.Reading

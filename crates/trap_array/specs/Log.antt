@@ -7,10 +7,10 @@ use Rattle.trap_index.specs.Indexed.{Indexed, last_seq, last_time}
 use Rattle.trap_model.specs.declared.numbers.Geometry.{Geometry}
 use Rattle.trap_stage.specs.Slots.{Stage, last_of}
 use Rattle.trap_array.specs.Holding.{head_place}
-pub use Rattle.trap_mount.specs.Memory.{Buffers, AreFor}
+pub use Rattle.trap_mount.specs.Memory.{Buffers, HaveBlocksOf}
 
--- the log's disk as an array knows it: its numbers, the head that was put last, the head's cell, the pending writes, and
--- an index of the retained records
+-- the log's disk as an array knows it: its numbers, the head that was put last, the head's cell,
+-- the pending writes, and an index of the retained records
 pub record Log : Type 0 where
   pub g : Geometry
   pub head : Head
@@ -18,16 +18,18 @@ pub record Log : Type 0 where
   pub stage : Stage
   pub index : Indexed
 
--- the head is one of such an array, and cell, stage and index are the array's; an array has one staging slot
-pub record IsLog (g : Geometry) (head : Head) (cell : Slots) (stage : Stage) (index : Indexed) : Type 0 where
+-- the head is one of such an array, and cell, stage and index are the array's; an array has one
+-- staging slot
+pub record IsLog (g : Geometry) (head : Head) (cell : Slots) (stage : Stage)
+    (index : Indexed) : Type 0 where
   pub is_head : IsHead g head
   pub one_slot : g.slots ≡ 1
   pub place : cell.place ≡ head_place
   pub same : stage.g ≡ g
   pub indexed : index.g ≡ g
 
--- the pending writes are those between the head's numbers, and the index has its first and last number, its first offset and its
--- last time
+-- the pending writes are those between the head's numbers, and the index has its first and last
+-- number, its first offset and its last time
 pub record AreInStep (head : Head) (stage : Stage) (index : Indexed) : Type 0 where
   pub drained : stage.drained ≡ head.drained
   pub last : last_of stage ≡ head.last
@@ -36,7 +38,8 @@ pub record AreInStep (head : Head) (stage : Stage) (index : Indexed) : Type 0 wh
   pub end : last_seq index ≡ head.last
   pub time : last_time index ≡ head.last_time
 
--- what holds of a mounted array: unless a fault has stopped it, its pending writes and its index are those of its head
+-- what holds of a mounted array: unless a fault has stopped it, its pending writes and its index
+-- are those of its head
 pub record IsArray (log : Log) (buffers : Buffers) (is_stopped : Bool) : Type 0 where
-  pub room : AreFor log.g.block buffers
+  pub room : HaveBlocksOf log.g.block buffers
   pub in_step : is_stopped ≡ false → AreInStep log.head log.stage log.index

@@ -18,7 +18,7 @@ pending_writes h = h.last - h.drained
 abbrev pub left_pending : Geometry → ℕ → ℕ
 left_pending g before = if before == g.slots then 0 else before
 
--- How many writes are pending after a request with this reply, where so many were before. A write
+-- How many writes are pending after a request with this reply, where that many were before. A write
 -- makes a slot free before it finds that there is no room for its record. One that is kept is
 -- drained before it is answered.
 abbrev pub owed : Geometry → Request → Reply → ℕ → ℕ

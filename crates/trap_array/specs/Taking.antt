@@ -1,13 +1,13 @@
 -- What a write of a mounted array does.
 use Rattle.std.specs.Prelude.{◌≡◌, ℕ, List, IsTrue, IfSome, Result}
 use Rattle.trap_bank.specs.Disks.{View}
-use Rattle.trap_bank.specs.Steps.{Moves, Always}
+use Rattle.trap_bank.specs.Steps.{Always}
 use Rattle.trap_model.specs.ArrayStep.{step}
 use Rattle.trap_model.specs.declared.history.State.{State}
 use Rattle.trap_model.specs.declared.request.Request.TheVariants.{Write}
 use Rattle.trap_array.specs.Areas.{Touches, InWrite}
-use Rattle.trap_array.specs.Calls.{Mounted, StandsFor, MayTurn, HasTurned, WriteReplies, is_done}
-use Rattle.trap_array.specs.Growing.{HeadAfter}
+use Rattle.trap_array.specs.Calls.{Mounted, StandsFor, TakesTo, WriteReplies}
+use Rattle.trap_array.specs.Growing.{HeadAfter, IndexAfter}
 use Rattle.trap_array.specs.Owed.{owed, pending_writes, reply_of_write}
 use Rattle.trap_array.specs.declared.fault.Denied.{Denied}
 
@@ -17,15 +17,16 @@ after_write a time block bytes s = (step a.g).next s (Write time block bytes)
 
 -- What a write did: its answer is the model's reply to the state that the array stood for, and
 -- after it the array stands for the next state. Stopped at any moment, the disks hold the one or
--- the other, and no byte changed that such a write may not touch. Its head and the number of its
--- pending writes are those that follow from the answer.
-pub record TakesStep (a b : Mounted) (time block : ℕ) (bytes : List ℕ) (result : Result ℕ Denied) (old new : View) : Type 0 where
+-- the other, and no byte changed that such a write may not touch. Its head, its index and the
+-- number of its pending writes are those that follow from the answer.
+pub record TakesStep (a b : Mounted) (time block : ℕ) (bytes : List ℕ) (result : Result ℕ Denied)
+    (old new : View) : Type 0 where
   pub reply : IsTrue old.tells → (s : State) → Always old (StandsFor a s)
       → WriteReplies result ((step a.g).reply s (Write time block bytes))
-  pub turned : IsTrue (is_done result)
-      → Moves old new (MayTurn a old (after_write a time block bytes)) (HasTurned a b old (after_write a time block bytes))
-  pub any_moment : Moves old new (MayTurn a old (after_write a time block bytes)) (MayTurn a old (after_write a time block bytes))
+  pub state : TakesTo a b (after_write a time block bytes) result old new
   pub head : HeadAfter a.g a.head b.head time result
+  pub index : IndexAfter a b time block result
   pub touches : Touches (InWrite a block) old new
   pub pending : IfSome (reply_of_write result)
-      (λ reply. pending_writes b.head ≡ owed a.g (Write time block bytes) reply (pending_writes a.head))
+      (λ reply. pending_writes b.head ≡ owed a.g (Write time block bytes) reply
+      (pending_writes a.head))

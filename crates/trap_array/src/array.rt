@@ -5,7 +5,7 @@ ghost use Rattle.trap_format.specs.HeadValue.{IsHead};
 ghost use Rattle.trap_index.specs.Indexed.{last_seq, last_time};
 ghost use Rattle.trap_stage.specs.Slots.{last_of};
 ghost use Rattle.trap_array.specs.Holding.{head_place};
-ghost use Rattle.trap_array.specs.Log.{AreFor};
+ghost use Rattle.trap_array.specs.Log.{HaveBlocksOf};
 
 use crate::log::Log;
 use std::marker::Model;
@@ -16,8 +16,9 @@ use trap_model::Geometry;
 use trap_mount::Buffers;
 use trap_stage::Stage;
 
-/// An array that is mounted: what its log's head says, its pending writes, and the index of its records. After a fault it is stopped, and is of
-/// no further use: mount it again. Its memory was taken at mounting: no call takes more.
+/// An array that is mounted: what its log's head says, its pending writes, and the index of its
+/// records. After a fault it is stopped, and is of no further use: mount it again. Its memory was
+/// taken at mounting: no call takes more.
 #[derive(Drop)]
 pub struct Array {
     pub(crate) log: Log,
@@ -64,8 +65,15 @@ impl Array {
         requires offset { index.first_off ≡ head.first_off }
         requires end { last_seq index ≡ head.last }
         requires time { last_time index ≡ head.last_time }
-        requires buffers { AreFor g.block buffers }
-        ensures { result ≡ record { g = g; head = head; cell = cell; pending = stage.pending; index = index; is_stopped = false } }
+        requires buffers { HaveBlocksOf g.block buffers }
+        ensures { result ≡ record {
+          g = g;
+          head = head;
+          cell = cell;
+          pending = stage.pending;
+          index = index;
+          is_stopped = false;
+        } }
     {
         Array {
             log: Log {

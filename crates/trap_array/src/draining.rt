@@ -1,13 +1,12 @@
 //! The drain: pending writes onto the members.
 
-ghost use Rattle.std.specs.Prelude.{◌≡◌, ℕ, [], OnOk, OnErr, IfErr};
-ghost use Rattle.trap_bank.specs.Steps.{Moves, Always};
-ghost use Rattle.trap_cell.specs.Slots.{Stands};
+ghost use Rattle.std.specs.Prelude.{◌≡◌, ◌≤◌, ◌-◌, ℕ, [], take, OnOk, OnErr, IfErr};
+ghost use Rattle.trap_bank.specs.Steps.{Moves};
 ghost use Rattle.trap_array.specs.Areas.{Touches, InDrain};
-ghost use Rattle.trap_array.specs.Calls.{GoesOn, MayTurn, HasTurned, going};
+ghost use Rattle.trap_array.specs.Calls.{SameArray, AtAnyMoment, StandsAfterCall, running};
 ghost use Rattle.trap_array.specs.Log.{AreInStep};
 ghost use Rattle.trap_array.specs.NextHead.{drained_to};
-ghost use Rattle.trap_array.specs.Ready.{CanDrain};
+ghost use Rattle.trap_array.specs.Ready.{CanDrain, KnowsCell};
 ghost use Rattle.trap_array.specs.Turning.{IsFaultOf};
 
 use crate::Denied;
@@ -17,39 +16,79 @@ use trap_format::Head;
 use trap_raid::Raid;
 
 impl Log {
-    /// Puts all pending writes onto the members, and then the head that says so.
-    pub(crate) fn drain<B: Bank>(&mut self, bank: &mut B) -> Result<(), Denied>
+    /// Puts the pending writes up to a number onto the members, and then the head that says so.
+    pub(crate) fn drain<B: Bank>(&mut self, bank: &mut B, upto: u64) -> Result<(), Denied>
         requires can { CanDrain self.old (B.view bank.old) }
+        requires low { self.old.head.drained ≤ upto }
+        requires high { upto ≤ self.old.head.last }
         ensures ok { OnOk result (Moves (B.view bank.old) (B.view bank.new)
-            (MayTurn (going self.old) (B.view bank.old) (λ s. s))
-            (HasTurned (going self.old) (going self.new) (B.view bank.old) (λ s. s))) }
-        ensures head { OnOk result (self.new.head ≡ drained_to self.old.head self.old.head.last) }
+            (AtAnyMoment (running self.old) (B.view bank.old) (λ s. s))
+            (StandsAfterCall (running self.old) (running self.new) (B.view bank.old) (λ s. s))) }
+        ensures head { OnOk result (self.new.head ≡ drained_to self.old.head upto) }
         ensures head_stays { OnErr result (self.new.head ≡ self.old.head) }
-        ensures pending { OnOk result (self.new.stage.pending ≡ []) }
+        ensures pending { OnOk result (self.new.stage.pending
+            ≡ take (self.old.head.last - upto) self.old.stage.pending) }
         ensures in_step { OnOk result (AreInStep self.new.head self.new.stage self.new.index) }
-        ensures stands { OnOk result (Always (B.view bank.new) (Stands self.new.cell)) }
-        ensures goes_on { GoesOn (going self.old) (going self.new) }
+        ensures index { self.new.index ≡ self.old.index }
+        ensures cell { OnOk result (KnowsCell self.new (B.view bank.new)) }
+        ensures goes_on { SameArray (running self.old) (running self.new) }
         ensures sizes { (e : ℕ) → (B.view bank.new).sizes e ≡ (B.view bank.old).sizes e }
-        ensures touches { Touches (InDrain (going self.old)) (B.view bank.old) (B.view bank.new) }
-        ensures cause { IfErr result (IsFaultOf (going self.old) (B.view bank.old) (B.view bank.new)) }
+        ensures touches { Touches (InDrain (running self.old)) (B.view bank.old) (B.view bank.new) }
+        ensures cause { IfErr result (IsFaultOf (running self.old) (B.view bank.old)
+            (B.view bank.new)) }
 
         // Stopped at any moment, the disks hold the same state.
         ensures any_moment { Moves (B.view bank.old) (B.view bank.new)
-            (MayTurn (going self.old) (B.view bank.old) (λ s. s))
-            (MayTurn (going self.old) (B.view bank.old) (λ s. s)) }
+            (AtAnyMoment (running self.old) (B.view bank.old) (λ s. s))
+            (AtAnyMoment (running self.old) (B.view bank.old) (λ s. s)) }
     {
-        let upto = self.head.last;
         let next = Head {
             drained: upto,
             ..self.head
         };
         let value = value_of(&next);
         let raid = Raid::new(self.g, self.head.lost, self.head.rebuilt);
-        // The writes are on the members before the head has them drained, and their slots may be filled again.
+        // The writes are on the members before the head has them drained, and their slots may be
+        // filled again.
         raid.drain(bank, &self.stage, upto)?;
         self.cell.put(bank, &value)?;
         self.stage.forget_to(upto);
         self.head = next;
         Ok(())
+    }
+
+    /// Puts all pending writes onto the members, likewise.
+    pub(crate) fn drain_all<B: Bank>(&mut self, bank: &mut B) -> Result<(), Denied>
+        requires can { CanDrain self.old (B.view bank.old) }
+        ensures ok { OnOk result (Moves (B.view bank.old) (B.view bank.new)
+            (AtAnyMoment (running self.old) (B.view bank.old) (λ s. s))
+            (StandsAfterCall (running self.old) (running self.new) (B.view bank.old) (λ s. s))) }
+        ensures head { OnOk result (self.new.head ≡ drained_to self.old.head self.old.head.last) }
+        ensures head_stays { OnErr result (self.new.head ≡ self.old.head) }
+        ensures pending { OnOk result (self.new.stage.pending ≡ []) }
+        ensures in_step { OnOk result (AreInStep self.new.head self.new.stage self.new.index) }
+        ensures index { self.new.index ≡ self.old.index }
+        ensures cell { OnOk result (KnowsCell self.new (B.view bank.new)) }
+        ensures goes_on { SameArray (running self.old) (running self.new) }
+        ensures sizes { (e : ℕ) → (B.view bank.new).sizes e ≡ (B.view bank.old).sizes e }
+        ensures touches { Touches (InDrain (running self.old)) (B.view bank.old) (B.view bank.new) }
+        ensures cause { IfErr result (IsFaultOf (running self.old) (B.view bank.old)
+            (B.view bank.new)) }
+        ensures any_moment { Moves (B.view bank.old) (B.view bank.new)
+            (AtAnyMoment (running self.old) (B.view bank.old) (λ s. s))
+            (AtAnyMoment (running self.old) (B.view bank.old) (λ s. s)) }
+    {
+        let last = self.last_number();
+        self.drain(bank, last)
+    }
+
+    /// The number of the last entry.
+    pub(crate) fn last_number(&self) -> u64
+        ensures last { result ≡ self.now.head.last }
+
+        // What the type says of the head.
+        ensures order { self.now.head.drained ≤ self.now.head.last }
+    {
+        self.head.last
     }
 }

@@ -1,12 +1,13 @@
 //! The present contents of a block, from the members and the pending writes.
 
 ghost use Rattle.std.specs.Prelude.{◌≡◌, ◌<◌, length, IsTrue, OnOk, IfErr};
+ghost use Rattle.trap_bank.specs.Steps.{OnlyReads};
 ghost use Rattle.trap_model.specs.Image.{volume, block_of};
 ghost use Rattle.trap_model.specs.State.{image};
 ghost use Rattle.trap_model.specs.declared.history.State.{State};
-ghost use Rattle.trap_raid.specs.Reads.{OnlyReads, HasFailed};
-ghost use Rattle.trap_array.specs.Calls.{StandsFor, HasSizes, going};
-ghost use Rattle.trap_array.specs.Log.{AreFor};
+ghost use Rattle.trap_raid.specs.Reads.{FailedMember};
+ghost use Rattle.trap_array.specs.Calls.{StandsFor, HasSizes, running};
+ghost use Rattle.trap_array.specs.Log.{HaveBlocksOf};
 ghost use Rattle.trap_array.specs.Sources.{CallsAtMost, present_reads};
 
 use crate::log::Log;
@@ -24,15 +25,18 @@ impl Log {
         into: &mut [u8],
         scratch: &mut [u8],
     ) -> Result<(), MemberFailed>
-        requires sizes { HasSizes self.now.g self.now.head.lost self.now.head.rebuilt (B.view bank.old) }
+        requires sizes { HasSizes self.now.g self.now.head.lost self.now.head.rebuilt
+            (B.view bank.old) }
         requires block { block < volume self.now.g }
         requires into { length into.old ≡ self.now.g.block }
         requires scratch { length scratch.old ≡ self.now.g.block }
-        ensures bytes { IsTrue (B.view bank.old).tells → (s : State) → StandsFor (going self.now) s (B.view bank.old).now.disks
+        ensures bytes { IsTrue (B.view bank.old).tells → (s : State)
+            → StandsFor (running self.now) s (B.view bank.old).now.disks
             → OnOk result (into.new ≡ block_of (image s) block) }
-        ensures cause { IfErr result (λ failed. HasFailed self.now.g self.now.head.lost
+        ensures cause { IfErr result (λ failed. FailedMember self.now.g self.now.head.lost
             (B.view bank.old) (B.view bank.new) failed.member) }
-        ensures calls { CallsAtMost (present_reads self.now.g self.now.head.lost) (B.view bank.old) (B.view bank.new) }
+        ensures calls { CallsAtMost (present_reads self.now.g self.now.head.lost) (B.view bank.old)
+            (B.view bank.new) }
         ensures any_moment { OnlyReads (B.view bank.old) (B.view bank.new) }
 
         // What the type says of the index.
@@ -51,16 +55,19 @@ impl Log {
         block: u32,
         into: &mut [u8],
     ) -> Result<(), MemberFailed>
-        requires room { AreFor self.now.g.block room.old }
-        requires sizes { HasSizes self.now.g self.now.head.lost self.now.head.rebuilt (B.view bank.old) }
+        requires room { HaveBlocksOf self.now.g.block room.old }
+        requires sizes { HasSizes self.now.g self.now.head.lost self.now.head.rebuilt
+            (B.view bank.old) }
         requires block { block < volume self.now.g }
         requires into { length into.old ≡ self.now.g.block }
-        ensures bytes { IsTrue (B.view bank.old).tells → (s : State) → StandsFor (going self.now) s (B.view bank.old).now.disks
+        ensures bytes { IsTrue (B.view bank.old).tells → (s : State)
+            → StandsFor (running self.now) s (B.view bank.old).now.disks
             → OnOk result (into.new ≡ block_of (image s) block) }
-        ensures room { AreFor self.now.g.block room.new }
-        ensures cause { IfErr result (λ failed. HasFailed self.now.g self.now.head.lost
+        ensures room { HaveBlocksOf self.now.g.block room.new }
+        ensures cause { IfErr result (λ failed. FailedMember self.now.g self.now.head.lost
             (B.view bank.old) (B.view bank.new) failed.member) }
-        ensures calls { CallsAtMost (present_reads self.now.g self.now.head.lost) (B.view bank.old) (B.view bank.new) }
+        ensures calls { CallsAtMost (present_reads self.now.g self.now.head.lost) (B.view bank.old)
+            (B.view bank.new) }
         ensures any_moment { OnlyReads (B.view bank.old) (B.view bank.new) }
     {
         self.fetch(bank, block, into, room.scratch.as_mut_slice())

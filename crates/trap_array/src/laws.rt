@@ -7,10 +7,12 @@ ghost use Rattle.trap_model.specs.declared.numbers.Geometry.{Geometry};
 ghost use Rattle.trap_array.specs.Gone.{HoldsBut, IsRemoved};
 ghost use Rattle.trap_array.specs.Holding.{Holds};
 
-/// Where no other member is out, the disk of any one may be removed: the disks hold the same state, and still no other
-/// is out.
+/// Where no other member is out, the disk of any one may be removed: the disks hold the same state,
+/// and still no other is out.
 pub fn one_gone()
-    ensures holds { (g : Geometry) (s : State) (m : ℕ) (x y : Disks) → HoldsBut g s m x → IsRemoved m x y → Holds g s y }
-    ensures others { (g : Geometry) (s : State) (m : ℕ) (x y : Disks) → HoldsBut g s m x → IsRemoved m x y
+    ensures holds { (g : Geometry) (s : State) (m : ℕ) (x y : Disks) → HoldsBut g s m x
+        → IsRemoved m x y → Holds g s y }
+    ensures others { (g : Geometry) (s : State) (m : ℕ) (x y : Disks) → HoldsBut g s m x
+        → IsRemoved m x y
         → HoldsBut g s m y }
 {}

@@ -7,7 +7,6 @@ mod denied;
 mod draining;
 mod fault;
 mod fetch;
-mod keep;
 pub mod laws;
 mod log;
 mod log_past;
@@ -17,11 +16,13 @@ mod past;
 mod past_tests;
 mod planning;
 mod read;
+mod refusals;
 mod source;
 mod span;
 #[cfg(test)]
 mod span_tests;
 mod write;
+mod writing;
 
 pub use array::Array;
 pub use fault::Denied;

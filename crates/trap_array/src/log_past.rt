@@ -3,7 +3,7 @@
 ghost use Rattle.std.specs.Prelude.{◌≡◌, length};
 ghost use Rattle.std.proofs.Common.{◌∙◌};
 ghost use Rattle.trap_model.specs.Limits.{greatest_record};
-ghost use Rattle.trap_array.specs.Sources.{IsFor, past_of, LooksOn, LooksInVain};
+ghost use Rattle.trap_array.specs.Sources.{IsFor, past_of, OnlyLooked, LookFailed};
 ghost use Rattle.trap_array.specs.SourceLaws.{looks_then, vain_since, vain_still};
 
 use crate::Denied;
@@ -30,19 +30,44 @@ impl<B: Bank> Present for LogPast<'_, '_, '_, B> {
     type Fault = Denied;
 
     ghost view = { λ p. past_of p.log.now (B.view p.bank.now)
-        (record { presents = p.presents; parities = p.parities; snapshots = p.snapshots; faults = p.faults }) };
+        (record {
+          presents = p.presents;
+          parities = p.parities;
+          snapshots = p.snapshots;
+          faults = p.faults;
+        }) };
 
     // The source keeps its log and its bank.
     ghost goes = { λ p q. (p.bank.ghost_name ≡ q.bank.ghost_name) × ((p.log.now ≡ q.log.now)
-        × LooksOn p.log.now
-        (record { presents = p.presents; parities = p.parities; snapshots = p.snapshots; faults = p.faults })
-        (record { presents = q.presents; parities = q.parities; snapshots = q.snapshots; faults = q.faults })
+        × OnlyLooked p.log.now
+        (record {
+          presents = p.presents;
+          parities = p.parities;
+          snapshots = p.snapshots;
+          faults = p.faults;
+        })
+        (record {
+          presents = q.presents;
+          parities = q.parities;
+          snapshots = q.snapshots;
+          faults = q.faults;
+        })
         (B.view p.bank.now) (B.view q.bank.now)) };
 
     ghost causes = { λ p q fault. (p.log.now ≡ q.log.now)
-        × LooksInVain p.log.now
-        (record { presents = p.presents; parities = p.parities; snapshots = p.snapshots; faults = p.faults })
-        (record { presents = q.presents; parities = q.parities; snapshots = q.snapshots; faults = q.faults })
+        × LookFailed p.log.now
+        (record {
+          presents = p.presents;
+          parities = p.parities;
+          snapshots = p.snapshots;
+          faults = p.faults;
+        })
+        (record {
+          presents = q.presents;
+          parities = q.parities;
+          snapshots = q.snapshots;
+          faults = q.faults;
+        })
         (B.view p.bank.now) (B.view q.bank.now) fault };
 
     fn present(&mut self, block: u32, into: &mut [u8], scratch: &mut [u8]) -> Result<(), Denied> {
@@ -56,11 +81,14 @@ impl<B: Bank> Present for LogPast<'_, '_, '_, B> {
         }
     }
 
-    ghost goes_then = { λ a b c ab bc. (ab.0 ∙ bc.0, (ab.1.0 ∙ bc.1.0, looks_then _ _ _ _ _ _ _ _ ab.1.0 ab.1.1 bc.1.1)) };
+    ghost goes_then = { λ a b c ab bc.
+        (ab.0 ∙ bc.0, (ab.1.0 ∙ bc.1.0, looks_then _ _ _ _ _ _ _ _ ab.1.0 ab.1.1 bc.1.1)) };
 
-    ghost causes_since = { λ a b c fault ab bc. (ab.1.0 ∙ bc.0, vain_since _ _ _ _ _ _ _ _ fault ab.1.0 ab.1.1 bc.1) };
+    ghost causes_since = { λ a b c fault ab bc.
+        (ab.1.0 ∙ bc.0, vain_since _ _ _ _ _ _ _ _ fault ab.1.0 ab.1.1 bc.1) };
 
-    ghost causes_still = { λ a b c fault ab bc. (ab.0 ∙ bc.1.0, vain_still _ _ _ _ _ _ _ _ fault ab.0 ab.1 bc.1.1) };
+    ghost causes_still = { λ a b c fault ab bc.
+        (ab.0 ∙ bc.1.0, vain_still _ _ _ _ _ _ _ _ fault ab.0 ab.1 bc.1.1) };
 }
 
 impl<B: Bank> Parities for LogPast<'_, '_, '_, B> {

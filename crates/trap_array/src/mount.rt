@@ -1,13 +1,7 @@
 //! Mounting: the state is found again, whatever a crash left.
 
 ghost use Rattle.std.specs.Prelude.{◌≡◌, ◌≢◌, ℕ, IsTrue, IsErrOf, IfOk, IfErr};
-ghost use Rattle.trap_bank.specs.Disks.{Quiet};
-ghost use Rattle.trap_bank.specs.Steps.{Moves};
-ghost use Rattle.trap_format.specs.declared.head.Head.{Head};
-ghost use Rattle.trap_model.specs.declared.numbers.Geometry.{Geometry};
-ghost use Rattle.trap_model.specs.declared.history.State.{State};
-ghost use Rattle.trap_array.specs.Holding.{HoldsBy};
-ghost use Rattle.trap_array.specs.Mounting.{IsNoLog, Mounts, FoundLost, WritesHead};
+ghost use Rattle.trap_array.specs.Mounting.{IsNoLog, KeepsEachState, WritesHead};
 ghost use Rattle.trap_array.specs.MountEnds.{MountsFor, MountEnds};
 ghost use Rattle.trap_mount.specs.declared.fault.MountFault.{MountFault};
 
@@ -17,29 +11,26 @@ use trap_bank::Bank;
 use trap_mount::MountFault;
 
 impl Array {
-    /// Mounts the array that the disks hold. Nothing is written but the head, and that as the last step, where a
-    /// member is newly out or its rebuilt rows no longer count.
+    /// Mounts the array that the disks hold. Nothing is written but the head, and that as the last
+    /// step, where a member is newly out or its rebuilt rows no longer count.
     pub fn mount<B: Bank>(alloc: Global, bank: &mut B) -> Result<Array, MountFault>
         ensures mounted { IfOk result (λ a. MountsFor a (B.view bank.old) (B.view bank.new)) }
         ensures ended { IfErr result (λ why. MountEnds why (B.view bank.old) (B.view bank.new)) }
-        ensures no_log { IsNoLog ((B.view bank.old).sizes 0) → IsErrOf result MountFault.NotAnArray }
+        ensures no_log { IsNoLog ((B.view bank.old).sizes 0)
+            → IsErrOf result MountFault.NotAnArray }
         ensures sizes { (e : ℕ) → (B.view bank.new).sizes e ≡ (B.view bank.old).sizes e }
-        ensures contents { IsTrue (B.view bank.old).tells
-            → Quiet (Mounts (B.view bank.old)) (B.view bank.old).now (B.view bank.new).now }
 
-        // Whatever the answer, no disk but the log changes. A member is lost only where it was out.
-        ensures others { IsTrue (B.view bank.old).tells
-            → (e : ℕ) → e ≢ 0 → (B.view bank.new).now.disks e ≡ (B.view bank.old).now.disks e }
-        ensures lost { (g : Geometry) (h k : Head) (s t : State) → IsTrue (B.view bank.old).tells
-            → HoldsBy g h s (B.view bank.old).now.disks → HoldsBy g k t (B.view bank.new).now.disks
-            → FoundLost g h k (B.view bank.old) (B.view bank.new) }
+        // Whatever the answer, no disk but the log changes.
+        ensures others { IsTrue (B.view bank.old).tells → (e : ℕ) → e ≢ 0
+            → (B.view bank.new).now.disks e ≡ (B.view bank.old).now.disks e }
 
-        // Stopped at any moment, the disks are as they were, but perhaps for the slot of the head's cell that isn't
-        // current; or they hold what they held.
-        ensures any_moment { Moves (B.view bank.old) (B.view bank.new)
-            (Mounts (B.view bank.old)) (Mounts (B.view bank.old)) }
+        // Stopped at any moment, the disks are as they were, but perhaps for the slot of the head's
+        // cell that isn't current; or they hold what they held. A member is lost only where it was
+        // out.
+        ensures keeps { KeepsEachState (B.view bank.old) (B.view bank.new) }
 
-        // Nothing is written but the head, over whatever disks, and that only where the lost member or its mark changed.
+        // Nothing is written but the head, over whatever disks, and that only where the lost member
+        // or its mark changed.
         ensures writes { WritesHead (B.view bank.old) (B.view bank.new) }
     {
         let found = trap_mount::mount(alloc, bank)?;

@@ -1,15 +1,16 @@
-//! The records of retained entries, which are read again; and a block as it was, over the log as a source.
+//! The records of retained entries, which are read again; and a block as it was, over the log as a
+//! source.
 
 ghost use Rattle.std.specs.Prelude.{◌≡◌, ℕ, ◌^◌, ◌<◌, ◌≤◌, length, IsTrue, IsErrOf, IfErr, OnOk};
+ghost use Rattle.trap_bank.specs.Steps.{OnlyReads};
 ghost use Rattle.trap_index.specs.Indexed.{item_at};
 ghost use Rattle.trap_index.specs.Keeping as keeping;
 ghost use Rattle.trap_model.specs.Image.{volume, block_of};
 ghost use Rattle.trap_model.specs.Limits.{greatest_record};
 ghost use Rattle.trap_model.specs.State.{image_at};
 ghost use Rattle.trap_model.specs.declared.history.State.{State};
-ghost use Rattle.trap_raid.specs.Reads.{OnlyReads};
 ghost use Rattle.trap_ring.specs.Ring.{ring_pos};
-ghost use Rattle.trap_array.specs.Calls.{StandsFor, going};
+ghost use Rattle.trap_array.specs.Calls.{StandsFor, running};
 ghost use Rattle.trap_array.specs.Holding.{log_ring};
 ghost use Rattle.trap_array.specs.Instants.{CanLookBack, HasEntry, HasInstant, FailsLooking, FailsRecord};
 ghost use Rattle.trap_array.specs.Sources.{CallsAtMost, part_block, reads_back};
@@ -19,14 +20,12 @@ ghost use Rattle.trap_record.specs.declared.parts.Part.TheVariants as Part;
 use crate::Denied;
 use crate::log::{Log, ring_of};
 use crate::log_past::LogPast;
+use crate::planning::HEADER_BYTES;
 use trap_bank::Bank;
 use trap_index::Item;
 use trap_model::LogRec;
 use trap_past::block_at;
 use trap_record::{Part, read_part};
-
-/// How many bytes a record's header has.
-const HEADER: usize = 26;
 
 /// The header that the record of an item has.
 fn rec_of(seq: u64, item: &Item) -> LogRec
@@ -43,8 +42,8 @@ fn rec_of(seq: u64, item: &Item) -> LogRec
 }
 
 impl Log {
-    /// Fills `into` with a block's contents after the entry with this number. `scratch` is a block, `spelled` has room for
-    /// a record; both hold any bytes then.
+    /// Fills `into` with a block's contents after the entry with this number. `scratch` is a block,
+    /// `spelled` has room for a record; both hold any bytes then.
     pub(crate) fn undo<B: Bank>(
         &self,
         bank: &mut B,
@@ -60,12 +59,17 @@ impl Log {
         requires into { length into.old ≡ self.now.g.block }
         requires scratch { length scratch.old ≡ self.now.g.block }
         requires spelled { length spelled.old ≡ greatest_record self.now.g.block }
-        ensures contents { IsTrue (B.view bank.old).tells → (s : State) → StandsFor (going self.now) s (B.view bank.old).now.disks
+        ensures contents { IsTrue (B.view bank.old).tells → (s : State)
+            → StandsFor (running self.now) s (B.view bank.old).now.disks
             → OnOk result (into.new ≡ block_of (image_at s seq) block) }
-        ensures damaged { (offset : ℕ) → IsErrOf result (Denied.Damaged offset) → IsTrue (B.view bank.old).tells
-            → (s : State) → StandsFor (going self.now) s (B.view bank.old).now.disks → ⊥ }
-        ensures cause { IfErr result (FailsLooking (going self.now) (B.view bank.old) (B.view bank.new)) }
-        ensures calls { CallsAtMost (reads_back self.now.g self.now.head.lost self.now.index block seq) (B.view bank.old) (B.view bank.new) }
+        ensures damaged { (offset : ℕ) → IsErrOf result (Denied.Damaged offset)
+            → IsTrue (B.view bank.old).tells
+            → (s : State) → StandsFor (running self.now) s (B.view bank.old).now.disks → ⊥ }
+        ensures cause { IfErr result (FailsLooking (running self.now) (B.view bank.old)
+            (B.view bank.new)) }
+        ensures calls { CallsAtMost
+            (reads_back self.now.g self.now.head.lost self.now.index block seq) (B.view bank.old)
+            (B.view bank.new) }
         ensures any_moment { OnlyReads (B.view bank.old) (B.view bank.new) }
     {
         let mut past = LogPast {
@@ -80,7 +84,8 @@ impl Log {
         block_at(&mut past, &self.index, block, seq, into, scratch)
     }
 
-    /// Fills `into` with what a part of a retained entry's record stands for. The record is read again, into `spelled`.
+    /// Fills `into` with what a part of a retained entry's record stands for. The record is read
+    /// again, into `spelled`.
     pub(crate) fn part<B: Bank>(
         &self,
         bank: &mut B,
@@ -94,11 +99,14 @@ impl Log {
         requires marked { part ≡ Part.Snapshot → IsTrue (item_at self.now.index seq).snap }
         requires spelled { length spelled.old ≡ greatest_record self.now.g.block }
         requires into { length into.old ≡ self.now.g.block }
-        ensures part { IsTrue (B.view bank.old).tells → (s : State) → StandsFor (going self.now) s (B.view bank.old).now.disks
+        ensures part { IsTrue (B.view bank.old).tells → (s : State)
+            → StandsFor (running self.now) s (B.view bank.old).now.disks
             → OnOk result (into.new ≡ part_block part s seq) }
-        ensures damaged { (offset : ℕ) → IsErrOf result (Denied.Damaged offset) → IsTrue (B.view bank.old).tells
-            → (s : State) → StandsFor (going self.now) s (B.view bank.old).now.disks → ⊥ }
-        ensures cause { IfErr result (FailsRecord (going self.now) (B.view bank.old) (B.view bank.new)) }
+        ensures damaged { (offset : ℕ) → IsErrOf result (Denied.Damaged offset)
+            → IsTrue (B.view bank.old).tells
+            → (s : State) → StandsFor (running self.now) s (B.view bank.old).now.disks → ⊥ }
+        ensures cause { IfErr result (FailsRecord (running self.now) (B.view bank.old)
+            (B.view bank.new)) }
 
         // A record that goes round the ring's end takes two reads.
         ensures calls { CallsAtMost 2 (B.view bank.old) (B.view bank.new) }
@@ -109,7 +117,7 @@ impl Log {
         let damaged = Denied::Damaged {
             offset: self.on_disk(item.off),
         };
-        let len = HEADER + usize::from(item.plen) + usize::from(item.slen);
+        let len = HEADER_BYTES + usize::from(item.plen) + usize::from(item.slen);
         if spelled.len() < len {
             return Err(damaged);
         }

@@ -34,7 +34,8 @@ impl Array {
           base_time = self.now.head.base_time;
           last_time = self.now.head.last_time;
         } }
-        ensures reply { (s : State) (disks : Disks) → StandsFor self.now s disks → (step self.now.g).reply s request.Info
+        ensures reply { (s : State) (disks : Disks) → StandsFor self.now s disks
+            → (step self.now.g).reply s request.Info
             ≡ reply.Span result.first result.last result.base_time result.last_time }
     {
         let head = &self.log.head;
@@ -49,7 +50,8 @@ impl Array {
     /// What is known of the retained entry with this number.
     pub fn entry(&self, seq: u64) -> Option<Item>
         ensures some { IfSome result (λ item. item ≡ item_at self.now.index seq) }
-        ensures retained { IsSome result ↔ ((self.now.index.first < seq) × (seq ≤ last_seq self.now.index)) }
+        ensures retained { IsSome result ↔ ((self.now.index.first < seq)
+            × (seq ≤ last_seq self.now.index)) }
     {
         self.log.index.item(seq)
     }

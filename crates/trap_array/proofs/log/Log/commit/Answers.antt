@@ -1,17 +1,21 @@
-use Rattle.std.proofs.Common.{◌+◌, length, refl, sym, subst, ◌∙◌}
+use Rattle.std.proofs.Common.{◌≡◌, length, refl, sym, ap, subst, ◌∙◌}
 use Rattle.trap_bank.specs.Steps.{Moves}
 use Rattle.trap_bank.proofs.Moves.{sync_steps}
+use Rattle.trap_index.specs.Indexed.{with_record}
 use Rattle.trap_model.specs.ArrayStep.{added}
 use Rattle.trap_model.specs.declared.history.Entry.{Entry}
+use Rattle.trap_model.specs.declared.log_record.LogRec.{LogRec}
 use Rattle.trap_array.specs.Areas.{Touches, InCommit}
-use Rattle.trap_array.specs.Calls.{MayTurn, HasTurned, going}
+use Rattle.trap_array.specs.Calls.{SameArray, AtAnyMoment, StandsAfterCall, running}
 use Rattle.trap_array.specs.Log.{Log}
-use Rattle.trap_array.specs.NextHead.{committed, entry_for}
+use Rattle.trap_array.specs.NextHead.{committed, entry_for, next_rec}
 use Rattle.trap_array.specs.Ready.{CanCommit}
 use Rattle.trap_array.proofs.AreaSteps.{append_touches, fill_touches, sync_touches, commit_touches}
-use Rattle.trap_array.proofs.CommitSteps.{cell_room, append_any, fill_any, sync_any, cell_still, put_any, put_ok, settled_there}
+use Rattle.trap_array.proofs.CommitSteps.{cell_room, put_known, append_any, fill_any, sync_any, cell_still, put_any, put_ok, settled_there}
 use Rattle.trap_array.proofs.IndexSteps.{next_in_step}
+use Rattle.trap_array.proofs.NextHeads.{later_committed}
 use Rattle.trap_array.proofs.Sizes.{fits_still}
+use Rattle.trap_array.proofs.TurnSteps.{goes_still, goes_same, goes_later}
 use Rattle.trap_array.proofs.log.Log.commit.Goals as goal
 
 pub returns-in_err-append-clause-any_moment : goal.returns-in_err-append-clause-any_moment
@@ -19,9 +23,9 @@ returns-in_err-append-clause-any_moment g c =
     let old = g.B.Bank.view c.args.bank.now in
     let v1 = g.B.Bank.view c.append.new.bank in
     let log : Log = record { g = c.self.inside.g; head = c.self.inside.head; cell = c.self.inside.cell; stage = c.self.inside.stage; index = c.self.inside.index } in
-    let entry : Entry = entry_for c.args.time c.args.block c.args.bytes.now in
+    let entry : Entry = entry_for c.args.rec.now.time c.args.rec.now.block c.args.bytes.now in
     let can = subst (λ (l : Log). CanCommit l old entry c.args.parity.now c.args.spelled.now) (sym c.self.view_is) c.requires.can in
-    let P : Log → Type 0 = λ (l : Log). Moves old v1 (MayTurn (going l) old (λ s. added s entry)) (MayTurn (going l) old (λ s. added s entry)) in
+    let P : Log → Type 0 = λ (l : Log). Moves old v1 (AtAnyMoment (running l) old (λ s. added s entry)) (AtAnyMoment (running l) old (λ s. added s entry)) in
     subst P c.self.view_is
     (append_any log c.self.invariant.place c.self.invariant.same old entry c.args.parity.now c.args.spelled.now can refl c.ring_of-ring.result c.ring_of-ring.ensures v1 c.append.ensures.any_moment)
 
@@ -31,9 +35,9 @@ returns-in_err-fill-clause-any_moment g c =
     let v1 = g.B.Bank.view c.append.new.bank in
     let v2 = g.B.Bank.view c.fill.new.bank in
     let log : Log = record { g = c.self.inside.g; head = c.self.inside.head; cell = c.self.inside.cell; stage = c.self.inside.stage; index = c.self.inside.index } in
-    let entry : Entry = entry_for c.args.time c.args.block c.args.bytes.now in
+    let entry : Entry = entry_for c.args.rec.now.time c.args.rec.now.block c.args.bytes.now in
     let can = subst (λ (l : Log). CanCommit l old entry c.args.parity.now c.args.spelled.now) (sym c.self.view_is) c.requires.can in
-    let P : Log → Type 0 = λ (l : Log). Moves old v2 (MayTurn (going l) old (λ s. added s entry)) (MayTurn (going l) old (λ s. added s entry)) in
+    let P : Log → Type 0 = λ (l : Log). Moves old v2 (AtAnyMoment (running l) old (λ s. added s entry)) (AtAnyMoment (running l) old (λ s. added s entry)) in
     subst P c.self.view_is
     (fill_any log c.self.invariant.place c.self.invariant.same old entry c.args.parity.now c.args.spelled.now can refl c.ring_of-ring.result c.ring_of-ring.ensures v1 c.append.ensures.any_moment v2 c.fill.ensures.any_moment)
 
@@ -45,9 +49,9 @@ returns-in_err-sync-clause-any_moment g c =
     let v2 = g.B.Bank.view c.fill.new.bank in
     let v3 = g.B.Bank.view c.sync.new.self in
     let log : Log = record { g = c.self.inside.g; head = c.self.inside.head; cell = c.self.inside.cell; stage = c.self.inside.stage; index = c.self.inside.index } in
-    let entry : Entry = entry_for c.args.time c.args.block c.args.bytes.now in
+    let entry : Entry = entry_for c.args.rec.now.time c.args.rec.now.block c.args.bytes.now in
     let can = subst (λ (l : Log). CanCommit l old entry c.args.parity.now c.args.spelled.now) (sym c.self.view_is) c.requires.can in
-    let P : Log → Type 0 = λ (l : Log). Moves old v3 (MayTurn (going l) old (λ s. added s entry)) (MayTurn (going l) old (λ s. added s entry)) in
+    let P : Log → Type 0 = λ (l : Log). Moves old v3 (AtAnyMoment (running l) old (λ s. added s entry)) (AtAnyMoment (running l) old (λ s. added s entry)) in
     subst P c.self.view_is
     (sync_any log c.self.invariant.place c.self.invariant.same old entry c.args.parity.now c.args.spelled.now can refl c.ring_of-ring.result c.ring_of-ring.ensures v1 c.append.ensures.any_moment v2 c.fill.ensures.any_moment v3 (sync_steps _ _ _ _ c.sync.ensures.call))
 
@@ -58,9 +62,15 @@ returns-in_err-sync-clause-touches g c =
     let v2 = g.B.Bank.view c.fill.new.bank in
     let v3 = g.B.Bank.view c.sync.new.self in
     let log : Log = record { g = c.self.inside.g; head = c.self.inside.head; cell = c.self.inside.cell; stage = c.self.inside.stage; index = c.self.inside.index } in
-    let can = subst (λ (l : Log). CanCommit l old (entry_for c.args.time c.args.block c.args.bytes.now) c.args.parity.now c.args.spelled.now) (sym c.self.view_is) c.requires.can in
-    subst (λ (l : Log). Touches (InCommit (going l)) old v3) c.self.view_is
+    let can = subst (λ (l : Log). CanCommit l old (entry_for c.args.rec.now.time c.args.rec.now.block c.args.bytes.now) c.args.parity.now c.args.spelled.now) (sym c.self.view_is) c.requires.can in
+    subst (λ (l : Log). Touches (InCommit (running l)) old v3) c.self.view_is
     (sync_touches log c.self.invariant.place c.self.invariant.same c.ring_of-ring.result c.ring_of-ring.ensures (length c.args.spelled.now) can.next.offsets.window old v1 c.append.ensures.contents c.append.ensures.any_moment v2 c.fill.ensures.contents c.fill.ensures.any_moment v3 c.sync.ensures.call.same (sync_steps _ _ _ _ c.sync.ensures.call))
+
+pub returns-in_err-sync-clause-goes_on : goal.returns-in_err-sync-clause-goes_on
+returns-in_err-sync-clause-goes_on g c =
+    let log : Log = record { g = c.self.inside.g; head = c.self.inside.head; cell = c.self.inside.cell; stage = c.self.inside.stage; index = c.self.inside.index } in
+    let after : Log = record { g = c.self.inside.g; head = c.self.inside.head; cell = c.self.inside.cell; stage = c.fill.new.self; index = c.self.inside.index } in
+    subst (λ (l : Log). SameArray (running l) (running after)) c.self.view_is (goes_same log after refl refl)
 
 -- ---- what the put asks
 pub put-requires-clause-room : goal.put-requires-clause-room
@@ -68,7 +78,7 @@ put-requires-clause-room g c =
     let old = g.B.Bank.view c.args.bank.now in
     let before_put = g.B.Bank.view c.sync.new.self in
     let log : Log = record { g = c.self.inside.g; head = c.self.inside.head; cell = c.self.inside.cell; stage = c.self.inside.stage; index = c.self.inside.index } in
-    let entry : Entry = entry_for c.args.time c.args.block c.args.bytes.now in
+    let entry : Entry = entry_for c.args.rec.now.time c.args.rec.now.block c.args.bytes.now in
     let can = subst (λ (l : Log). CanCommit l old entry c.args.parity.now c.args.spelled.now) (sym c.self.view_is) c.requires.can in
     let still = c.sync.ensures.call.sizes 0 ∙ c.fill.ensures.sizes 0 ∙ c.append.ensures.sizes 0 in
     cell_room log.g before_put log.cell.place c.self.invariant.place (fits_still old before_put 0 _ still can.sizes.log)
@@ -81,7 +91,7 @@ put-requires-clause-stands g c =
     let at_put = g.B.Bank.view c.sync.new.self in
     let sync = sync_steps _ _ _ _ c.sync.ensures.call in
     let log : Log = record { g = c.self.inside.g; head = c.self.inside.head; cell = c.self.inside.cell; stage = c.self.inside.stage; index = c.self.inside.index } in
-    let entry : Entry = entry_for c.args.time c.args.block c.args.bytes.now in
+    let entry : Entry = entry_for c.args.rec.now.time c.args.rec.now.block c.args.bytes.now in
     let can = subst (λ (l : Log). CanCommit l old entry c.args.parity.now c.args.spelled.now) (sym c.self.view_is) c.requires.can in
     cell_still log c.self.invariant.place c.self.invariant.same old entry c.args.parity.now c.args.spelled.now can refl c.ring_of-ring.result c.ring_of-ring.ensures v1 c.append.ensures.any_moment v2 c.fill.ensures.any_moment at_put sync
 
@@ -94,9 +104,9 @@ returns-in_err-put-clause-any_moment g c =
     let v3 = g.B.Bank.view c.sync.new.self in
     let v4 = g.B.Bank.view c.put.new.bank in
     let log : Log = record { g = c.self.inside.g; head = c.self.inside.head; cell = c.self.inside.cell; stage = c.self.inside.stage; index = c.self.inside.index } in
-    let entry : Entry = entry_for c.args.time c.args.block c.args.bytes.now in
+    let entry : Entry = entry_for c.args.rec.now.time c.args.rec.now.block c.args.bytes.now in
     let can = subst (λ (l : Log). CanCommit l old entry c.args.parity.now c.args.spelled.now) (sym c.self.view_is) c.requires.can in
-    let P : Log → Type 0 = λ (l : Log). Moves old v4 (MayTurn (going l) old (λ s. added s entry)) (MayTurn (going l) old (λ s. added s entry)) in
+    let P : Log → Type 0 = λ (l : Log). Moves old v4 (AtAnyMoment (running l) old (λ s. added s entry)) (AtAnyMoment (running l) old (λ s. added s entry)) in
     subst P c.self.view_is
     (put_any log c.self.invariant.place c.self.invariant.same old entry c.args.parity.now c.args.spelled.now can refl c.ring_of-ring.result c.ring_of-ring.ensures v1 c.append.ensures.any_moment v2 c.fill.ensures.any_moment v3 (sync_steps _ _ _ _ c.sync.ensures.call) c.in_ok-append.ensures.written c.fill.ensures.contents c.in_ok-fill.ensures.written c.sync.ensures.call.same (settled_there _ v2 v3 c.in_ok-sync.ensures.call) v4 c.value_of-value.result c.value_of-value.ensures c.put.ensures.any_moment)
 
@@ -108,11 +118,13 @@ returns-clause-ok g c =
     let v3 = g.B.Bank.view c.sync.new.self in
     let v4 = g.B.Bank.view c.put.new.bank in
     let log : Log = record { g = c.self.inside.g; head = c.self.inside.head; cell = c.self.inside.cell; stage = c.self.inside.stage; index = c.self.inside.index } in
-    let entry : Entry = entry_for c.args.time c.args.block c.args.bytes.now in
+    let entry : Entry = entry_for c.args.rec.now.time c.args.rec.now.block c.args.bytes.now in
     let can = subst (λ (l : Log). CanCommit l old entry c.args.parity.now c.args.spelled.now) (sym c.self.view_is) c.requires.can in
-    let P : Log → Type 0 = λ (l : Log). Moves old v4 (MayTurn (going l) old (λ s. added s entry)) (HasTurned (going l) (going (record { g = log.g; head = committed log.head entry.time (length c.args.spelled.now); cell = c.put.new.self; stage = c.fill.new.self; index = c.add.new.self })) old (λ s. added s entry)) in
+    let rec_is = subst (λ (l : Log). c.args.rec.now ≡ next_rec l.head c.args.rec.now.time c.args.rec.now.block (length c.args.spelled.now)) (sym c.self.view_is) c.requires.rec in
+    let known = c.add.ensures ∙ ap (λ (r : LogRec). with_record log.index r) rec_is in
+    let P : Log → Type 0 = λ (l : Log). Moves old v4 (AtAnyMoment (running l) old (λ s. added s entry)) (StandsAfterCall (running l) (running (record { g = log.g; head = committed log.head entry.time (length c.args.spelled.now); cell = c.put.new.self; stage = c.fill.new.self; index = c.add.new.self })) old (λ s. added s entry)) in
     subst P c.self.view_is
-    (put_ok log c.self.invariant.place c.self.invariant.same old entry c.args.parity.now c.args.spelled.now can refl c.ring_of-ring.result c.ring_of-ring.ensures v1 c.append.ensures.any_moment v2 c.fill.ensures.any_moment v3 (sync_steps _ _ _ _ c.sync.ensures.call) c.in_ok-append.ensures.written c.fill.ensures.contents c.in_ok-fill.ensures.written c.sync.ensures.call.same (settled_there _ v2 v3 c.in_ok-sync.ensures.call) v4 c.value_of-value.result c.value_of-value.ensures c.put.new.self c.fill.new.self c.add.new.self c.add.ensures c.in_ok-fill.ensures.ok c.in_ok-put.ensures.ok)
+    (put_ok log c.self.invariant.place c.self.invariant.same old entry c.args.parity.now c.args.spelled.now can refl c.ring_of-ring.result c.ring_of-ring.ensures v1 c.append.ensures.any_moment v2 c.fill.ensures.any_moment v3 (sync_steps _ _ _ _ c.sync.ensures.call) c.in_ok-append.ensures.written c.fill.ensures.contents c.in_ok-fill.ensures.written c.sync.ensures.call.same (settled_there _ v2 v3 c.in_ok-sync.ensures.call) v4 c.value_of-value.result c.value_of-value.ensures c.put.new.self c.fill.new.self c.add.new.self known c.in_ok-fill.ensures.ok c.in_ok-put.ensures.ok)
 
 pub returns-clause-any_moment : goal.returns-clause-any_moment
 returns-clause-any_moment g c =
@@ -122,31 +134,35 @@ returns-clause-any_moment g c =
     let v3 = g.B.Bank.view c.sync.new.self in
     let v4 = g.B.Bank.view c.put.new.bank in
     let log : Log = record { g = c.self.inside.g; head = c.self.inside.head; cell = c.self.inside.cell; stage = c.self.inside.stage; index = c.self.inside.index } in
-    let entry : Entry = entry_for c.args.time c.args.block c.args.bytes.now in
+    let entry : Entry = entry_for c.args.rec.now.time c.args.rec.now.block c.args.bytes.now in
     let can = subst (λ (l : Log). CanCommit l old entry c.args.parity.now c.args.spelled.now) (sym c.self.view_is) c.requires.can in
-    let P : Log → Type 0 = λ (l : Log). Moves old v4 (MayTurn (going l) old (λ s. added s entry)) (MayTurn (going l) old (λ s. added s entry)) in
+    let P : Log → Type 0 = λ (l : Log). Moves old v4 (AtAnyMoment (running l) old (λ s. added s entry)) (AtAnyMoment (running l) old (λ s. added s entry)) in
     subst P c.self.view_is
     (put_any log c.self.invariant.place c.self.invariant.same old entry c.args.parity.now c.args.spelled.now can refl c.ring_of-ring.result c.ring_of-ring.ensures v1 c.append.ensures.any_moment v2 c.fill.ensures.any_moment v3 (sync_steps _ _ _ _ c.sync.ensures.call) c.in_ok-append.ensures.written c.fill.ensures.contents c.in_ok-fill.ensures.written c.sync.ensures.call.same (settled_there _ v2 v3 c.in_ok-sync.ensures.call) v4 c.value_of-value.result c.value_of-value.ensures c.put.ensures.any_moment)
 
 -- ---- what stands then
-pub returns-clause-stands : goal.returns-clause-stands
-returns-clause-stands g c = λ w left. (let from = c.in_ok-put.ensures.ok.now w left in from.by.disks.stands)
+pub returns-clause-cell : goal.returns-clause-cell
+returns-clause-cell g c =
+    let log : Log = record { g = c.self.inside.g; head = committed c.self.inside.head c.args.rec.now.time (length c.args.spelled.now); cell = c.put.new.self; stage = c.fill.new.self; index = c.add.new.self } in
+    put_known log c.self.inside.cell _ _ c.value_of-value.result c.self.invariant.place c.value_of-value.ensures c.in_ok-put.ensures.ok
 
 pub returns-clause-in_step : goal.returns-clause-in_step
 returns-clause-in_step g c =
     let old = g.B.Bank.view c.args.bank.now in
     let log : Log = record { g = c.self.inside.g; head = c.self.inside.head; cell = c.self.inside.cell; stage = c.self.inside.stage; index = c.self.inside.index } in
-    let entry : Entry = entry_for c.args.time c.args.block c.args.bytes.now in
+    let entry : Entry = entry_for c.args.rec.now.time c.args.rec.now.block c.args.bytes.now in
     let can = subst (λ (l : Log). CanCommit l old entry c.args.parity.now c.args.spelled.now) (sym c.self.view_is) c.requires.can in
-    next_in_step log.head entry (length c.args.spelled.now) log.stage c.fill.new.self _ log.index c.add.new.self can.in_step c.in_ok-fill.ensures.ok c.add.ensures
+    let rec_is = subst (λ (l : Log). c.args.rec.now ≡ next_rec l.head c.args.rec.now.time c.args.rec.now.block (length c.args.spelled.now)) (sym c.self.view_is) c.requires.rec in
+    let known = c.add.ensures ∙ ap (λ (r : LogRec). with_record log.index r) rec_is in
+    next_in_step log.head entry (length c.args.spelled.now) log.stage c.fill.new.self _ log.index c.add.new.self can.in_step c.in_ok-fill.ensures.ok known
 
 pub returns-in_err-append-clause-touches : goal.returns-in_err-append-clause-touches
 returns-in_err-append-clause-touches g c =
     let old = g.B.Bank.view c.args.bank.now in
     let v1 = g.B.Bank.view c.append.new.bank in
     let log : Log = record { g = c.self.inside.g; head = c.self.inside.head; cell = c.self.inside.cell; stage = c.self.inside.stage; index = c.self.inside.index } in
-    let can = subst (λ (l : Log). CanCommit l old (entry_for c.args.time c.args.block c.args.bytes.now) c.args.parity.now c.args.spelled.now) (sym c.self.view_is) c.requires.can in
-    subst (λ (l : Log). Touches (InCommit (going l)) old v1) c.self.view_is
+    let can = subst (λ (l : Log). CanCommit l old (entry_for c.args.rec.now.time c.args.rec.now.block c.args.bytes.now) c.args.parity.now c.args.spelled.now) (sym c.self.view_is) c.requires.can in
+    subst (λ (l : Log). Touches (InCommit (running l)) old v1) c.self.view_is
     (append_touches log c.self.invariant.place c.self.invariant.same c.ring_of-ring.result c.ring_of-ring.ensures (length c.args.spelled.now) can.next.offsets.window old v1 c.append.ensures.contents c.append.ensures.any_moment)
 
 pub returns-in_err-fill-clause-touches : goal.returns-in_err-fill-clause-touches
@@ -155,8 +171,8 @@ returns-in_err-fill-clause-touches g c =
     let v1 = g.B.Bank.view c.append.new.bank in
     let v2 = g.B.Bank.view c.fill.new.bank in
     let log : Log = record { g = c.self.inside.g; head = c.self.inside.head; cell = c.self.inside.cell; stage = c.self.inside.stage; index = c.self.inside.index } in
-    let can = subst (λ (l : Log). CanCommit l old (entry_for c.args.time c.args.block c.args.bytes.now) c.args.parity.now c.args.spelled.now) (sym c.self.view_is) c.requires.can in
-    subst (λ (l : Log). Touches (InCommit (going l)) old v2) c.self.view_is
+    let can = subst (λ (l : Log). CanCommit l old (entry_for c.args.rec.now.time c.args.rec.now.block c.args.bytes.now) c.args.parity.now c.args.spelled.now) (sym c.self.view_is) c.requires.can in
+    subst (λ (l : Log). Touches (InCommit (running l)) old v2) c.self.view_is
     (fill_touches log c.self.invariant.place c.self.invariant.same c.ring_of-ring.result c.ring_of-ring.ensures (length c.args.spelled.now) can.next.offsets.window old v1 c.append.ensures.contents c.append.ensures.any_moment v2 c.fill.ensures.contents c.fill.ensures.any_moment)
 
 pub returns-in_err-put-clause-touches : goal.returns-in_err-put-clause-touches
@@ -169,8 +185,8 @@ returns-in_err-put-clause-touches g c =
     let torn_sync = sync_steps _ _ _ _ c.sync.ensures.call in
     let v4 = g.B.Bank.view c.put.new.bank in
     let log : Log = record { g = c.self.inside.g; head = c.self.inside.head; cell = c.self.inside.cell; stage = c.self.inside.stage; index = c.self.inside.index } in
-    let can = subst (λ (l : Log). CanCommit l old (entry_for c.args.time c.args.block c.args.bytes.now) c.args.parity.now c.args.spelled.now) (sym c.self.view_is) c.requires.can in
-    subst (λ (l : Log). Touches (InCommit (going l)) old v4) c.self.view_is
+    let can = subst (λ (l : Log). CanCommit l old (entry_for c.args.rec.now.time c.args.rec.now.block c.args.bytes.now) c.args.parity.now c.args.spelled.now) (sym c.self.view_is) c.requires.can in
+    subst (λ (l : Log). Touches (InCommit (running l)) old v4) c.self.view_is
     (commit_touches log c.self.invariant.place c.self.invariant.same c.ring_of-ring.result c.ring_of-ring.ensures (length c.args.spelled.now) can.next.offsets.window old v1 c.append.ensures.contents c.append.ensures.any_moment v2 c.fill.ensures.contents c.fill.ensures.any_moment torn_v3 torn_same torn_sync v4 c.value_of-value.result c.put.ensures.contents c.put.ensures.any_moment)
 
 pub returns-clause-touches : goal.returns-clause-touches
@@ -183,6 +199,27 @@ returns-clause-touches g c =
     let whole_sync = sync_steps _ _ _ _ c.sync.ensures.call in
     let v4 = g.B.Bank.view c.put.new.bank in
     let log : Log = record { g = c.self.inside.g; head = c.self.inside.head; cell = c.self.inside.cell; stage = c.self.inside.stage; index = c.self.inside.index } in
-    let can = subst (λ (l : Log). CanCommit l old (entry_for c.args.time c.args.block c.args.bytes.now) c.args.parity.now c.args.spelled.now) (sym c.self.view_is) c.requires.can in
-    subst (λ (l : Log). Touches (InCommit (going l)) old v4) c.self.view_is
+    let can = subst (λ (l : Log). CanCommit l old (entry_for c.args.rec.now.time c.args.rec.now.block c.args.bytes.now) c.args.parity.now c.args.spelled.now) (sym c.self.view_is) c.requires.can in
+    subst (λ (l : Log). Touches (InCommit (running l)) old v4) c.self.view_is
     (commit_touches log c.self.invariant.place c.self.invariant.same c.ring_of-ring.result c.ring_of-ring.ensures (length c.args.spelled.now) can.next.offsets.window old v1 c.append.ensures.contents c.append.ensures.any_moment v2 c.fill.ensures.contents c.fill.ensures.any_moment whole_v3 whole_same whole_sync v4 c.value_of-value.result c.put.ensures.contents c.put.ensures.any_moment)
+
+pub returns-in_err-append-clause-goes_on : goal.returns-in_err-append-clause-goes_on
+returns-in_err-append-clause-goes_on g c = goes_still (running c.args.self.now)
+
+pub returns-in_err-fill-clause-goes_on : goal.returns-in_err-fill-clause-goes_on
+returns-in_err-fill-clause-goes_on g c =
+    let log : Log = record { g = c.self.inside.g; head = c.self.inside.head; cell = c.self.inside.cell; stage = c.self.inside.stage; index = c.self.inside.index } in
+    let after : Log = record { g = c.self.inside.g; head = c.self.inside.head; cell = c.self.inside.cell; stage = c.fill.new.self; index = c.self.inside.index } in
+    subst (λ (l : Log). SameArray (running l) (running after)) c.self.view_is (goes_same log after refl refl)
+
+pub returns-in_err-put-clause-goes_on : goal.returns-in_err-put-clause-goes_on
+returns-in_err-put-clause-goes_on g c =
+    let log : Log = record { g = c.self.inside.g; head = c.self.inside.head; cell = c.self.inside.cell; stage = c.self.inside.stage; index = c.self.inside.index } in
+    let after : Log = record { g = c.self.inside.g; head = c.self.inside.head; cell = c.put.new.self; stage = c.fill.new.self; index = c.self.inside.index } in
+    subst (λ (l : Log). SameArray (running l) (running after)) c.self.view_is (goes_same log after refl refl)
+
+pub returns-clause-goes_on : goal.returns-clause-goes_on
+returns-clause-goes_on g c =
+    let log : Log = record { g = c.self.inside.g; head = c.self.inside.head; cell = c.self.inside.cell; stage = c.self.inside.stage; index = c.self.inside.index } in
+    let after : Log = record { g = c.self.inside.g; head = committed c.self.inside.head c.args.rec.now.time (length c.args.spelled.now); cell = c.put.new.self; stage = c.fill.new.self; index = c.add.new.self } in
+    subst (λ (l : Log). SameArray (running l) (running after)) c.self.view_is (goes_later log after refl (later_committed log.head c.args.rec.now.time (length c.args.spelled.now)))

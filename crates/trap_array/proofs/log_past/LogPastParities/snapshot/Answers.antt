@@ -1,5 +1,5 @@
 use Rattle.std.proofs.Common.{rules, Err, refl, ap}
-use Rattle.trap_array.specs.Calls.{going}
+use Rattle.trap_array.specs.Calls.{running}
 use Rattle.trap_array.specs.declared.fault.Denied.{Denied}
 use Rattle.trap_array.proofs.Sources.{record_looks, record_alone}
 use Rattle.trap_array.proofs.LookingBack.{can_look, is_for_still}
@@ -11,7 +11,7 @@ part-requires-clause-can g c = can_look c.args.self.now.log.now (g.B.Bank.view c
 pub returns-in-Err-clause-blame : goal.returns-in-Err-clause-blame
 returns-in-Err-clause-blame g c = record {
   cause = search rules;
-  caused = (refl, record { fails = record_looks (going c.args.self.now.log.now) (g.B.Bank.view c.args.self.now.bank.now) (g.B.Bank.view c.part.new.bank) _ c.in-Err.ensures.cause; asked = λ first second is. absurd (record_alone (going c.args.self.now.log.now) (g.B.Bank.view c.args.self.now.bank.now) (g.B.Bank.view c.part.new.bank) _ c.in-Err.ensures.cause first second is); damaged = λ offset is told s stands. c.in-Err.ensures.damaged offset (ap (λ (d : Denied). Err d) is) told s stands });
+  caused = (refl, record { fails = record_looks (running c.args.self.now.log.now) (g.B.Bank.view c.args.self.now.bank.now) (g.B.Bank.view c.part.new.bank) _ c.in-Err.ensures.cause; asked = λ first second is. absurd (record_alone (running c.args.self.now.log.now) (g.B.Bank.view c.args.self.now.bank.now) (g.B.Bank.view c.part.new.bank) _ c.in-Err.ensures.cause first second is); damaged = λ offset is told s stands. c.in-Err.ensures.damaged offset (ap (λ (d : Denied). Err d) is) told s stands });
 }
 
 pub invariant_of-self-in-Err : goal.invariant_of-self-in-Err

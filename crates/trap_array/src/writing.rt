@@ -1,4 +1,4 @@
-//! A write that isn't refused by its block: room for it, its commit, and its drain.
+//! A write of a block that is there: a slot for it, its plan, its commit, and its drain.
 
 ghost use Rattle.std.specs.Prelude.{◌≡◌, ◌≢◌, ◌↔◌, ◌⊎◌, ℕ, [], ◌+◌, ◌^◌, ◌<◌, ◌≤◌, length, OnOk, OnErr, IfErr, IfSome};
 ghost use Rattle.trap_bank.specs.Steps.{Moves};
@@ -11,10 +11,10 @@ ghost use Rattle.trap_model.specs.declared.request.Refusal.TheVariants.{Full};
 ghost use Rattle.trap_model.specs.declared.request.Reply.TheVariants as reply;
 ghost use Rattle.trap_model.specs.declared.request.Request.TheVariants as request;
 ghost use Rattle.trap_array.specs.Areas.{Touches, InDrain, InWrite};
-ghost use Rattle.trap_array.specs.Calls.{GoesOn, MayTurn, HasTurned, going};
-ghost use Rattle.trap_array.specs.Growing.{HeadAfter};
-ghost use Rattle.trap_array.specs.Log.{AreFor};
-ghost use Rattle.trap_array.specs.NextHead.{drained_to, entry_for};
+ghost use Rattle.trap_array.specs.Calls.{SameArray, AtAnyMoment, StandsAfterCall, running};
+ghost use Rattle.trap_array.specs.Growing.{HeadAfter, IndexAfter};
+ghost use Rattle.trap_array.specs.Log.{HaveBlocksOf};
+ghost use Rattle.trap_array.specs.NextHead.{drained_to, entry_for, next_rec};
 ghost use Rattle.trap_array.specs.Owed.{left_pending, owed, pending_writes, reply_of_write};
 ghost use Rattle.trap_array.specs.Ready.{CanCommit, CanDrain};
 ghost use Rattle.trap_array.specs.Turning.{IsFaultOf, IsFull, Turns, early_refusal};
@@ -23,14 +23,15 @@ ghost use Rattle.trap_array.specs.declared.fault.Denied.TheVariants.{Refused};
 
 use crate::Denied;
 use crate::log::Log;
+use crate::planning::HEADER_BYTES;
 use trap_bank::Bank;
-use trap_model::Refusal;
+use trap_model::{LogRec, Refusal};
 use trap_mount::Buffers;
 
 impl Log {
-    /// Keeps a write of a block of the array, where nothing is against it. When it is answered, it is committed and on
-    /// the members.
-    pub(crate) fn keep<B: Bank>(
+    /// Writes a block of the array, where nothing is against it. When it is answered, it is
+    /// committed and on the members.
+    pub(crate) fn write_block<B: Bank>(
         &mut self,
         bank: &mut B,
         room: &mut Buffers,
@@ -38,17 +39,22 @@ impl Log {
         block: u32,
         bytes: &[u8],
     ) -> Result<u64, Denied>
-        requires room { AreFor self.old.g.block room.old }
+        requires room { HaveBlocksOf self.old.g.block room.old }
         requires can { CanDrain self.old (B.view bank.old) }
         requires block { block < volume self.old.g }
         requires bytes { length bytes.now ≡ self.old.g.block }
-        ensures turns { Turns self.old self.new (λ s. (step self.old.g).next s (request.Write time block bytes.now))
-            (λ s. (step self.old.g).reply s (request.Write time block bytes.now)) result (B.view bank.old) (B.view bank.new) }
-        ensures room { AreFor self.old.g.block room.new }
-        ensures touches { Touches (InWrite (going self.old) block) (B.view bank.old) (B.view bank.new) }
+        ensures turns { Turns self.old self.new (λ s. (step self.old.g).next s
+            (request.Write time block bytes.now))
+            (λ s. (step self.old.g).reply s (request.Write time block bytes.now)) result
+            (B.view bank.old) (B.view bank.new) }
+        ensures room { HaveBlocksOf self.old.g.block room.new }
+        ensures touches { Touches (InWrite (running self.old) block) (B.view bank.old)
+            (B.view bank.new) }
         ensures head { HeadAfter self.old.g self.old.head self.new.head time result }
+        ensures index { IndexAfter (running self.old) (running self.new) time block result }
         ensures pending { IfSome (reply_of_write result) (λ reply. pending_writes self.new.head
-            ≡ owed self.old.g (request.Write time block bytes.now) reply (pending_writes self.old.head)) }
+            ≡ owed self.old.g (request.Write time block bytes.now) reply
+            (pending_writes self.old.head)) }
         ensures refused { (why : Refusal) → why ≢ Full
             → (result ≡ Err (Refused why)) ↔ (early_refusal self.old.head time ≡ Some why) }
         ensures full { result ≡ Err (Refused Full)
@@ -59,39 +65,44 @@ impl Log {
         if let Some(why) = self.refusal(time) {
             return Err(Denied::Refused(why));
         }
-        self.make_room(bank)?;
-        self.keep_in_room(bank, room, time, block, bytes)
+        self.drain_for_room(bank)?;
+        self.plan_and_commit(bank, room, time, block, bytes)
     }
 
     /// Drains, where no slot is free.
-    fn make_room<B: Bank>(&mut self, bank: &mut B) -> Result<(), Denied>
+    fn drain_for_room<B: Bank>(&mut self, bank: &mut B) -> Result<(), Denied>
         requires can { CanDrain self.old (B.view bank.old) }
         ensures ok { OnOk result (Moves (B.view bank.old) (B.view bank.new)
-            (MayTurn (going self.old) (B.view bank.old) (λ s. s))
-            (HasTurned (going self.old) (going self.new) (B.view bank.old) (λ s. s))) }
+            (AtAnyMoment (running self.old) (B.view bank.old) (λ s. s))
+            (StandsAfterCall (running self.old) (running self.new) (B.view bank.old) (λ s. s))) }
         ensures can { OnOk result (CanDrain self.new (B.view bank.new)) }
         ensures free { OnOk result (self.new.head.last < self.new.head.drained + self.new.g.slots) }
-        ensures head { OnOk result (self.new.head ≡ drained_to self.old.head self.new.head.drained) }
+        ensures head { OnOk result
+            (self.new.head ≡ drained_to self.old.head self.new.head.drained) }
         ensures head_stays { OnErr result (self.new.head ≡ self.old.head) }
         ensures pending { OnOk result (pending_writes self.new.head
             ≡ left_pending self.old.g (pending_writes self.old.head)) }
-        ensures goes_on { GoesOn (going self.old) (going self.new) }
+        ensures goes_on { SameArray (running self.old) (running self.new) }
         ensures sizes { (e : ℕ) → (B.view bank.new).sizes e ≡ (B.view bank.old).sizes e }
-        ensures stage { OnOk result ((self.new.stage.pending ≡ self.old.stage.pending) ⊎ (self.new.stage.pending ≡ [])) }
-        ensures touches { Touches (InDrain (going self.old)) (B.view bank.old) (B.view bank.new) }
-        ensures cause { IfErr result (IsFaultOf (going self.old) (B.view bank.old) (B.view bank.new)) }
+        ensures index { self.new.index ≡ self.old.index }
+        ensures stage { OnOk result ((self.new.stage.pending ≡ self.old.stage.pending)
+            ⊎ (self.new.stage.pending ≡ [])) }
+        ensures touches { Touches (InDrain (running self.old)) (B.view bank.old) (B.view bank.new) }
+        ensures cause { IfErr result (IsFaultOf (running self.old) (B.view bank.old)
+            (B.view bank.new)) }
         ensures any_moment { Moves (B.view bank.old) (B.view bank.new)
-            (MayTurn (going self.old) (B.view bank.old) (λ s. s))
-            (MayTurn (going self.old) (B.view bank.old) (λ s. s)) }
+            (AtAnyMoment (running self.old) (B.view bank.old) (λ s. s))
+            (AtAnyMoment (running self.old) (B.view bank.old) (λ s. s)) }
     {
         if self.head.last - self.head.drained < u64::from(self.g.slots) {
             return Ok(());
         }
-        self.drain(bank)
+        self.drain_all(bank)
     }
 
-    /// The same where a slot is free, and neither time nor number is against it.
-    fn keep_in_room<B: Bank>(
+    /// Writes it where a slot is free, and neither time nor number is against it: plans, commits
+    /// and drains.
+    fn plan_and_commit<B: Bank>(
         &mut self,
         bank: &mut B,
         room: &mut Buffers,
@@ -99,33 +110,38 @@ impl Log {
         block: u32,
         bytes: &[u8],
     ) -> Result<u64, Denied>
-        requires room { AreFor self.old.g.block room.old }
+        requires room { HaveBlocksOf self.old.g.block room.old }
         requires can { CanDrain self.old (B.view bank.old) }
         requires free { self.old.head.last < self.old.head.drained + self.old.g.slots }
         requires later { self.old.head.last_time ≤ time }
         requires not_worn { self.old.head.last < 2 ^ 40 }
         requires block { block < volume self.old.g }
         requires bytes { length bytes.now ≡ self.old.g.block }
-        ensures turns { Turns self.old self.new (λ s. (step self.old.g).next s (request.Write time block bytes.now))
-            (λ s. (step self.old.g).reply s (request.Write time block bytes.now)) result (B.view bank.old) (B.view bank.new) }
-        ensures room { AreFor self.old.g.block room.new }
-        ensures touches { Touches (InWrite (going self.old) block) (B.view bank.old) (B.view bank.new) }
+        ensures turns { Turns self.old self.new (λ s. (step self.old.g).next s
+            (request.Write time block bytes.now))
+            (λ s. (step self.old.g).reply s (request.Write time block bytes.now)) result
+            (B.view bank.old) (B.view bank.new) }
+        ensures room { HaveBlocksOf self.old.g.block room.new }
+        ensures touches { Touches (InWrite (running self.old) block) (B.view bank.old)
+            (B.view bank.new) }
         ensures head { HeadAfter self.old.g self.old.head self.new.head time result }
+        ensures index { IndexAfter (running self.old) (running self.new) time block result }
         ensures pending { IfSome (reply_of_write result) (λ reply. pending_writes self.new.head
-            ≡ owed self.old.g (request.Write time block bytes.now) reply (pending_writes self.old.head)) }
+            ≡ owed self.old.g (request.Write time block bytes.now) reply
+            (pending_writes self.old.head)) }
         ensures refused { (why : Refusal) → result ≡ Err (Refused why) → why ≡ Full }
         ensures full { result ≡ Err (Refused Full)
             → IsFull self.old.g self.old.head (greatest_record self.old.g.block) }
     {
         self.plan(bank, room, block, bytes)?;
-        let size = self.spell(room, time, block);
+        let rec = self.spell(room, time, block);
+        let size = HEADER_BYTES + usize::from(rec.plen);
         if self.is_full(size as u64) {
             return Err(Denied::Refused(Refusal::Full));
         }
-        self.keep_planned(
+        self.commit_and_drain(
             bank,
-            time,
-            block,
+            &rec,
             bytes,
             room.parity.as_slice(),
             &room.spelled.as_slice()[..size],
@@ -133,26 +149,33 @@ impl Log {
     }
 
     /// Commits the entry, and drains it.
-    fn keep_planned<B: Bank>(
+    fn commit_and_drain<B: Bank>(
         &mut self,
         bank: &mut B,
-        time: u64,
-        block: u32,
+        rec: &LogRec,
         bytes: &[u8],
         parity: &[u8],
         spelled: &[u8],
     ) -> Result<u64, Denied>
-        requires can { CanCommit self.old (B.view bank.old) (entry_for time block bytes.now) parity.now spelled.now }
-        ensures turns { Turns self.old self.new (λ s. added s (entry_for time block bytes.now))
+        requires can { CanCommit self.old (B.view bank.old)
+            (entry_for rec.now.time rec.now.block bytes.now) parity.now spelled.now }
+        requires rec { rec.now ≡ next_rec self.old.head rec.now.time rec.now.block
+            (length spelled.now) }
+        ensures turns { Turns self.old self.new (λ s. added s
+            (entry_for rec.now.time rec.now.block bytes.now))
             (λ s. reply.Kept (last s + 1)) result (B.view bank.old) (B.view bank.new) }
-        ensures touches { Touches (InWrite (going self.old) block) (B.view bank.old) (B.view bank.new) }
-        ensures head { HeadAfter self.old.g self.old.head self.new.head time result }
+        ensures touches { Touches (InWrite (running self.old) rec.now.block) (B.view bank.old)
+            (B.view bank.new) }
+        ensures head { HeadAfter self.old.g self.old.head self.new.head rec.now.time result }
+        ensures index { IndexAfter (running self.old)
+            (running self.new) rec.now.time rec.now.block result }
         ensures pending { OnOk result (pending_writes self.new.head ≡ 0) }
         ensures refused { (why : Refusal) → result ≡ Err (Refused why) → ⊥ }
     {
-        self.commit(bank, time, block, bytes, parity, spelled)?;
-        // The write is on the members, and its slot is free for the next one, before it is answered.
-        self.drain(bank)?;
-        Ok(self.head.last)
+        self.commit(bank, rec, bytes, parity, spelled)?;
+        // The write is on the members, and its slot is free for the next one, before it is
+        // answered.
+        self.drain_all(bank)?;
+        Ok(rec.seq)
     }
 }

@@ -1,7 +1,7 @@
 use Rattle.std.proofs.Common.{ℕ, subst}
 use Rattle.trap_array.specs.Sources.{CallsAtMost, reads_back}
 use Rattle.trap_array.proofs.LookingBack.{one_last_by}
-use Rattle.trap_array.proofs.log.Log.read_by.Goals as goal
+use Rattle.trap_array.proofs.log.Log.look_back_to_time.Goals as goal
 
 pub returns-clause-calls : goal.returns-clause-calls
 returns-clause-calls g c seq is =
