@@ -2,7 +2,7 @@
 use Rattle.std.proofs.Common.{◌≡◌, ◌⊎◌, inl, inr, ⊎_elim, ℕ, ◌+◌, ◌<◌, ◌≤◌, Option, Some, None, true, Result, Ok, Err, refl, subst, ◌∙◌, arith}
 use Rattle.std.specs.Prelude.{◌≢◌}
 use Rattle.trap_bank.specs.Disks.{Contents, Disks, View}
-use Rattle.trap_model.specs.ArrayStep.{step, unless, refusal, accepted}
+use Rattle.trap_model.specs.ArrayStep.{step, or_refused, refusal, accepted}
 use Rattle.trap_model.specs.declared.numbers.Geometry.{Geometry}
 use Rattle.trap_model.specs.declared.history.State.{State}
 use Rattle.trap_model.specs.declared.request.Request.{Request}
@@ -12,17 +12,18 @@ use Rattle.trap_model.specs.declared.request.Reply.{Reply}
 use Rattle.trap_model.specs.declared.request.Reply.TheVariants.{No, Silent}
 use Rattle.trap_script.specs.Lines.{goes_on}
 use Rattle.trap_script.proofs.GivenLemmas.{AnswersByLines}
-use Rattle.trap_array.specs.Calls.{Mounted, HoldsLike, GoesOn}
+use Rattle.trap_array.specs.Calls.{Mounted, HoldsLike, SameArray}
 use Rattle.trap_array.specs.declared.fault.Denied.{Denied}
 use Rattle.trap_array.specs.declared.fault.Denied.TheVariants.{Refused, LogFault, MemberFault, Damaged, Stopped}
-use Rattle.trap_session.specs.Store.{Store, array_store, ComesWith, Served, Answering, CutShort, Struck, Waits, StandsForNone, HasRisen}
+use Rattle.trap_array.proofs.Turns.{later_same, later_then}
+use Rattle.trap_session.specs.Store.{Store, array_store, FaultCause, Served, Answering, CutShort, Struck, Waits, StandsForNone, FaultRose}
 use Rattle.trap_session.specs.declared.outcome.Next.{Next}
 use Rattle.trap_session.specs.declared.outcome.Next.TheVariants.{More, Quit}
 use Rattle.trap_session.specs.declared.outcome.SessionFault.{SessionFault}
 use Rattle.trap_session.specs.declared.outcome.SessionFault.TheVariants.{Array, ReadFault, WriteFault, TooLong}
 
 -- a reply that is no silence
-reply-spoken : (why : Option Refusal) (reply : Reply) → reply ≢ Silent → unless why reply No ≢ Silent
+reply-spoken : (why : Option Refusal) (reply : Reply) → reply ≢ Silent → or_refused why reply No ≢ Silent
 reply-spoken None reply spoken = spoken
 reply-spoken (Some why) reply spoken = λ e. cc
 
@@ -45,7 +46,7 @@ pub array_torn : (a : Mounted) (disks : Disks) (t : State) (asked : Request) →
 array_torn a disks t asked torn = torn
 
 -- what a fault comes with may be said of something weaker
-pub comes_also : (denied : Denied) (P Q : Type 0) → (P → Q) → ComesWith denied P → ComesWith denied Q
+pub comes_also : (denied : Denied) (P Q : Type 0) → (P → Q) → FaultCause denied P → FaultCause denied Q
 comes_also (Refused why) P Q also p = also p
 comes_also LogFault P Q also p = also p
 comes_also (MemberFault first second) P Q also p = also p
@@ -53,7 +54,7 @@ comes_also (Damaged offset) P Q also p = absurd p
 comes_also Stopped P Q also p = also p
 
 -- and where it comes at all, it is so
-pub comes_gives : {claim : Type 0} (denied : Denied) → ComesWith denied claim → claim
+pub comes_gives : {claim : Type 0} (denied : Denied) → FaultCause denied claim → claim
 comes_gives (Refused why) comes = comes
 comes_gives LogFault comes = comes
 comes_gives (MemberFault first second) comes = comes
@@ -70,11 +71,11 @@ served_some a (Err WriteFault) s asked x y served = (_, served.holds)
 served_some a (Err ReadFault) s asked x y served = absurd served
 served_some a (Err TooLong) s asked x y served = absurd served
 
-pub goes_nowhere : (a : Mounted) → GoesOn a a
-goes_nowhere a = record { g = refl; lost = refl; rebuilt = refl }
+pub goes_nowhere : (a : Mounted) → SameArray a a
+goes_nowhere a = record { g = refl; follows = later_same a.head }
 
-pub goes_then : {a b c : Mounted} → GoesOn a b → GoesOn b c → GoesOn a c
-goes_then p q = record { g = q.g ∙ p.g; lost = q.lost ∙ p.lost; rebuilt = q.rebuilt ∙ p.rebuilt }
+pub goes_then : {a b c : Mounted} → SameArray a b → SameArray b c → SameArray a c
+goes_then {a} {b} {c} p q = record { g = q.g ∙ p.g; follows = later_then a.head b.head c.head p.follows q.follows }
 
 -- the store by numbers that are an array's, and the head of an array
 abbrev store_by : Geometry → Mounted → Store State
@@ -86,9 +87,9 @@ store_by g b = record {
 }
 
 -- What the disks hold by a later array they hold by the first.
-module _ (a b : Mounted) (goes : GoesOn a b) where
+module _ (a b : Mounted) (goes : SameArray a b) where
   like : (s : State) (disks : Disks) → HoldsLike a.g b.head s disks → HoldsLike a.g a.head s disks
-  like s disks holds = record { head = holds.head; by = holds.by; lost = holds.lost ∙ goes.lost; rebuilt = holds.rebuilt ∙ goes.rebuilt }
+  like s disks holds = record { head = holds.head; by = holds.by; follows = later_then a.head b.head holds.head goes.follows holds.follows }
 
   module _ (s : State) (asked : Request) (x y : Contents) where
     torn_like : (disks : Disks) → (store_by a.g b).torn disks s asked → (array_store a).torn disks s asked
@@ -121,13 +122,13 @@ module _ (a b : Mounted) (goes : GoesOn a b) where
   -- what rose since then rose since the first moment; where it stood for no state then, it stood for none first, and where
   -- it was stopped then, it was so first
   pub risen_first : (u v w : View) → ((e : ℕ) → u.faults e ≤ v.faults e) → u.port_faults ≤ v.port_faults → (StandsForNone b v → StandsForNone a u) → (b.is_stopped ≡ true → a.is_stopped ≡ true)
-      → (fault : SessionFault) → HasRisen b fault v w → HasRisen a fault u w
+      → (fault : SessionFault) → FaultRose b fault v w → FaultRose a fault u w
   risen_first u v w faults port none stopped (Array (Refused why)) risen = absurd risen
   risen_first u v w faults port none stopped (Array LogFault) risen = let later = faults 0 in omega (arith, later, risen)
   risen_first u v w faults port none stopped (Array (MemberFault first second)) risen = record {
     same = risen.same;
     inside = subst (λ (g : Geometry). second < g.members) goes.g risen.inside;
-    counts = λ is. subst (λ (rows : ℕ). 0 < rows) goes.rebuilt (risen.counts (goes.lost ∙ is));
+    counts = λ is. subst (λ (rows : ℕ). 0 < rows) goes.follows.rebuilt (risen.counts (goes.follows.lost ∙ is));
     rose = let later = faults (second + 1) in let rose = risen.rose in omega (arith, later, rose);
   }
   risen_first u v w faults port none stopped (Array (Damaged offset)) risen = none risen

@@ -1,5 +1,5 @@
 -- What a crash leaves while one line is answered, from the calls that it makes.
-use Rattle.std.proofs.Common.{◌≡◌, ◌↔◌, inl, inr, ℕ, ◌+◌, ◌<◌, ◌≤◌, Option, List, ◌++◌, length, take, Some, None, Bool, true, false, ◌||◌, IsTrue, Result, Ok, Err, OnOk, OnErr, IfOk, IfErr, IsErr, IsErrAnd, refl, sym, ap, subst, ◌∙◌, arith}
+use Rattle.std.proofs.Common.{◌≡◌, ◌⊎◌, ◌↔◌, inl, inr, ℕ, ◌+◌, ◌<◌, ◌≤◌, Option, List, ◌++◌, length, take, Some, None, Bool, true, false, ◌||◌, IsTrue, Result, Ok, Err, OnErr, IfOk, IfErr, IsErr, IsErrAnd, refl, sym, ap, subst, ◌∙◌, arith}
 use Rattle.std.proofs.Math.Seq.{take-append_seam}
 use Rattle.trap_bank.specs.Disks.{Contents, Disks, View, Quiet}
 use Rattle.trap_bank.specs.Calls.{MayLeave, IsLawful, Says}
@@ -7,32 +7,42 @@ use Rattle.trap_bank.specs.Faults.{Rose}
 use Rattle.trap_bank.specs.Steps.{Steps, Moves, Same, Spoke, SpokePart, Always}
 use Rattle.trap_bank.proofs.Moves.{say_steps, said_steps, then_, weaken, nothing_done, always_same, no_moves, read_is_left}
 use Rattle.trap_model.specs.Image.{volume}
-use Rattle.trap_model.specs.ArrayStep.{step, unless, refusal}
+use Rattle.trap_model.specs.ArrayStep.{step, or_refused, refusal}
 use Rattle.trap_model.specs.declared.history.State.{State}
 use Rattle.trap_model.specs.declared.numbers.Geometry.{Geometry}
 use Rattle.trap_model.specs.declared.request.Request.{Request}
-use Rattle.trap_model.specs.declared.request.Request.TheVariants.{Write, Read, At, By, Info, Bad, Quit as Q}
+use Rattle.trap_model.specs.declared.request.Request.TheVariants.{Write, Read, At, By, Info, Keep, Bad, Quit as Q}
 use Rattle.trap_model.specs.declared.request.Refusal.{Refusal}
 use Rattle.trap_model.specs.declared.request.Refusal.TheVariants.{NoLine}
 use Rattle.trap_model.specs.declared.request.Reply.{Reply}
 use Rattle.trap_model.specs.declared.request.Reply.TheVariants.{No, Span}
 use Rattle.trap_script.specs.Lines.{goes_on}
 use Rattle.trap_script.specs.Replies.{reply_text}
+use Rattle.trap_array.specs.Areas.{Touches, MayTouch}
 use Rattle.trap_array.specs.Holding.{HoldsBy}
 use Rattle.trap_array.specs.Beside.{StaysFrom}
 use Rattle.trap_array.specs.Instants.{HasBadRecord}
-use Rattle.trap_array.specs.Calls.{Mounted, WriteReplies, ReadReplies, AtReplies, is_fault, MemberFails, StandsFor, HoldsLike, IsReady, GoesOn, MayTurn, HasTurned}
+use Rattle.trap_array.specs.Calls.{Mounted, WriteReplies, ReadReplies, AtReplies, is_fault, MemberFails, StandsFor, HoldsLike, IsReady, SameArray, AtAnyMoment, StandsAfterCall}
+use Rattle.trap_array.specs.Turning.{early_refusal}
+use Rattle.trap_array.specs.Untouched.{Untouched}
 use Rattle.trap_array.specs.declared.fault.Denied.{Denied}
 use Rattle.trap_array.specs.declared.fault.Denied.TheVariants.{Refused, LogFault, MemberFault, Damaged, Stopped}
 use Rattle.trap_array.proofs.Beside.{stays_none, stays_same, stays_then}
+use Rattle.trap_array.proofs.AreaSteps.{touches_same}
+use Rattle.trap_array.proofs.Denials.{untouched_none}
 use Rattle.trap_array.proofs.Sizes.{sizes_still}
-use Rattle.trap_session.specs.Store.{Store, array_store, ComesWith, Replied, CutShort, Struck, StandsForNone, HasRisen, NamesBad}
+use Rattle.trap_array.proofs.Turns.{later_same}
+use Rattle.trap_session.specs.Store.{Store, array_store, FaultCause, Replied, CutShort, Struck, StandsForNone, FaultRose, NamesBad}
+use Rattle.trap_session.specs.Deciding.{decided_of_block, decided_reply, MayReply}
+use Rattle.trap_session.specs.Indexing.{IndexAfterLine}
 use Rattle.trap_session.specs.Denying.{EndsSession}
-use Rattle.trap_session.specs.Answers.{Answers, HasAnswered, StandsOn, AsksBlock, stops_array, is_stopping, UnlessStopped, UnlessFailed, SaidInOneCall, Speaks, AnswersLine}
+use Rattle.trap_session.specs.Answers.{Answers, HasAnswered, StandsOn, AsksBlock, stops_array, is_stopping, UnlessStopped, UnlessFailed, SaidInOneCall, Speaks, Replies, AnswersLine}
 use Rattle.trap_session.specs.declared.outcome.Next.{Next}
 use Rattle.trap_session.specs.declared.outcome.Next.TheVariants.{More, Quit}
 use Rattle.trap_session.specs.declared.outcome.SessionFault.{SessionFault}
 use Rattle.trap_session.specs.declared.outcome.SessionFault.TheVariants.{Array, ReadFault, WriteFault, TooLong}
+use Rattle.trap_session.proofs.Decided.{says_since}
+use Rattle.trap_session.proofs.Touching.{says_then, says_nothing, changes_none}
 
 -- The request is done and its reply not said yet.
 pub record IsDone {S : Type 0} (store : Store S) (s : S) (asked : Request) (old new : Contents) : Type 0 where
@@ -94,14 +104,16 @@ always_said u w result piece has call always c left =
 -- an array is ready where the disks have the same sizes, and every crash leaves its cell as before
 ready_as : (a : Mounted) (u w : View) → ((e : ℕ) → w.sizes e ≡ u.sizes e) → ((has : Disks → Type 0) → Always u has → Always w has) → IsReady a u → IsReady a w
 ready_as a u w sizes still ready = record {
-  sizes = λ going. sizes_still a.g a.head.lost a.head.rebuilt u w sizes (ready.sizes going);
-  stands = λ going. still _ (ready.stands going);
+  sizes = λ running. sizes_still a.g a.head.lost a.head.rebuilt u w sizes (ready.sizes running);
+  stands = λ running. still _ (ready.stands running);
+  value = λ running. still _ (ready.value running);
+  count = ready.count;
 }
 
 rose_port : (a : Mounted) (v u w : View) (result : Result Next SessionFault) → v.port_faults ≤ u.port_faults → OnErr result (Rose u.port_faults w.port_faults)
-    → IfErr result (λ fault. fault ≡ WriteFault) → IfErr result (λ fault. HasRisen a fault v w)
+    → IfErr result (λ fault. fault ≡ WriteFault) → IfErr result (λ fault. FaultRose a fault v w)
 rose_port a v u w (Ok next) later rose is = rose
-rose_port a v u w (Err fault) later rose is = subst (λ f. HasRisen a f v w) (sym is) (omega (arith, later, rose))
+rose_port a v u w (Err fault) later rose is = subst (λ f. FaultRose a f v w) (sym is) (omega (arith, later, rose))
 
 -- such a fault names no record
 names_port : (a : Mounted) (w : View) (result : Result Next SessionFault) → IfErr result (λ fault. fault ≡ WriteFault) → IfErr result (λ fault. NamesBad a fault w)
@@ -197,14 +209,36 @@ pub unless_also : {T P Q : Type 0} (result : Result T SessionFault) → (P → Q
 unless_also (Ok value) also p = also p
 unless_also (Err fault) also p = unless_stopped_also fault also p
 
+-- a possible reply that is said after calls that say nothing
+replied_as : (a : Mounted) (asked : Request) (reply : Reply) (v u w : View) (result : Result Next SessionFault)
+    → (decided_reply a asked ≡ Some reply) ⊎ MayReply a asked reply → u.tells ≡ v.tells → (IsTrue v.tells → u.now.said ≡ v.now.said)
+    → Says (reply_text reply) result u w → IfOk result (λ next. next ≡ More) → IfErr result (λ fault. fault ≡ WriteFault) → Replies a asked result v w
+replied_as a asked reply v u w (Ok More) possible tells quiet call ok err = record {
+  reply = reply;
+  possible = possible;
+  said = λ told. call.said (subst IsTrue (sym tells) told) ∙ ap (λ (l : List ℕ). l ++ reply_text reply) (quiet told);
+}
+replied_as a asked reply v u w (Ok Quit) possible tells quiet call ok err = tt
+replied_as a asked reply v u w (Err (Array denied)) possible tells quiet call ok err = tt
+replied_as a asked reply v u w (Err ReadFault) possible tells quiet call ok err = absurd (cc err)
+replied_as a asked reply v u w (Err WriteFault) possible tells quiet call ok err = record {
+  reply = reply;
+  possible = possible;
+  said = λ told. let some = call.part (subst IsTrue (sym tells) told) in
+      record { part = some.part; rest = some.rest; whole = some.whole; said = some.said ∙ ap (λ (l : List ℕ). l ++ some.part) (quiet told) };
+}
+replied_as a asked reply v u w (Err TooLong) possible tells quiet call ok err = absurd (cc err)
+
 -- One line whose reply is said: all that is owed of it.
 pub line_replied : (a b : Mounted) (v u w : View) (asked : Request) (reply : Reply) (result : Result Next SessionFault)
     → (IsTrue v.tells → (s : State) → Always v (StandsFor a s) → (step a.g).reply s asked ≡ reply)
     → Steps v u (Answers a v asked) (HasDone a v asked) → StandsOn a b asked v u
-    → ((e : ℕ) → u.sizes e ≡ v.sizes e) → StaysFrom (a.g.members + 1) v u → IsReady b u → b.is_stopped ≡ a.is_stopped → GoesOn a b → (IsTrue v.tells → u.now.said ≡ v.now.said)
+    → (decided_reply a asked ≡ Some reply) ⊎ MayReply a asked reply
+    → ((r : Reply) → decided_reply a asked ≡ Some r → (reply ≡ r) × Untouched v u) → IndexAfterLine asked a.index b.index → Touches (MayTouch a) v u
+    → ((e : ℕ) → u.sizes e ≡ v.sizes e) → StaysFrom (a.g.members + 1) v u → IsReady b u → b.is_stopped ≡ a.is_stopped → SameArray a b → (IsTrue v.tells → u.now.said ≡ v.now.said)
     → Says (reply_text reply) result u w → SaidInOneCall u w → IfOk result (λ next. next ≡ More) → IfErr result (λ fault. fault ≡ WriteFault) → (AsksBlock a.g asked → a.is_stopped ≡ true → ⊥)
     → AnswersLine a b result asked v w
-line_replied a b v u w asked reply result is done stands sizes others ready alike goes_on quiet call once ok err asks = record {
+line_replied a b v u w asked reply result is done stands possible own index touched sizes others ready alike goes_on quiet call once ok err asks = record {
   steps = reply_behind a v u w asked reply result is done call ok err;
   stands = unless_failed result (λ s was. always_said u w result (reply_text reply) (StandsFor b ((step a.g).next s asked)) call (stands s was));
   stopped = alike ∙ or_false a.is_stopped ∙ ap (λ (stops : Bool). a.is_stopped || stops) (sym (not_stopping result err));
@@ -214,26 +248,29 @@ line_replied a b v u w asked reply result is done stands sizes others ready alik
   goes_on = goes_on;
   cause = rose_port a v u w result done.port_faults call.cause err;
   bad = names_port b w result err;
+  replies = replied_as a asked reply v u w result possible done.tells quiet call ok err;
+  own = λ r same. let both = own r same in says_since (reply_text r) result v u w both.1 (subst (λ (t : Reply). Says (reply_text t) result u w) both.0 call);
+  index = index;
+  changes = says_then (MayTouch a) (reply_text reply) result v u w touched call;
   sizes = λ e. call.sizes e ∙ sizes e;
   others = stays_then (a.g.members + 1) v u w done.tells others (stays_said (a.g.members + 1) u w call.disks);
 }
 
 -- the array as it stood holds the state by its own head
 pub holds_own : (a : Mounted) (s : State) (disks : Disks) → StandsFor a s disks → HoldsLike a.g a.head s disks
-holds_own a s disks stands = record { head = a.head; by = stands.by; lost = refl; rebuilt = refl }
+holds_own a s disks stands = record { head = a.head; by = stands.by; follows = later_same a.head }
 
 -- and an array that goes on holds it by a head with the same lost member
-pub holds_on : (a b : Mounted) (s : State) (disks : Disks) → GoesOn a b → StandsFor b s disks → HoldsLike a.g a.head s disks
+pub holds_on : (a b : Mounted) (s : State) (disks : Disks) → SameArray a b → StandsFor b s disks → HoldsLike a.g a.head s disks
 holds_on a b s disks goes stands = record {
   head = b.head;
   by = subst (λ g. HoldsBy g b.head s disks) goes.g stands.by;
-  lost = goes.lost;
-  rebuilt = goes.rebuilt;
+  follows = goes.follows;
 }
 
 -- a fault that rose comes with what was done, where the array stood for a state
-comes : (a : Mounted) (v u : View) (denied : Denied) → HasRisen a (Array denied) v u → (x : Contents) → MayLeave v x → (s : State) → Always v (StandsFor a s)
-    → (claim : Type 0) → claim → ComesWith denied claim
+comes : (a : Mounted) (v u : View) (denied : Denied) → FaultRose a (Array denied) v u → (x : Contents) → MayLeave v x → (s : State) → Always v (StandsFor a s)
+    → (claim : Type 0) → claim → FaultCause denied claim
 comes a v u (Refused why) risen x was s stands claim done = absurd risen
 comes a v u LogFault risen x was s stands claim done = done
 comes a v u (MemberFault first second) risen x was s stands claim done = done
@@ -242,25 +279,25 @@ comes a v u Stopped risen x was s stands claim done = done
 
 -- A request that calls of the array turn the state by.
 module _ (a : Mounted) (v u : View) (asked : Request) (more : goes_on asked ≡ true) where
-  torn_at : (x y : Contents) → Quiet (MayTurn a v (λ s. (step a.g).next s asked)) x y → (s : State) → Always v (StandsFor a s) → Struck (array_store a) s asked x y
+  torn_at : (x y : Contents) → Quiet (AtAnyMoment a v (λ s. (step a.g).next s asked)) x y → (s : State) → Always v (StandsFor a s) → Struck (array_store a) s asked x y
   torn_at x y may s stands = record { more = more; said = may.said; torn = may.disks s stands }
 
   -- it was done
-  pub turned_done : (b : Mounted) → GoesOn a b → Moves v u (MayTurn a v (λ s. (step a.g).next s asked)) (HasTurned a b v (λ s. (step a.g).next s asked))
+  pub turned_done : (b : Mounted) → SameArray a b → Moves v u (AtAnyMoment a v (λ s. (step a.g).next s asked)) (StandsAfterCall a b v (λ s. (step a.g).next s asked))
       → Steps v u (Answers a v asked) (HasDone a v asked)
-  turned_done b goes moves = weaken v u (Quiet (MayTurn a v (λ s. (step a.g).next s asked))) (Quiet (HasTurned a b v (λ s. (step a.g).next s asked)))
+  turned_done b goes moves = weaken v u (Quiet (AtAnyMoment a v (λ s. (step a.g).next s asked))) (Quiet (StandsAfterCall a b v (λ s. (step a.g).next s asked)))
       (Answers a v asked) (HasDone a v asked) moves
       (λ x y was may s stands. inr (inl (torn_at x y may s stands)))
       (λ x y was left turned s stands. record { more = more; said = turned.said; holds = holds_on a b ((step a.g).next s asked) y.disks goes (turned.disks s stands) })
 
-  pub turned_stands : (b : Mounted) → Moves v u (MayTurn a v (λ s. (step a.g).next s asked)) (HasTurned a b v (λ s. (step a.g).next s asked))
+  pub turned_stands : (b : Mounted) → Moves v u (AtAnyMoment a v (λ s. (step a.g).next s asked)) (StandsAfterCall a b v (λ s. (step a.g).next s asked))
       → StandsOn a b asked v u
   turned_stands b moves s stands c left = (moves.now c left).by.disks s stands
 
   -- or a disk failed
-  pub turned_struck : (denied : Denied) → HasRisen a (Array denied) v u → Moves v u (MayTurn a v (λ s. (step a.g).next s asked)) (MayTurn a v (λ s. (step a.g).next s asked))
+  pub turned_struck : (denied : Denied) → FaultRose a (Array denied) v u → Moves v u (AtAnyMoment a v (λ s. (step a.g).next s asked)) (AtAnyMoment a v (λ s. (step a.g).next s asked))
       → Steps v u (Answers a v asked) (HasAnswered a v (Err (Array denied)) asked)
-  turned_struck denied risen moves = weaken v u (Quiet (MayTurn a v (λ s. (step a.g).next s asked))) (Quiet (MayTurn a v (λ s. (step a.g).next s asked)))
+  turned_struck denied risen moves = weaken v u (Quiet (AtAnyMoment a v (λ s. (step a.g).next s asked))) (Quiet (AtAnyMoment a v (λ s. (step a.g).next s asked)))
       (Answers a v asked) (HasAnswered a v (Err (Array denied)) asked) moves
       (λ x y was may s stands. inr (inl (torn_at x y may s stands)))
       (λ x y was left may s stands. comes a v u denied risen x was s stands (Struck (array_store a) s asked x y) (torn_at x y may s stands))
@@ -281,14 +318,14 @@ module _ (a : Mounted) (v u : View) (asked : Request) (more : goes_on asked ≡ 
         subst (λ m. StandsFor m ((step a.g).next s asked) c.disks) (sym same)
         (subst (λ t. StandsFor (record a { is_stopped = stopped }) t c.disks) (sym (still s)) (record { by = was.by; cell = was.cell; pending = was.pending; index = was.index })))
 
-    pub same_struck : (denied : Denied) → HasRisen a (Array denied) v u → Steps v u (Answers a v asked) (HasAnswered a v (Err (Array denied)) asked)
+    pub same_struck : (denied : Denied) → FaultRose a (Array denied) v u → Steps v u (Answers a v asked) (HasAnswered a v (Err (Array denied)) asked)
     same_struck denied risen = weaken v u (Quiet Same) (Quiet Same) (Answers a v asked) (HasAnswered a v (Err (Array denied)) asked) moves
         (λ x y was same s stands. inl (record { said = same.said; holds = held_still x y was same s stands }))
         (λ x y was left same s stands. comes a v u denied risen x was s stands (Struck (array_store a) s asked x y)
         (record { more = more; said = same.said; torn = inl (held_still x y was same s stands) }))
 
 -- a read changes no state, refused or not
-stays : (why : Option Refusal) (s : State) → unless why s (λ _. s) ≡ s
+stays : (why : Option Refusal) (s : State) → or_refused why s (λ _. s) ≡ s
 stays None s = refl
 stays (Some why) s = refl
 
@@ -307,7 +344,7 @@ same_denied : {first second : Denied} → ◌≡◌ {A = Result Next SessionFaul
 same_denied is = cc is
 
 -- a record is damaged only where the array stood for no state
-stands_struck : (a b : Mounted) (v u : View) (asked : Request) (denied : Denied) → u.tells ≡ v.tells → HasRisen a (Array denied) v u
+stands_struck : (a b : Mounted) (v u : View) (asked : Request) (denied : Denied) → u.tells ≡ v.tells → FaultRose a (Array denied) v u
     → UnlessStopped (Array denied) (StandsOn a b asked v u)
 stands_struck a b v u asked (Refused why) tells risen = absurd risen
 stands_struck a b v u asked LogFault tells risen = tt
@@ -329,10 +366,12 @@ stops_as {T} call denied is = ap (λ (r : Result T Denied). is_fault r) is ∙ d
 -- One line in which a disk failed.
 pub line_struck : (a b : Mounted) (v u : View) (asked : Request) (denied : Denied)
     → Steps v u (Answers a v asked) (HasAnswered a v (Err (Array denied)) asked)
+    → ((r : Reply) → decided_reply a asked ≡ Some r → ⊥) → IndexAfterLine asked a.index b.index → Touches (MayTouch a) v u
     → b.is_stopped ≡ (a.is_stopped || stops_array (Array denied)) → (IsTrue v.tells → u.now.said ≡ v.now.said)
-    → ((e : ℕ) → u.sizes e ≡ v.sizes e) → StaysFrom (a.g.members + 1) v u → IsReady b u → GoesOn a b → HasRisen a (Array denied) v u → NamesBad b (Array denied) u → (denied ≡ Stopped) ↔ (AsksBlock a.g asked × (a.is_stopped ≡ true))
+    → ((e : ℕ) → u.sizes e ≡ v.sizes e) → StaysFrom (a.g.members + 1) v u → IsReady b u → SameArray a b → FaultRose a (Array denied) v u → NamesBad b (Array denied) u
+    → (denied ≡ Stopped) ↔ (AsksBlock a.g asked × (a.is_stopped ≡ true))
     → AnswersLine a b (Err (Array denied)) asked v u
-line_struck a b v u asked denied steps stopped quiet sizes others ready goes risen names exact = record {
+line_struck a b v u asked denied steps own index touched stopped quiet sizes others ready goes risen names exact = record {
   steps = steps;
   stands = stands_struck a b v u asked denied steps.tells risen;
   stopped = stopped;
@@ -342,6 +381,10 @@ line_struck a b v u asked denied steps stopped quiet sizes others ready goes ris
   goes_on = goes;
   cause = risen;
   bad = names;
+  replies = tt;
+  own = λ r same. absurd (own r same);
+  index = index;
+  changes = says_nothing (MayTouch a) v u touched;
   sizes = sizes;
   others = others;
 }
@@ -354,49 +397,74 @@ still_going false now is = is
 -- a write that was done, and is replied to
 pub write_replied : (a b : Mounted) (v u w : View) (time block : ℕ) (bytes fresh : List ℕ) → bytes ≡ fresh → (reply : Reply) (result : Result Next SessionFault)
     → (IsTrue v.tells → (s : State) → Always v (StandsFor a s) → (step a.g).reply s (Write time block bytes) ≡ reply)
-    → Moves v u (MayTurn a v (λ s. (step a.g).next s (Write time block bytes))) (HasTurned a b v (λ s. (step a.g).next s (Write time block bytes)))
-    → ((e : ℕ) → u.sizes e ≡ v.sizes e) → StaysFrom (a.g.members + 1) v u → IsReady b u → b.is_stopped ≡ a.is_stopped → GoesOn a b
+    → Moves v u (AtAnyMoment a v (λ s. (step a.g).next s (Write time block bytes))) (StandsAfterCall a b v (λ s. (step a.g).next s (Write time block bytes)))
+    → (decided_of_block a block (early_refusal a.head time) ≡ Some reply) ⊎ MayReply a (Write time block bytes) reply
+    → ((r : Reply) → decided_of_block a block (early_refusal a.head time) ≡ Some r → (reply ≡ r) × Untouched v u) → IndexAfterLine (Write time block bytes) a.index b.index → Touches (MayTouch a) v u
+    → ((e : ℕ) → u.sizes e ≡ v.sizes e) → StaysFrom (a.g.members + 1) v u → IsReady b u → b.is_stopped ≡ a.is_stopped → SameArray a b
     → Says (reply_text reply) result u w → SaidInOneCall u w → IfOk result (λ next. next ≡ More) → IfErr result (λ fault. fault ≡ WriteFault) → (block < volume a.g → a.is_stopped ≡ true → ⊥)
     → AnswersLine a b result (Write time block fresh) v w
-write_replied a b v u w time block bytes fresh same reply result is moves sizes others ready alike goes call once ok err asks =
+write_replied a b v u w time block bytes fresh same reply result is moves possible own index touched sizes others ready alike goes call once ok err asks =
     subst (λ l. AnswersLine a b result (Write time block l) v w) same
     (line_replied a b v u w (Write time block bytes) reply result is (turned_done a v u (Write time block bytes) refl b goes moves)
-    (turned_stands a v u (Write time block bytes) refl b moves) sizes others ready alike goes
-    (quiet_moves v u (MayTurn a v (λ s. (step a.g).next s (Write time block bytes))) (HasTurned a b v (λ s. (step a.g).next s (Write time block bytes))) moves) call once ok err asks)
+    (turned_stands a v u (Write time block bytes) refl b moves) possible own index touched sizes others ready alike goes
+    (quiet_moves v u (AtAnyMoment a v (λ s. (step a.g).next s (Write time block bytes))) (StandsAfterCall a b v (λ s. (step a.g).next s (Write time block bytes))) moves) call once ok err asks)
 
 -- a write in which a disk failed
 pub write_struck : (a b : Mounted) (v u : View) (time block : ℕ) (bytes fresh : List ℕ) → bytes ≡ fresh → (denied : Denied)
-    → Moves v u (MayTurn a v (λ s. (step a.g).next s (Write time block bytes))) (MayTurn a v (λ s. (step a.g).next s (Write time block bytes)))
+    → Moves v u (AtAnyMoment a v (λ s. (step a.g).next s (Write time block bytes))) (AtAnyMoment a v (λ s. (step a.g).next s (Write time block bytes)))
+    → ((r : Reply) → decided_of_block a block (early_refusal a.head time) ≡ Some r → ⊥) → IndexAfterLine (Write time block bytes) a.index b.index → Touches (MayTouch a) v u
     → b.is_stopped ≡ (a.is_stopped || stops_array (Array denied))
-    → ((e : ℕ) → u.sizes e ≡ v.sizes e) → StaysFrom (a.g.members + 1) v u → IsReady b u → GoesOn a b → HasRisen a (Array denied) v u → ((offset : ℕ) → denied ≡ Damaged offset → ⊥) → (denied ≡ Stopped) ↔ ((block < volume a.g) × (a.is_stopped ≡ true))
+    → ((e : ℕ) → u.sizes e ≡ v.sizes e) → StaysFrom (a.g.members + 1) v u → IsReady b u → SameArray a b → FaultRose a (Array denied) v u → ((offset : ℕ) → denied ≡ Damaged offset → ⊥)
+    → (denied ≡ Stopped) ↔ ((block < volume a.g) × (a.is_stopped ≡ true))
     → AnswersLine a b (Err (Array denied)) (Write time block fresh) v u
-write_struck a b v u time block bytes fresh same denied moves stopped sizes others ready goes risen never exact =
+write_struck a b v u time block bytes fresh same denied moves own index touched stopped sizes others ready goes risen never exact =
     subst (λ l. AnswersLine a b (Err (Array denied)) (Write time block l) v u) same
-    (line_struck a b v u (Write time block bytes) denied (turned_struck a v u (Write time block bytes) refl denied risen moves) stopped
-    (quiet_moves v u (MayTurn a v (λ s. (step a.g).next s (Write time block bytes))) (MayTurn a v (λ s. (step a.g).next s (Write time block bytes))) moves) sizes others ready goes risen (names_none b u denied never) exact)
+    (line_struck a b v u (Write time block bytes) denied (turned_struck a v u (Write time block bytes) refl denied risen moves) own index touched stopped
+    (quiet_moves v u (AtAnyMoment a v (λ s. (step a.g).next s (Write time block bytes))) (AtAnyMoment a v (λ s. (step a.g).next s (Write time block bytes))) moves) sizes others ready goes risen
+    (names_none b u denied never) exact)
 
 -- a call that changes nothing of the array but perhaps whether it is stopped
-pub same_goes : (a b : Mounted) (stopped : Bool) → b ≡ record a { is_stopped = stopped } → GoesOn a b
-same_goes a b stopped same = subst (GoesOn a) (sym same) (record { g = refl; lost = refl; rebuilt = refl })
+pub same_goes : (a b : Mounted) (stopped : Bool) → b ≡ record a { is_stopped = stopped } → SameArray a b
+same_goes a b stopped same = subst (SameArray a) (sym same) (record { g = refl; follows = later_same a.head })
+
+-- such a call leaves the index
+same_index : (a b : Mounted) (asked : Request) (stopped : Bool) → b ≡ record a { is_stopped = stopped } → IndexAfterLine asked a.index b.index
+same_index a b asked stopped same = left asked (ap (λ (m : Mounted). m.index) same)
+  where
+    left : (asked : Request) → b.index ≡ a.index → IndexAfterLine asked a.index b.index
+    left (Write time block bytes) is = inl is
+    left (Read block) is = is
+    left (At seq block) is = is
+    left (By time block) is = is
+    left (Keep seq) is = is
+    left Info is = is
+    left Q is = is
+    left Bad is = is
 
 -- a request that changes no state, and is replied to
 pub same_replied : (a b : Mounted) (v u w : View) (asked : Request) → goes_on asked ≡ true → ((s : State) → (step a.g).next s asked ≡ s)
     → (stopped : Bool) → b ≡ record a { is_stopped = stopped } → stopped ≡ a.is_stopped → (reply : Reply) (result : Result Next SessionFault)
     → (IsTrue v.tells → (s : State) → Always v (StandsFor a s) → (step a.g).reply s asked ≡ reply)
+    → (decided_reply a asked ≡ Some reply) ⊎ MayReply a asked reply
+    → ((r : Reply) → decided_reply a asked ≡ Some r → (reply ≡ r) × Untouched v u)
     → Moves v u Same Same → ((e : ℕ) → u.sizes e ≡ v.sizes e) → (IsTrue v.tells → u.now ≡ v.now) → IsReady b u
     → Says (reply_text reply) result u w → SaidInOneCall u w → IfOk result (λ next. next ≡ More) → IfErr result (λ fault. fault ≡ WriteFault) → (AsksBlock a.g asked → a.is_stopped ≡ true → ⊥)
     → AnswersLine a b result asked v w
-same_replied a b v u w asked more still stopped same is_same reply result is moves sizes alike ready call once ok err asks =
+same_replied a b v u w asked more still stopped same is_same reply result is possible own moves sizes alike ready call once ok err asks =
     line_replied a b v u w asked reply result is (same_done a v u asked more moves still) (same_stands a v u asked more moves b stopped same still)
-    sizes (stays_same (a.g.members + 1) v u alike) ready (ap (λ (m : Mounted). m.is_stopped) same ∙ is_same) (same_goes a b stopped same) (λ told. ap (λ (c : Contents). c.said) (alike told)) call once ok err asks
+    possible own (same_index a b asked stopped same) (touches_same (MayTouch a) v u alike moves) sizes (stays_same (a.g.members + 1) v u alike) ready
+    (ap (λ (m : Mounted). m.is_stopped) same ∙ is_same) (same_goes a b stopped same)
+    (λ told. ap (λ (c : Contents). c.said) (alike told)) call once ok err asks
 
 -- a request that changes no state, in which the array failed
-pub same_failed : (a b : Mounted) (v u : View) (asked : Request) → goes_on asked ≡ true → (stopped : Bool) → b ≡ record a { is_stopped = stopped } → (denied : Denied) → stopped ≡ (a.is_stopped || stops_array (Array denied))
-    → Moves v u Same Same → ((e : ℕ) → u.sizes e ≡ v.sizes e) → (IsTrue v.tells → u.now ≡ v.now) → IsReady b u → HasRisen a (Array denied) v u
+pub same_failed : (a b : Mounted) (v u : View) (asked : Request) → goes_on asked ≡ true → (stopped : Bool) → b ≡ record a { is_stopped = stopped } → (denied : Denied)
+    → stopped ≡ (a.is_stopped || stops_array (Array denied))
+    → ((r : Reply) → decided_reply a asked ≡ Some r → ⊥)
+    → Moves v u Same Same → ((e : ℕ) → u.sizes e ≡ v.sizes e) → (IsTrue v.tells → u.now ≡ v.now) → IsReady b u → FaultRose a (Array denied) v u
     → ((offset : ℕ) → denied ≡ Damaged offset → IsTrue v.tells → HasBadRecord a.g a.index v.now.disks offset) → (denied ≡ Stopped) ↔ (AsksBlock a.g asked × (a.is_stopped ≡ true))
     → AnswersLine a b (Err (Array denied)) asked v u
-same_failed a b v u asked more stopped same denied stops moves sizes alike ready risen bad exact =
-    line_struck a b v u asked denied (same_struck a v u asked more moves denied risen)
+same_failed a b v u asked more stopped same denied stops own moves sizes alike ready risen bad exact =
+    line_struck a b v u asked denied (same_struck a v u asked more moves denied risen) own (same_index a b asked stopped same) (touches_same (MayTouch a) v u alike moves)
     (ap (λ (m : Mounted). m.is_stopped) same ∙ stops) (λ told. ap (λ (c : Contents). c.said) (alike told)) sizes (stays_same (a.g.members + 1) v u alike) ready (same_goes a b stopped same) risen
     (names_same a b v u stopped same moves.tells alike denied bad) exact
 
@@ -413,9 +481,13 @@ line_quits a v ready = record {
   speaks = λ told. refl;
   denied = (λ is. cc is, λ both. absurd both.0);
   ready = ready;
-  goes_on = record { g = refl; lost = refl; rebuilt = refl };
+  goes_on = record { g = refl; follows = later_same a.head };
   cause = tt;
   bad = tt;
+  replies = tt;
+  own = λ r is. absurd (cc is);
+  index = refl;
+  changes = changes_none (MayTouch a) v;
   sizes = λ e. refl;
   others = stays_none (a.g.members + 1) v;
 }
@@ -456,16 +528,21 @@ pub bad_replied : (a : Mounted) (v w : View) (result : Result Next SessionFault)
     → Says (reply_text (No NoLine)) result v w → SaidInOneCall v w → IfOk result (λ next. next ≡ More) → IfErr result (λ fault. fault ≡ WriteFault)
     → AnswersLine a a result Bad v w
 bad_replied a v w result ready call once ok err = same_replied a a v v w Bad refl (λ s. refl) a.is_stopped refl refl (No NoLine) result
-    (λ told s stands. refl) (no_call v) (λ e. refl) (λ told. refl) ready call once ok err (λ asks stopped. asks)
+    (λ told s stands. refl) (inl refl) (λ r is. (cc is, untouched_none v)) (no_call v) (λ e. refl) (λ told. refl) ready call once ok err (λ asks stopped. asks)
+
+same_reply : {x y : Reply} → Some x ≡ Some y → x ≡ y
+same_reply is = cc is
 
 -- The line asks for the numbers of the history.
 pub info_replied : (a : Mounted) (v w : View) (first last base_time last_time : ℕ) (result : Result Next SessionFault) → IsReady a v
     → ((s : State) (disks : Disks) → StandsFor a s disks → (step a.g).reply s Info ≡ Span first last base_time last_time)
+    → Span first last base_time last_time ≡ Span a.head.first a.head.last a.head.base_time a.head.last_time
     → Says (reply_text (Span first last base_time last_time)) result v w → SaidInOneCall v w → IfOk result (λ next. next ≡ More) → IfErr result (λ fault. fault ≡ WriteFault)
     → AnswersLine a a result Info v w
-info_replied a v w first last base_time last_time result ready span call once ok err =
+info_replied a v w first last base_time last_time result ready span head call once ok err =
     same_replied a a v v w Info refl (λ s. refl) a.is_stopped refl refl (Span first last base_time last_time) result
-    (λ told s stands. span s v.now.disks (stands v.now (read_is_left v told))) (no_call v) (λ e. refl) (λ told. refl) ready call once ok err (λ asks stopped. asks)
+    (λ told s stands. span s v.now.disks (stands v.now (read_is_left v told))) (inl (ap Some (sym head))) (λ r is. (head ∙ same_reply is, untouched_none v)) (no_call v) (λ e. refl)
+    (λ told. refl) ready call once ok err (λ asks stopped. asks)
 
 -- an array that isn't stopped doesn't say that it is
 pub not_both : (b : Bool) → b ≡ false → b ≡ true → ⊥
@@ -478,7 +555,7 @@ pub risen_of : (a : Mounted) (v u : View) {T : Type 0} (call : Result T Denied)
     → ((first second : ℕ) → call ≡ Err (MemberFault first second) → MemberFails a first second v u)
     → ((offset : ℕ) → call ≡ Err (Damaged offset) → StandsForNone a v)
     → (call ≡ Err Stopped → a.is_stopped ≡ true)
-    → (denied : Denied) → call ≡ Err denied → EndsSession denied → HasRisen a (Array denied) v u
+    → (denied : Denied) → call ≡ Err denied → EndsSession denied → FaultRose a (Array denied) v u
 risen_of a v u call log member damaged stopped (Refused why) is ends = ends
 risen_of a v u call log member damaged stopped LogFault is ends = log is
 risen_of a v u call log member damaged stopped (MemberFault first second) is ends = member first second is

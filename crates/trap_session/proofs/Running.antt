@@ -15,12 +15,16 @@ use Rattle.trap_script.specs.Walk.{state_after}
 use Rattle.trap_script.proofs.WalkLemmas.{state_after-next}
 use Rattle.trap_script.proofs.InputLemmas.{true_or_false}
 use Rattle.trap_script.proofs.GivenLemmas.{below_end}
-use Rattle.trap_array.specs.Calls.{Mounted, StandsFor, IsReady, GoesOn}
+use Rattle.trap_array.specs.Areas.{MayTouch}
+use Rattle.trap_array.specs.Beside.{StaysFrom}
+use Rattle.trap_array.specs.Calls.{Mounted, StandsFor, IsReady, SameArray}
 use Rattle.trap_array.specs.declared.fault.Denied.TheVariants.{Refused, LogFault, MemberFault, Damaged, Stopped}
-use Rattle.trap_session.specs.Store.{array_store, Answering, Served, StandsForNone, HasRisen}
+use Rattle.trap_array.proofs.Beside.{stays_none, both_stay}
+use Rattle.trap_session.specs.Store.{array_store, Answering, Served, StandsForNone, FaultRose}
 use Rattle.trap_session.specs.Answers.{Answers, HasAnswered, StandsOn, is_stopping, UnlessFailed, AnswersLine}
-use Rattle.trap_session.specs.Serving.{Serves, HasStopped, StopsAs, StopsBy, StopsAtPort, HoldsStill, Took}
-use Rattle.trap_session.specs.Leaving.{StandsAfter, HasServed}
+use Rattle.trap_session.specs.Serving.{Serves, HasStopped, StopsAs, StopsBy, StopsAtPort, StandsAtEnd, Took}
+use Rattle.trap_session.specs.Changing.{ChangesOnly}
+use Rattle.trap_session.specs.Leaving.{StandsAfter, HasRecordsMore, HasServed}
 use Rattle.trap_session.specs.declared.outcome.Next.{Next}
 use Rattle.trap_session.specs.declared.outcome.Next.TheVariants.{More, Quit}
 use Rattle.trap_session.specs.declared.outcome.Ended.{Ended}
@@ -30,6 +34,8 @@ use Rattle.trap_session.specs.declared.outcome.SessionFault.TheVariants.{Array, 
 use Rattle.trap_session.proofs.Walking.{Walked, walk_start}
 use Rattle.trap_session.proofs.Replying.{holds_own, holds_on, not_both, unless_failed, unless_also}
 use Rattle.trap_session.proofs.Quits.{quit_stays}
+use Rattle.trap_session.proofs.Touching.{changes_none, changed_then}
+use Rattle.trap_session.proofs.Indexing.{records_none, records_then, line_records}
 use Rattle.trap_session.proofs.Arrays.{array_answers, array_torn, answering_first, served_first, served_some, risen_first, goes_then}
 use Rattle.trap_session.proofs.Stopping.{part_line, more_line, more_state, quit_line, fault_line, part_last, done_last, fault_last}
 
@@ -47,12 +53,22 @@ Walks a v from passed turn old now = (s : State) → Always v (StandsFor a s) �
 abbrev pub Turns : Mounted → Mounted → View → View → (State → State) → Type 0
 Turns a b v w turn = (s : State) → Always v (StandsFor a s) → Always w (StandsFor b (turn s))
 
+-- what stayed, and that the index only grew
+pub record HasKept (a b : Mounted) (v w : View) : Type 0 where
+  pub changes : ChangesOnly (MayTouch a) v w
+  pub index : HasRecordsMore a.index b.index
+  pub sizes : (e : ℕ) → w.sizes e ≡ v.sizes e
+  pub others : StaysFrom (a.g.members + 1) v w
+
+pub kept_none : (a : Mounted) (v : View) → HasKept a a v v
+kept_none a v = record { changes = changes_none (MayTouch a) v; index = records_none a.index; sizes = λ e. refl; others = stays_none (a.g.members + 1) v }
+
 module _ (a : Mounted) (v : View) (from : Stream) where
   pub run_begins : Steps v v (Serves a v from) (Walks a v from [] (λ s. s))
   run_begins = nothing_done v (Serves a v from) (Walks a v from [] (λ s. s))
       (λ x was s stands input known. record { walked = walk_start (array_store a) s input x (holds_own a s x.disks (stands x was)); state_ = refl })
 
-  module _ (b : Mounted) (w : View) (passed : List ℕ) (turn : State → State) (goes : GoesOn a b) (turns : Turns a b v w turn)
+  module _ (b : Mounted) (w : View) (passed : List ℕ) (turn : State → State) (goes : SameArray a b) (turns : Turns a b v w turn)
       (steps : Steps v w (Serves a v from) (Walks a v from passed turn)) where
     -- where it stands for no state now, it stood for none on entry
     none_first : StandsForNone b w → StandsForNone a v
@@ -62,7 +78,7 @@ module _ (a : Mounted) (v : View) (from : Stream) where
     told_now told = subst IsTrue (sym steps.tells) told
 
     -- so far the disks hold a state
-    pub held_so_far : HoldsStill a v w
+    pub held_so_far : StandsAtEnd a v w
     held_so_far told s stands = (turn s, holds_on a b (turn s) w.now.disks goes (turns s stands w.now (read_is_left w (told_now told))))
 
     -- and the array stands for a state
@@ -76,13 +92,17 @@ module _ (a : Mounted) (v : View) (from : Stream) where
     }
 
     -- what the session leaves where no other line was answered
-    pub served_so_far : (result : Result Ended SessionFault) (to : Stream) → b.is_stopped ≡ false → IsReady b w → is_stopping result ≡ false → Took from to
+    pub served_so_far : (result : Result Ended SessionFault) (to : Stream) → HasKept a b v w → b.is_stopped ≡ false → IsReady b w → is_stopping result ≡ false → Took from to
         → (result ≡ Ok ended.Input → IsAtEnd to.left) → HasServed a b result v w from to
-    served_so_far result to going ready none took all = record {
+    served_so_far result to kept running ready none took all = record {
       goes_on = goes;
-      stopped = going ∙ sym none;
+      stopped = running ∙ sym none;
       ready = ready;
       stands = unless_failed result stands_so_far;
+      changes = kept.changes;
+      index = kept.index;
+      sizes = kept.sizes;
+      others = kept.others;
       took = took;
       all = all;
     }
@@ -108,14 +128,23 @@ module _ (a : Mounted) (v : View) (from : Stream) where
           → Served (array_store a) next (turn s) (request_of a.g.block line) y z
       served_now s stands y z served = served_first a b goes (turn s) (request_of a.g.block line) y z next (served (turn s) (turns s stands))
 
-      pub goes_further : GoesOn a c
-      goes_further = goes_then goes answers.goes_on
+      pub goes_further : SameArray a c
+      goes_further = goes_then {a = a} {b = b} {c = c} goes answers.goes_on
 
-      pub risen : b.is_stopped ≡ false → (fault : SessionFault) → next ≡ Err fault → HasRisen a fault v u
-      risen going fault is = risen_first a b goes v w u steps.faults steps.port_faults none_first (λ stopped. absurd (not_both b.is_stopped going stopped)) fault (subst (λ r. IfErr r (λ f. HasRisen b f w u)) is answers.cause)
+      pub kept_further : HasKept a b v w → HasKept a c v u
+      kept_further kept = record {
+        changes = changed_then a b v w u goes kept.changes answers.changes;
+        index = records_then a.index b.index c.index kept.index (line_records (request_of b.g.block line) b.index c.index answers.index);
+        sizes = λ e. answers.sizes e ∙ kept.sizes e;
+        others = both_stay a b v w u goes steps.tells kept.others answers.others;
+      }
+
+      pub risen : b.is_stopped ≡ false → (fault : SessionFault) → next ≡ Err fault → FaultRose a fault v u
+      risen running fault is = risen_first a b goes v w u steps.faults steps.port_faults none_first (λ stopped. absurd (not_both b.is_stopped running stopped)) fault
+          (subst (λ r. IfErr r (λ f. FaultRose b f w u)) is answers.cause)
 
       -- and behind another line
-      pub held_behind : HoldsStill a v u
+      pub held_behind : StandsAtEnd a v u
       held_behind told s stands =
           let came = asked_first.steps.now u.now (read_is_left u (subst IsTrue (sym asked_first.steps.tells) (told_now told))) in
           served_some a next (turn s) (request_of a.g.block line) came.origin u.now (served_now s stands came.origin u.now came.by)
@@ -154,23 +183,31 @@ module _ (a : Mounted) (v : View) (from : Stream) where
         stands_unless : UnlessFailed next (IsTrue v.tells → (s : State) → Always v (StandsFor a s) → StandsAfter a c s u from)
         stands_unless = unless_also next stands_behind asked_first.stands
 
-        pub served_fault : (to : Stream) (fault : SessionFault) → next ≡ Err fault → b.is_stopped ≡ false → Took from to → HasServed a c (Err fault) v u from to
-        served_fault to fault is going took = record {
+        pub served_fault : (to : Stream) (fault : SessionFault) → HasKept a b v w → next ≡ Err fault → b.is_stopped ≡ false → Took from to → HasServed a c (Err fault) v u from to
+        served_fault to fault kept is running took = let after = kept_further kept in record {
           goes_on = goes_further;
-          stopped = answers.stopped ∙ ap (λ (was : Bool). was || is_stopping next) going ∙ ap is_stopping is;
+          stopped = answers.stopped ∙ ap (λ (was : Bool). was || is_stopping next) running ∙ ap is_stopping is;
           ready = answers.ready;
           stands = subst (λ (r : Result Next SessionFault). UnlessFailed r (IsTrue v.tells → (s : State) → Always v (StandsFor a s) → StandsAfter a c s u from)) is stands_unless;
+          changes = after.changes;
+          index = after.index;
+          sizes = after.sizes;
+          others = after.others;
           took = took;
           all = λ none. absurd (cc none);
         }
 
-        pub served_ok : (to : Stream) (at_end : Ended) (way : Next) → next ≡ Ok way → b.is_stopped ≡ false → Took from to
+        pub served_ok : (to : Stream) (at_end : Ended) (way : Next) → HasKept a b v w → next ≡ Ok way → b.is_stopped ≡ false → Took from to
             → (◌≡◌ {A = Result Ended SessionFault} (Ok at_end) (Ok ended.Input) → IsAtEnd to.left) → HasServed a c (Ok at_end) v u from to
-        served_ok to at_end way is going took all = record {
+        served_ok to at_end way kept is running took all = let after = kept_further kept in record {
           goes_on = goes_further;
-          stopped = answers.stopped ∙ ap (λ (was : Bool). was || is_stopping next) going ∙ ap is_stopping is;
+          stopped = answers.stopped ∙ ap (λ (was : Bool). was || is_stopping next) running ∙ ap is_stopping is;
           ready = answers.ready;
           stands = subst (λ (r : Result Next SessionFault). UnlessFailed r (IsTrue v.tells → (s : State) → Always v (StandsFor a s) → StandsAfter a c s u from)) is stands_unless;
+          changes = after.changes;
+          index = after.index;
+          sizes = after.sizes;
+          others = after.others;
           took = took;
           all = all;
         }
@@ -245,12 +282,12 @@ module _ (a : Mounted) (v : View) (from : Stream) where
             (subst (λ r. Served (array_store a) r (turn s) (request_of a.g.block line) y z) is served)))
 
 -- why a session stops so, where a line had a fault
-pub fault_stops : (a : Mounted) (v u : View) (from to : Stream) → a.is_stopped ≡ false → (fault : SessionFault) → HasRisen a fault v u → StopsBy a (Err fault) v u from to
-fault_stops a v u from to going (Array (Refused why)) risen = risen
-fault_stops a v u from to going (Array LogFault) risen = risen
-fault_stops a v u from to going (Array (MemberFault first second)) risen = risen
-fault_stops a v u from to going (Array (Damaged offset)) risen = risen
-fault_stops a v u from to going (Array Stopped) risen = not_both a.is_stopped going risen
-fault_stops a v u from to going ReadFault risen = absurd risen
-fault_stops a v u from to going WriteFault risen = risen
-fault_stops a v u from to going TooLong risen = absurd risen
+pub fault_stops : (a : Mounted) (v u : View) (from to : Stream) → a.is_stopped ≡ false → (fault : SessionFault) → FaultRose a fault v u → StopsBy a (Err fault) v u from to
+fault_stops a v u from to running (Array (Refused why)) risen = risen
+fault_stops a v u from to running (Array LogFault) risen = risen
+fault_stops a v u from to running (Array (MemberFault first second)) risen = risen
+fault_stops a v u from to running (Array (Damaged offset)) risen = risen
+fault_stops a v u from to running (Array Stopped) risen = not_both a.is_stopped running risen
+fault_stops a v u from to running ReadFault risen = absurd risen
+fault_stops a v u from to running WriteFault risen = risen
+fault_stops a v u from to running TooLong risen = absurd risen

@@ -152,7 +152,8 @@ module _ {S : Type 0} (store : Store S) (s : S) (input passed : List ℕ) (old m
       either_way j front part holds (inr is) = inl (subst (λ k. store.holds new.disks (state_after store.machine s (lines store.block input) k)) (sym is) holds)
 
   -- while the next line is answered, a part of the replies is said
-  pub stops_part : (torn_next : (disks : Disks) (t : S) (y : Request) → store.torn disks t y → store.holds disks t ⊎ store.holds disks (store.machine.next t y)) (x : Request) (new : Contents) → AnswersByLines store.machine → ((more : goes_on x ≡ true) → (rest : List Request) × (drop (line_feeds passed) (lines store.block input) ≡ x ∷ rest))
+  pub stops_part : (torn_next : (disks : Disks) (t : S) (y : Request) → store.torn disks t y → store.holds disks t ⊎ store.holds disks (store.machine.next t y)) (x : Request) (new : Contents)
+      → AnswersByLines store.machine → ((more : goes_on x ≡ true) → (rest : List Request) × (drop (line_feeds passed) (lines store.block input) ≡ x ∷ rest))
       → Answering store now_at x mid new → StopsAtPort store s input old new
   stops_part torn_next x new by_lines next answering = elim answering as (λ _. StopsAtPort store s input old new) [
     | inl waits ↦ answered_part store.machine (store.holds new.disks) s (lines store.block input) (line_feeds passed) old.said new.said by_lines

@@ -1,28 +1,39 @@
--- What a line does to a mounted array: the state that it stands for is the one after the request, and the reply is said.
-use Rattle.std.specs.Prelude.{◌≡◌, ◌↔◌, ℕ, ◌+◌, ◌-◌, ◌^◌, ◌<◌, max, min, true, false, Bool, ◌||◌, IsTrue, Result, Ok, Err, IfErr}
+-- What a line does to a mounted array: the state that it stands for is the one after the request,
+-- and the reply is said.
+use Rattle.std.specs.Prelude.{◌≡◌, ◌↔◌, ℕ, ◌+◌, ◌-◌, ◌^◌, ◌<◌, max, min, true, false, Bool, ◌||◌, ◌++◌, Some, IsTrue, Result, Ok, Err, IfErr}
 use Rattle.trap_bank.specs.Disks.{Contents, View}
+use Rattle.trap_bank.specs.Calls.{Says, SaysPart}
 use Rattle.trap_bank.specs.Steps.{Steps, Always}
 use Rattle.trap_model.specs.ArrayStep.{step}
 use Rattle.trap_model.specs.declared.history.State.{State}
 use Rattle.trap_model.specs.Image.{volume}
 use Rattle.trap_model.specs.declared.numbers.Geometry.{Geometry}
+use Rattle.trap_model.specs.declared.request.Reply.{Reply}
 use Rattle.trap_model.specs.declared.request.Request.{Request}
 use Rattle.trap_model.specs.declared.request.Request.TheVariants.{Write, Read, At, By, Info, Keep, Bad, Quit as Q}
+use Rattle.trap_script.specs.Replies.{reply_text}
+use Rattle.trap_array.specs.Areas.{MayTouch}
 use Rattle.trap_array.specs.Beside.{StaysFrom}
-use Rattle.trap_array.specs.Calls.{Mounted, IsReady, GoesOn, StandsFor}
+use Rattle.trap_array.specs.Calls.{Mounted, IsReady, SameArray, StandsFor}
 use Rattle.trap_array.specs.declared.fault.Denied.TheVariants.{Refused, LogFault, MemberFault, Damaged, Stopped}
-use Rattle.trap_session.specs.Store.{array_store, Served, Answering, HasRisen, NamesBad}
+use Rattle.trap_session.specs.Changing.{ChangesOnly}
+use Rattle.trap_session.specs.Deciding.{decided_reply, RepliesTo}
+use Rattle.trap_session.specs.Indexing.{IndexAfterLine}
+use Rattle.trap_session.specs.Store.{array_store, Served, Answering, FaultRose, NamesBad}
 use Rattle.trap_session.specs.declared.outcome.Next.{Next}
 use Rattle.trap_session.specs.declared.outcome.Next.TheVariants.{More, Quit}
 use Rattle.trap_session.specs.declared.outcome.SessionFault.{SessionFault}
 use Rattle.trap_session.specs.declared.outcome.SessionFault.TheVariants.{Array, ReadFault, WriteFault, TooLong}
 
--- At any moment, whatever state the array stood for on entry: this is what a crash leaves while the line is answered.
+-- At any moment, whatever state the array stood for on entry: this is what a crash leaves while the
+-- line is answered.
 abbrev pub Answers : Mounted → View → Request → Contents → Contents → Type 0
-Answers a v asked old new = (s : State) → Always v (StandsFor a s) → Answering (array_store a) s asked old new
+Answers a v asked old new = (s : State) → Always v (StandsFor a s)
+    → Answering (array_store a) s asked old new
 
 -- At its end, whatever state the array stood for on entry: the line was answered so.
-abbrev pub HasAnswered : Mounted → View → Result Next SessionFault → Request → Contents → Contents → Type 0
+abbrev pub HasAnswered : Mounted → View → Result Next SessionFault → Request → Contents → Contents
+    → Type 0
 HasAnswered a v result asked old new =
     (s : State) → Always v (StandsFor a s) → Served (array_store a) result s asked old new
 
@@ -61,7 +72,8 @@ abbrev pub UnlessFailed : {T : Type 0} → Result T SessionFault → Type 0 → 
 UnlessFailed (Ok value) claim = claim
 UnlessFailed (Err fault) claim = UnlessStopped fault claim
 
--- one call of the bank ago, nothing had been said: a crash then may have left what was said on entry
+-- one call of the bank ago, nothing had been said: a crash then may have left what was said on
+-- entry
 pub record SaidSinceLastCall (old new : View) : Type 0 where
   pub before : ℕ
   pub last_call : new.moment ≡ max before (min (before + 1) (2 ^ 64 - 1))
@@ -69,7 +81,8 @@ pub record SaidSinceLastCall (old new : View) : Type 0 where
   pub left : new.left before entry
   pub said : entry.said ≡ old.now.said
 
--- where the bank tells, and each call raises the moment by one: all that was said was said in one call
+-- where the bank tells, and each call raises the moment by one: all that was said was said in one
+-- call
 abbrev pub SaidInOneCall : View → View → Type 0
 SaidInOneCall old new = IsTrue old.tells → IsTrue new.by_one → SaidSinceLastCall old new
 
@@ -85,6 +98,17 @@ Speaks (Err ReadFault) old new = SaidNothing old new
 Speaks (Err WriteFault) old new = SaidInOneCall old new
 Speaks (Err TooLong) old new = SaidNothing old new
 
+-- whatever the disks hold, a possible reply was said: whole, or in part where the port failed
+abbrev pub Replies : Mounted → Request → Result Next SessionFault → View → View → Type 0
+Replies a asked (Ok More) old new =
+    RepliesTo a asked (λ text. IsTrue old.tells → new.now.said ≡ old.now.said ++ text)
+Replies a asked (Ok Quit) old new = Unit {0}
+Replies a asked (Err (Array denied)) old new = Unit {0}
+Replies a asked (Err ReadFault) old new = ⊥
+Replies a asked (Err WriteFault) old new =
+    RepliesTo a asked (λ text. IsTrue old.tells → SaysPart text old.now new.now)
+Replies a asked (Err TooLong) old new = ⊥
+
 -- the request is one of a block that the array has
 abbrev pub AsksBlock : Geometry → Request → Type 0
 AsksBlock g (Write time block bytes) = block < volume g
@@ -96,18 +120,26 @@ AsksBlock g Info = ⊥
 AsksBlock g Q = ⊥
 AsksBlock g Bad = ⊥
 
--- One line and its reply, over the array before and after it. A reply comes when the request is committed, in one call;
--- after the fault of a disk the array is stopped, and the disks may hold either state. A stopped array answers all but
--- requests of its blocks.
-pub record AnswersLine (a b : Mounted) (result : Result Next SessionFault) (asked : Request) (old new : View) : Type 0 where
+-- One line and its reply, over the array before and after it. A reply comes when the request is
+-- committed, in one call; after the fault of a disk the array is stopped, and the disks may hold
+-- either state. A stopped array answers all but requests of its blocks. What the array's own
+-- numbers decide is replied whatever the disks hold, and whatever they hold, no byte changes but
+-- those that calls of this array may touch, at the end and at any moment.
+pub record AnswersLine (a b : Mounted) (result : Result Next SessionFault) (asked : Request)
+    (old new : View) : Type 0 where
   pub steps : Steps old new (Answers a old asked) (HasAnswered a old result asked)
   pub stands : UnlessFailed result (StandsOn a b asked old new)
   pub stopped : b.is_stopped ≡ (a.is_stopped || is_stopping result)
   pub speaks : Speaks result old new
   pub denied : (result ≡ Err (Array Stopped)) ↔ (AsksBlock a.g asked × (a.is_stopped ≡ true))
   pub ready : IsReady b new
-  pub goes_on : GoesOn a b
-  pub cause : IfErr result (λ fault. HasRisen a fault old new)
+  pub goes_on : SameArray a b
+  pub cause : IfErr result (λ fault. FaultRose a fault old new)
   pub bad : IfErr result (λ fault. NamesBad b fault new)
+  pub replies : Replies a asked result old new
+  pub own : (reply : Reply) → decided_reply a asked ≡ Some reply
+      → Says (reply_text reply) result old new
+  pub index : IndexAfterLine asked a.index b.index
+  pub changes : ChangesOnly (MayTouch a) old new
   pub sizes : (e : ℕ) → new.sizes e ≡ old.sizes e
   pub others : StaysFrom (a.g.members + 1) old new

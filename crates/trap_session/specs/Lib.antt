@@ -1,6 +1,10 @@
 pub mod Store
 pub mod Forms
 pub mod Denying
+pub mod Changing
+pub mod Deciding
+pub mod Indexing
 pub mod Answers
 pub mod Serving
 pub mod Leaving
+pub mod Exchange

@@ -11,7 +11,7 @@ use Rattle.trap_bank.specs.Steps.{Always}
 use Rattle.trap_model.specs.declared.history.State.{State}
 use Rattle.trap_array.specs.Calls.{Mounted, StandsFor, HoldsLike}
 use Rattle.trap_array.specs.declared.fault.Denied.TheVariants.{Stopped}
-use Rattle.trap_session.specs.Store.{Store, array_store, ComesWith, HasRisen}
+use Rattle.trap_session.specs.Store.{Store, array_store, FaultCause, FaultRose}
 use Rattle.trap_session.specs.declared.outcome.Next.{Next}
 use Rattle.trap_session.specs.declared.outcome.Next.TheVariants.{More, Quit}
 use Rattle.trap_session.specs.declared.outcome.Ended.{Ended}
@@ -34,7 +34,8 @@ StopsAfter store s input j old now =
     Answered store.machine (store.holds now.disks) s (lines store.block input) j old.said now.said
 
 -- the replies to the lines that were taken whole were said
-abbrev pub StopsReading : {S : Type 0} → Store S → S → List ℕ → Contents → Contents → Stream → Stream → Type 0
+abbrev pub StopsReading : {S : Type 0} → Store S → S → List ℕ → Contents → Contents → Stream
+    → Stream → Type 0
 StopsReading store s input old now from to =
     StopsAfter store s input (line_feeds (bytes_taken input from to)) old now
 
@@ -44,7 +45,8 @@ StopsAtPort store s input old now =
     AnsweredPart store.machine (store.holds now.disks) s (lines store.block input) old.said now.said
 
 -- the replies to the first j lines were said, and a disk failed in the next one
-pub record StopsTorn {S : Type 0} (store : Store S) (s : S) (input : List ℕ) (old now : Contents) : Type 0 where
+pub record StopsTorn {S : Type 0} (store : Store S) (s : S) (input : List ℕ)
+    (old now : Contents) : Type 0 where
   pub j : ℕ
   pub asked : Request
   pub rest : List Request
@@ -53,9 +55,11 @@ pub record StopsTorn {S : Type 0} (store : Store S) (s : S) (input : List ℕ) (
   pub torn : store.torn now.disks (state_after store.machine s (lines store.block input) j) asked
 
 -- What was said, and what the disks hold, when a session stops so.
-abbrev pub StopsAs : {S : Type 0} → Store S → Result Ended SessionFault → S → List ℕ → Contents → Contents → Stream → Stream → Type 0
+abbrev pub StopsAs : {S : Type 0} → Store S → Result Ended SessionFault → S → List ℕ → Contents
+    → Contents → Stream → Stream → Type 0
 StopsAs store (Ok ended) s input old now from to = StopsDone store s input old now
-StopsAs store (Err (Array denied)) s input old now from to = ComesWith denied (StopsTorn store s input old now)
+StopsAs store (Err (Array denied)) s input old now from to =
+    FaultCause denied (StopsTorn store s input old now)
 StopsAs store (Err ReadFault) s input old now from to = StopsReading store s input old now from to
 StopsAs store (Err WriteFault) s input old now from to = StopsAtPort store s input old now
 StopsAs store (Err TooLong) s input old now from to = StopsReading store s input old now from to
@@ -74,7 +78,7 @@ pub record HasQuit (size : ℕ) (bytes : List ℕ) : Type 0 where
   pub no_feed : HasNoFeed line
   pub quit : goes_on (request_of size line) ≡ false
 
--- the bytes' last line is a `Q` without a line feed: the input ends after it, as far as the source tells
+-- the bytes' last line is a `Q` without a line feed, and no more input comes
 pub record EndsInQuit (size : ℕ) (bytes : List ℕ) (to : Stream) : Type 0 where
   pub before : List ℕ
   pub line : List ℕ
@@ -86,7 +90,8 @@ pub record EndsInQuit (size : ℕ) (bytes : List ℕ) (to : Stream) : Type 0 whe
   pub none_left : IsAtEnd (prepend_known rest to.left)
   pub ended : to.ended ≡ true
 
--- from the source came bytes with a `Q` among their lines: a whole line, or the last one, which the input's end ends
+-- from the source came bytes with a `Q` among their lines: a whole line, or the last one, which the
+-- input's end ends
 pub record TookQuit (size : ℕ) (from to : Stream) : Type 0 where
   pub bytes : List ℕ
   pub taken : Consumes from.left to.left bytes
@@ -96,7 +101,8 @@ pub record TookQuit (size : ℕ) (from to : Stream) : Type 0 where
 -- where the input is known, none of its lines is a `Q`
 abbrev pub HadNoQuit : ℕ → Stream → Type 0
 HadNoQuit size from =
-    (input : List ℕ) → from.left ≡ Some input → All (λ line. goes_on (request_of size line) ≡ true) (lines_of input)
+    (input : List ℕ) → from.left ≡ Some input → All (λ line. goes_on (request_of size line) ≡ true)
+    (lines_of input)
 
 -- the next bytes of the source were taken, at most 2^40 of them
 pub record Took (from to : Stream) : Type 0 where
@@ -110,28 +116,34 @@ abbrev pub ended_by : Next → Ended
 ended_by More = ended.Input
 ended_by Quit = ended.Quit
 
--- Why a session stops so. It begins with an array that isn't stopped, and no session goes on behind a fault.
+-- Why a session stops so. It begins with an array that isn't stopped, and ends at the first fault.
 abbrev pub StopsBy : Mounted → Result Ended SessionFault → View → View → Stream → Stream → Type 0
 StopsBy a (Ok ended.Quit) old new from to = TookQuit a.g.block from to
 StopsBy a (Ok ended.Input) old new from to = to.ended ≡ true
 StopsBy a (Err (Array Stopped)) old new from to = ⊥
-StopsBy a (Err (Array denied)) old new from to = HasRisen a (Array denied) old new
+StopsBy a (Err (Array denied)) old new from to = FaultRose a (Array denied) old new
 StopsBy a (Err ReadFault) old new from to = Rose from.faults to.faults
-StopsBy a (Err WriteFault) old new from to = HasRisen a WriteFault old new
+StopsBy a (Err WriteFault) old new from to = FaultRose a WriteFault old new
 StopsBy a (Err TooLong) old new from to = (to.given ≡ from.given + 2 ^ 40) × (to.ended ≡ false)
 
--- At any moment, where the array stood for a state on entry and the input is known: a part of the replies was said, and
--- the disks hold the state after the requests whose replies were given, or after one more.
+-- At any moment, where the array stood for a state on entry and the input is known: a part of the
+-- replies was said, and the disks hold the state after the requests whose replies were given, or
+-- after one more.
 abbrev pub Serves : Mounted → View → Stream → Contents → Contents → Type 0
-Serves a v from old new = (s : State) → Always v (StandsFor a s) → (input : List ℕ) → from.left ≡ Some input
-    → AnsweredPart (array_store a).machine ((array_store a).holds new.disks) s (lines a.g.block input) old.said new.said
+Serves a v from old new =
+    (s : State) → Always v (StandsFor a s) → (input : List ℕ) → from.left ≡ Some input
+    → AnsweredPart (array_store a).machine ((array_store a).holds new.disks) s
+    (lines a.g.block input) old.said new.said
 
--- At its end, where the array stood for a state on entry and the input is known: the session stopped so.
-abbrev pub HasStopped : Mounted → View → Result Ended SessionFault → Stream → Stream → Contents → Contents → Type 0
-HasStopped a v result from to old new = (s : State) → Always v (StandsFor a s) → (input : List ℕ) → from.left ≡ Some input
+-- At its end, where the array stood for a state on entry and the input is known, it stopped so.
+abbrev pub HasStopped : Mounted → View → Result Ended SessionFault → Stream → Stream → Contents
+    → Contents → Type 0
+HasStopped a v result from to old new =
+    (s : State) → Always v (StandsFor a s) → (input : List ℕ) → from.left ≡ Some input
     → StopsAs (array_store a) result s input old new from to
 
--- At its end, whether the input is known or not: where the array stood for a state on entry, the disks hold one, by a head
--- that names the same lost member.
-abbrev pub HoldsStill : Mounted → View → View → Type 0
-HoldsStill a old new = IsTrue old.tells → (s : State) → Always old (StandsFor a s) → (t : State) × HoldsLike a.g a.head t new.now.disks
+-- At its end, whether the input is known or not: where the array stood for a state on entry, the
+-- disks hold one, by a head that names the same lost member.
+abbrev pub StandsAtEnd : Mounted → View → View → Type 0
+StandsAtEnd a old new = IsTrue old.tells → (s : State) → Always old (StandsFor a s)
+    → (t : State) × HoldsLike a.g a.head t new.now.disks

@@ -30,43 +30,48 @@ pub record Store (S : Type 0) : Type 1 where
   pub torn : Disks → S → Request → Type 0
 
 -- the reply was said, and the disks hold the state after the request
-pub record Replied {S : Type 0} (store : Store S) (s : S) (asked : Request) (old new : Contents) : Type 0 where
+pub record Replied {S : Type 0} (store : Store S) (s : S) (asked : Request)
+    (old new : Contents) : Type 0 where
   pub more : goes_on asked ≡ true
   pub said : new.said ≡ old.said ++ reply_text (store.machine.reply s asked)
   pub holds : store.holds new.disks (store.machine.next s asked)
 
 -- the port failed in the reply; the disks hold the state after the request
-pub record CutShort {S : Type 0} (store : Store S) (s : S) (asked : Request) (old new : Contents) : Type 0 where
+pub record CutShort {S : Type 0} (store : Store S) (s : S) (asked : Request)
+    (old new : Contents) : Type 0 where
   pub more : goes_on asked ≡ true
   pub part : SaysPart (reply_text (store.machine.reply s asked)) old new
   pub holds : store.holds new.disks (store.machine.next s asked)
 
 -- a disk failed in the request, and nothing was said
-pub record Struck {S : Type 0} (store : Store S) (s : S) (asked : Request) (old new : Contents) : Type 0 where
+pub record Struck {S : Type 0} (store : Store S) (s : S) (asked : Request)
+    (old new : Contents) : Type 0 where
   pub more : goes_on asked ≡ true
   pub said : new.said ≡ old.said
   pub torn : store.torn new.disks s asked
 
 -- the request ends the session, and nothing was done
-pub record LeftAlone {S : Type 0} (store : Store S) (s : S) (asked : Request) (old new : Contents) : Type 0 where
+pub record LeftAlone {S : Type 0} (store : Store S) (s : S) (asked : Request)
+    (old new : Contents) : Type 0 where
   pub ends : goes_on asked ≡ false
   pub said : new.said ≡ old.said
   pub holds : store.holds new.disks s
 
--- What a fault of the array comes with, where the array stood for a state. A record that was read again is never damaged
--- there.
-abbrev pub ComesWith : Denied → Type 0 → Type 0
-ComesWith (Refused why) claim = claim
-ComesWith LogFault claim = claim
-ComesWith (MemberFault first second) claim = claim
-ComesWith (Damaged offset) claim = ⊥
-ComesWith Stopped claim = claim
+-- What a fault of the array comes with, where the array stood for a state. A record that was read
+-- again is never damaged there.
+abbrev pub FaultCause : Denied → Type 0 → Type 0
+FaultCause (Refused why) claim = claim
+FaultCause LogFault claim = claim
+FaultCause (MemberFault first second) claim = claim
+FaultCause (Damaged offset) claim = ⊥
+FaultCause Stopped claim = claim
 
 -- what one line does, by its answer
-abbrev pub Served : {S : Type 0} → Store S → Result Next SessionFault → S → Request → Contents → Contents → Type 0
+abbrev pub Served : {S : Type 0} → Store S → Result Next SessionFault → S → Request → Contents
+    → Contents → Type 0
 Served store (Ok More) s asked old new = Replied store s asked old new
 Served store (Ok Quit) s asked old new = LeftAlone store s asked old new
-Served store (Err (Array denied)) s asked old new = ComesWith denied (Struck store s asked old new)
+Served store (Err (Array denied)) s asked old new = FaultCause denied (Struck store s asked old new)
 Served store (Err WriteFault) s asked old new = CutShort store s asked old new
 Served store (Err ReadFault) s asked old new = ⊥
 Served store (Err TooLong) s asked old new = ⊥
@@ -76,38 +81,42 @@ pub record Waits {S : Type 0} (store : Store S) (s : S) (old new : Contents) : T
   pub said : new.said ≡ old.said
   pub holds : store.holds new.disks s
 
--- what a crash leaves while one line is answered: nothing was done, or the disks were worked on, or they hold the
--- next state and a part of the reply was said
+-- what a crash leaves while one line is answered: nothing was done, or the disks were worked on, or
+-- they hold the next state and a part of the reply was said
 abbrev pub Answering : {S : Type 0} → Store S → S → Request → Contents → Contents → Type 0
-Answering store s asked old new = Waits store s old new ⊎ (Struck store s asked old new ⊎ CutShort store s asked old new)
+Answering store s asked old new = Waits store s old new
+    ⊎ (Struck store s asked old new ⊎ CutShort store s asked old new)
 
--- The states of a mounted array. The disks hold one by a head that names the same lost member as the array's. Where a
--- disk failed in a request, they hold the state before it or the one after.
+-- The states of a mounted array. The disks hold one by a head that names the same lost member as
+-- the array's. Where a disk failed in a request, they hold the state before it or the one after.
 abbrev pub array_store : Mounted → Store State
 array_store a = record {
   machine = step a.g;
   block = a.g.block;
   holds = λ disks s. HoldsLike a.g a.head s disks;
-  torn = λ disks s asked. HoldsLike a.g a.head s disks ⊎ HoldsLike a.g a.head ((step a.g).next s asked) disks;
+  torn = λ disks s asked. HoldsLike a.g a.head s disks
+      ⊎ HoldsLike a.g a.head ((step a.g).next s asked) disks;
 }
 
 -- where the bank tells, the array stands for no state
 abbrev pub StandsForNone : Mounted → View → Type 0
 StandsForNone a v = IsTrue v.tells → (s : State) → Always v (StandsFor a s) → ⊥
 
--- The count of what failed rose. No disk fails where a record that was read again is damaged: the array stood for no
--- state; nor where the array was stopped on entry. A refusal is no fault of a session.
-abbrev pub HasRisen : Mounted → SessionFault → View → View → Type 0
-HasRisen a (Array (Refused why)) old new = ⊥
-HasRisen a (Array LogFault) old new = Rose (old.faults 0) (new.faults 0)
-HasRisen a (Array (MemberFault first second)) old new = MemberFails a first second old new
-HasRisen a (Array (Damaged offset)) old new = StandsForNone a old
-HasRisen a (Array Stopped) old new = a.is_stopped ≡ true
-HasRisen a WriteFault old new = Rose old.port_faults new.port_faults
-HasRisen a ReadFault old new = ⊥
-HasRisen a TooLong old new = ⊥
+-- The count of what failed rose. No disk fails where a record that was read again is damaged: the
+-- array stood for no state; nor where the array was stopped on entry. A refusal is no fault of a
+-- session.
+abbrev pub FaultRose : Mounted → SessionFault → View → View → Type 0
+FaultRose a (Array (Refused why)) old new = ⊥
+FaultRose a (Array LogFault) old new = Rose (old.faults 0) (new.faults 0)
+FaultRose a (Array (MemberFault first second)) old new = MemberFails a first second old new
+FaultRose a (Array (Damaged offset)) old new = StandsForNone a old
+FaultRose a (Array Stopped) old new = a.is_stopped ≡ true
+FaultRose a WriteFault old new = Rose old.port_faults new.port_faults
+FaultRose a ReadFault old new = ⊥
+FaultRose a TooLong old new = ⊥
 
--- A record that was read again and is damaged: none with the header that the array knows stands where it should.
+-- A record that was read again and is damaged: none with the header that the array knows stands
+-- where it should.
 abbrev pub NamesBad : Mounted → SessionFault → View → Type 0
 NamesBad a (Array (Refused why)) v = Unit {0}
 NamesBad a (Array LogFault) v = Unit {0}

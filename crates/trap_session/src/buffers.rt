@@ -115,7 +115,7 @@ impl Buffers {
         }
     }
 
-    // Reads the block as it was after all entries with a time of at most this one into `fresh`, and replies.
+    // Reads the block as it was after all entries up to this time into `fresh`, and replies.
     fn by<B: Bank>(
         &mut self,
         array: &mut Array,
@@ -173,7 +173,8 @@ impl Buffers {
         requires ready { IsReady array.old (B.view bank.old) }
         ensures answers { AnswersLine array.old array.new result
             (request_with line self.old.fresh.items) (B.view bank.old) (B.view bank.new) }
-        ensures quit { (result ≡ Ok Next.Quit) ↔ (goes_on (request_with line self.old.fresh.items) ≡ false) }
+        ensures quit { (result ≡ Ok Next.Quit)
+            ↔ (goes_on (request_with line self.old.fresh.items) ≡ false) }
         ensures same { self.new.g ≡ self.old.g }
     {
         let no_line = Answer::No(Refusal::NoLine);
@@ -200,7 +201,8 @@ impl Buffers {
         requires ready { IsReady array.old (B.view bank.old) }
         ensures answers { AnswersLine array.old array.new result
             (request_of array.old.g.block line.now) (B.view bank.old) (B.view bank.new) }
-        ensures quit { (result ≡ Ok Next.Quit) ↔ (goes_on (request_of array.old.g.block line.now) ≡ false) }
+        ensures quit { (result ≡ Ok Next.Quit)
+            ↔ (goes_on (request_of array.old.g.block line.now) ≡ false) }
         ensures same { self.new.g ≡ self.old.g }
     {
         let line = read_line(line, self.fresh.as_mut_slice());
@@ -218,8 +220,9 @@ impl Buffers {
         requires room { room reader.now ≡ 44 + 2 * self.old.g.block }
         requires geometry { array.old.g ≡ self.old.g }
         requires ready { IsReady array.old (B.view bank.old) }
-        ensures answers { (line : List ℕ) → IsLine line len reader.now → AnswersLine array.old array.new result
-            (request_of array.old.g.block line) (B.view bank.old) (B.view bank.new) }
+        ensures answers { (line : List ℕ) → IsLine line len reader.now
+            → AnswersLine array.old array.new result (request_of array.old.g.block line)
+            (B.view bank.old) (B.view bank.new) }
         ensures quit { (line : List ℕ) → IsLine line len reader.now
             → (result ≡ Ok Next.Quit) ↔ (goes_on (request_of array.old.g.block line) ≡ false) }
         ensures same { self.new.g ≡ self.old.g }

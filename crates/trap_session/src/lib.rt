@@ -6,6 +6,8 @@ mod outcome;
 mod reply;
 mod serve;
 mod session;
+#[cfg(test)]
+mod tests;
 
 pub use outcome::{Ended, Next, SessionFault};
 pub use session::Session;

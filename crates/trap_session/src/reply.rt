@@ -19,7 +19,8 @@ pub fn say_answer<B: Bank>(
     out: &mut [u8],
 ) -> Result<Next, SessionFault>
     requires { 88 + 2 * shown_len answer.now ≤ length out.old }
-    ensures says { Says (reply_text (reply_from answer.now)) result (B.view bank.old) (B.view bank.new) }
+    ensures says { Says (reply_text (reply_from answer.now)) result
+        (B.view bank.old) (B.view bank.new) }
     ensures once { SaidInOneCall (B.view bank.old) (B.view bank.new) }
     ensures more { IfOk result (λ next. next ≡ Next.More) }
     ensures port { IfErr result (λ fault. fault ≡ SessionFault.WriteFault) }

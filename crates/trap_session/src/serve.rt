@@ -1,13 +1,14 @@
 //! The loop of a session over its lines.
 
-ghost use Rattle.std.specs.Prelude.{◌≡◌, ◌+◌, ◌*◌, ◌^◌, ◌≤◌, ℕ, [], false, IfErr};
+ghost use Rattle.std.specs.Prelude.{◌≡◌, ◌+◌, ◌*◌, ◌^◌, ◌≤◌, [], false, IfErr};
 ghost use Rattle.trap_bank.specs.Steps.{Steps};
 ghost use Rattle.trap_lines.specs.Reader.{pending, taken, room};
-ghost use Rattle.trap_array.specs.Beside.{StaysFrom};
 ghost use Rattle.trap_array.specs.Calls.{IsReady};
 ghost use Rattle.trap_session.specs.Store.{NamesBad};
 ghost use Rattle.trap_session.specs.Leaving.{HasServed};
-ghost use Rattle.trap_session.specs.Serving.{Serves, HasStopped, StopsBy, HadNoQuit, HoldsStill, ended_by};
+ghost use Rattle.trap_session.specs.Exchange.{IsSession};
+ghost use Rattle.trap_session.specs.Serving.{Serves, HasStopped, StopsBy};
+ghost use Rattle.trap_session.specs.Serving.{HadNoQuit, StandsAtEnd, ended_by};
 
 use crate::buffers::Buffers;
 use crate::{Ended, Next, SessionFault};
@@ -34,7 +35,7 @@ pub fn serve<B: Bank, S: Source>(
     source: &mut S,
 ) -> Result<Ended, SessionFault>
     requires geometry { array.old.g ≡ buffers.old.g }
-    requires going { array.old.is_stopped ≡ false }
+    requires running { array.old.is_stopped ≡ false }
     requires ready { IsReady array.old (B.view bank.old) }
     requires room { room reader.old ≡ 44 + 2 * buffers.old.g.block }
     requires none { pending reader.old ≡ [] }
@@ -42,16 +43,17 @@ pub fn serve<B: Bank, S: Source>(
     requires below { (S.stream source.old).given ≤ 2 ^ 62 }
     ensures stops { Steps (B.view bank.old) (B.view bank.new)
         (Serves array.old (B.view bank.old) (S.stream source.old))
-        (HasStopped array.old (B.view bank.old) result (S.stream source.old) (S.stream source.new)) }
+        (HasStopped array.old (B.view bank.old) result
+        (S.stream source.old) (S.stream source.new)) }
     ensures cause { StopsBy array.old result (B.view bank.old) (B.view bank.new)
         (S.stream source.old) (S.stream source.new) }
     ensures bad { IfErr result (λ fault. NamesBad array.new fault (B.view bank.new)) }
     ensures no_quit { result ≡ Ok Ended.Input → HadNoQuit array.old.g.block (S.stream source.old) }
-    ensures held { HoldsStill array.old (B.view bank.old) (B.view bank.new) }
-    ensures sizes { (e : ℕ) → (B.view bank.new).sizes e ≡ (B.view bank.old).sizes e }
-    ensures others { StaysFrom (array.old.g.members + 1) (B.view bank.old) (B.view bank.new) }
+    ensures held { StandsAtEnd array.old (B.view bank.old) (B.view bank.new) }
     ensures leaves { HasServed array.old array.new result (B.view bank.old) (B.view bank.new)
         (S.stream source.old) (S.stream source.new) }
+    ensures session { IsSession B.view array.old array.new result bank.old bank.new
+        (S.stream source.old) }
 {
     'lines: loop {
         match reader.next(source) {

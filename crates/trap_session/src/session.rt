@@ -1,14 +1,14 @@
 //! A session over a mounted array.
 
-ghost use Rattle.std.specs.Prelude.{◌≡◌, ◌+◌, ◌*◌, ◌^◌, ◌≤◌, ◌↔◌, [], ℕ, IsTrue, IfOk, IfErr, false};
+ghost use Rattle.std.specs.Prelude.{◌≡◌, ◌+◌, ◌*◌, ◌^◌, ◌≤◌, ◌↔◌, [], IfOk, IfErr, false};
 ghost use Rattle.trap_bank.specs.Steps.{Steps};
 ghost use Rattle.trap_script.specs.Lines.{request_of, goes_on};
-ghost use Rattle.trap_array.specs.Beside.{StaysFrom};
 ghost use Rattle.trap_array.specs.Calls.{IsReady};
 ghost use Rattle.trap_session.specs.Answers.{AnswersLine};
 ghost use Rattle.trap_session.specs.Store.{NamesBad};
 ghost use Rattle.trap_session.specs.Leaving.{HasServed};
-ghost use Rattle.trap_session.specs.Serving.{Serves, HasStopped, StopsBy, HadNoQuit, HoldsStill};
+ghost use Rattle.trap_session.specs.Exchange.{IsSession};
+ghost use Rattle.trap_session.specs.Serving.{Serves, HasStopped, StopsBy, HadNoQuit, StandsAtEnd};
 
 use crate::buffers::Buffers;
 use crate::serve::serve;
@@ -20,7 +20,8 @@ use trap_bank::{Bank, Source};
 use trap_lines::LineReader;
 use trap_model::Geometry;
 
-/// The buffers of a session: a contract sees the numbers of the array that it is for. It reads one input, once.
+/// The buffers of a session: a contract sees the numbers of the array that it is for. It reads one
+/// input, once.
 #[derive(Drop)]
 pub struct Session {
     buffers: Buffers,
@@ -51,8 +52,8 @@ impl Session {
         Ok(Session { buffers, reader })
     }
 
-    /// Answers one line that stands outside an input, with its reply in one call. Over a stopped array a request of one
-    /// of its blocks ends in `Stopped`, and every other line is answered.
+    /// Answers one line that is part of no input, with its reply in one call. Over a stopped array
+    /// a request of one of its blocks ends in `Stopped`, and every other line is answered.
     pub fn one<B: Bank>(
         &mut self,
         array: &mut Array,
@@ -63,13 +64,15 @@ impl Session {
         requires ready { IsReady array.old (B.view bank.old) }
         ensures answers { AnswersLine array.old array.new result
             (request_of array.old.g.block line.now) (B.view bank.old) (B.view bank.new) }
-        ensures quit { (result ≡ Ok Next.Quit) ↔ (goes_on (request_of array.old.g.block line.now) ≡ false) }
+        ensures quit { (result ≡ Ok Next.Quit)
+            ↔ (goes_on (request_of array.old.g.block line.now) ≡ false) }
         ensures same { self.new ≡ self.old }
     {
         self.buffers.one(array, bank, line)
     }
 
-    /// Answers line after line, up to a `Q` or the end of the input. No turn of the background is taken yet.
+    /// Answers line after line, up to a `Q` or the end of the input. No turn of the background is
+    /// taken yet.
     pub fn serve<B: Bank, S: Source>(
         self,
         array: &mut Array,
@@ -77,21 +80,23 @@ impl Session {
         source: &mut S,
     ) -> Result<Ended, SessionFault>
         requires geometry { array.old.g ≡ self }
-        requires going { array.old.is_stopped ≡ false }
+        requires running { array.old.is_stopped ≡ false }
         requires ready { IsReady array.old (B.view bank.old) }
         requires below { (S.stream source.old).given ≤ 2 ^ 62 }
         ensures stops { Steps (B.view bank.old) (B.view bank.new)
             (Serves array.old (B.view bank.old) (S.stream source.old))
-            (HasStopped array.old (B.view bank.old) result (S.stream source.old) (S.stream source.new)) }
+            (HasStopped array.old (B.view bank.old) result
+            (S.stream source.old) (S.stream source.new)) }
         ensures cause { StopsBy array.old result (B.view bank.old) (B.view bank.new)
             (S.stream source.old) (S.stream source.new) }
         ensures bad { IfErr result (λ fault. NamesBad array.new fault (B.view bank.new)) }
-        ensures no_quit { result ≡ Ok Ended.Input → HadNoQuit array.old.g.block (S.stream source.old) }
-        ensures held { HoldsStill array.old (B.view bank.old) (B.view bank.new) }
-        ensures sizes { (e : ℕ) → (B.view bank.new).sizes e ≡ (B.view bank.old).sizes e }
-        ensures others { StaysFrom (array.old.g.members + 1) (B.view bank.old) (B.view bank.new) }
+        ensures no_quit { result ≡ Ok Ended.Input
+            → HadNoQuit array.old.g.block (S.stream source.old) }
+        ensures held { StandsAtEnd array.old (B.view bank.old) (B.view bank.new) }
         ensures leaves { HasServed array.old array.new result (B.view bank.old) (B.view bank.new)
             (S.stream source.old) (S.stream source.new) }
+        ensures session { IsSession B.view array.old array.new result bank.old bank.new
+            (S.stream source.old) }
     {
         let mut buffers = self.buffers;
         let mut reader = self.reader;
