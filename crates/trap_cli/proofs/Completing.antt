@@ -22,9 +22,10 @@ use Rattle.trap_cli.specs.declared.command.Command.TheVariants.{Create, Session,
 use Rattle.trap_cli.specs.declared.outcome.Ended.{Ended}
 use Rattle.trap_cli.specs.declared.outcome.Ended.TheVariants.{Done, Usage, BadGeometry, NotCreated, NotMounted, Stopped, Port, Memory}
 use Rattle.trap_cli.specs.Ended.{mount_status, status_of, created_line}
-use Rattle.trap_cli.specs.Cause.{StoppedBy, MemberFaults, WantsMemory, SessionCause, HistoryCause, CreateCause}
-use Rattle.trap_cli.specs.Stops.{BeginsTold}
-use Rattle.trap_cli.specs.Run.{SaysLast, Ends, Runs}
+use Rattle.trap_cli.specs.Cause.{WantsMemory, SessionCause, HistoryCause, CreateCause}
+use Rattle.trap_cli.specs.Stopping.{StopCause, MemberFaults}
+use Rattle.trap_cli.specs.Said.{BeginsHeld}
+use Rattle.trap_cli.specs.Run.{SaysLast, ThenLastLine, EndsAs}
 use Rattle.trap_cli.specs.Completes.{output, NothingFails, IsUnused, IsDone, Completes}
 
 -- nothing is said behind what was done
@@ -59,7 +60,7 @@ module _ (old new : View) (from to : Stream) (lawful : IsLawful old) (g : Geomet
 
   -- and no session stops
   going : (input : List ℕ) → from.left ≡ Some input → length input < 2 ^ 40 → Took from to
-      → (why : SessionFault) → StoppedBy why old new from to → ⊥
+      → (why : SessionFault) → StopCause why old new from to → ⊥
   going input known short took (serving.Array (denied.Refused why)) by = by
   going input known short took (serving.Array denied.LogFault) by = fails.log by
   going input known short took (serving.Array (denied.MemberFault first second)) by = no_member first second by
@@ -71,8 +72,8 @@ module _ (old new : View) (from to : Stream) (lawful : IsLawful old) (g : Geomet
       too_long input to.left took.bytes (subst (λ (left : Option (List ℕ)). Consumes left to.left took.bytes) known took.taken) short
       (let given = took.given in let most = by.0 in omega (arith, given, most))
 
-  session_done : (status : ℕ) (input : List ℕ) → BeginsTold g s input old from → length input < 2 ^ 40 → Took from to
-      → (ended : Ended) → status ≡ status_of ended → SessionCause ended old new from to → Ends (Some Session) ended old new from to
+  session_done : (status : ℕ) (input : List ℕ) → BeginsHeld g s input old from → length input < 2 ^ 40 → Took from to
+      → (ended : Ended) → status ≡ status_of ended → SessionCause ended old new from to → ThenLastLine (Some Session) ended old new from to
       → IsDone status (output g s Session input) old new
   session_done status input begins short took Done number cause ends =
       let stops = ends.stops g s input begins in
@@ -87,7 +88,7 @@ module _ (old new : View) (from to : Stream) (lawful : IsLawful old) (g : Geomet
   session_done status input begins short took Memory number cause ends = inr number
 
   history_done : (status : ℕ) (input : List ℕ) → Holds g s old.now.disks
-      → (ended : Ended) → status ≡ status_of ended → HistoryCause ended old new → Ends (Some History) ended old new from to
+      → (ended : Ended) → status ≡ status_of ended → HistoryCause ended old new → ThenLastLine (Some History) ended old new from to
       → IsDone status (output g s History input) old new
   history_done status input holds Done number cause ends =
       let stops = ends.stops g s told holds in
@@ -102,7 +103,7 @@ module _ (old new : View) (from to : Stream) (lawful : IsLawful old) (g : Geomet
 
 create_done : (status : ℕ) (asked : Asked) (g : Geometry) (old new : View) (from to : Stream) → IsTrue old.tells → HasNumbers g asked → first_broken asked ≡ None
     → NoneIsThere g old → NothingFails g (λ m. ⊥) old new from to
-    → (ended : Ended) → status ≡ status_of ended → CreateCause asked ended old new → Ends (Some (Create asked)) ended old new from to
+    → (ended : Ended) → status ≡ status_of ended → CreateCause asked ended old new → ThenLastLine (Some (Create asked)) ended old new from to
     → (status ≡ 0) × (new.now.said ≡ old.now.said ++ created_line asked.id)
 create_done status asked g old new from to told numbers kept none fails Done number cause ends =
     (number, nothing_more ends.before old new ends.last ∙ (ends.stops told).said)
@@ -119,14 +120,14 @@ create_done status asked g old new from to told numbers kept none fails (Stopped
 create_done status asked g old new from to told numbers kept none fails Port number cause ends = absurd (fails.port cause)
 create_done status asked g old new from to told numbers kept none fails Memory number cause ends = absurd cause
 
-pub run_completes : (status : ℕ) (command : Option Command) (old new : View) (from to : Stream) → IsLawful old → Runs status command old new from to
-    → Completes status command old new from to
-run_completes status None old new from to lawful runs = tt
-run_completes status (Some Session) old new from to lawful runs = λ g s input begins short fails.
+pub run_completes : (status : ℕ) (command : Option Command) (old new : View) (from to : Stream) → IsLawful old → (ended : Ended)
+    → EndsAs status command ended old new from to → Completes status command old new from to
+run_completes status None old new from to lawful ended runs = tt
+run_completes status (Some Session) old new from to lawful ended runs = λ g s input begins short fails.
     session_done old new from to lawful g begins.holds.head s begins.tells begins.holds.by fails
-    status input begins short runs.took runs.ended runs.number runs.cause (runs.told begins.tells)
-run_completes status (Some History) old new from to lawful runs = λ g s input told holds fails.
+    status input begins short runs.took ended runs.number runs.cause (runs.told begins.tells)
+run_completes status (Some History) old new from to lawful ended runs = λ g s input told holds fails.
     history_done old new from to lawful g holds.head s told holds.by fails
-    status input holds runs.ended runs.number runs.cause (runs.told told)
-run_completes status (Some (Create asked)) old new from to lawful runs = λ g told numbers kept none fails.
-    create_done status asked g old new from to told numbers kept none fails runs.ended runs.number runs.cause (runs.told told)
+    status input holds ended runs.number runs.cause (runs.told told)
+run_completes status (Some (Create asked)) old new from to lawful ended runs = λ g told numbers kept none fails.
+    create_done status asked g old new from to told numbers kept none fails ended runs.number runs.cause (runs.told told)

@@ -24,8 +24,8 @@ use Rattle.trap_cli.specs.declared.outcome.Ended.{Ended}
 use Rattle.trap_cli.specs.declared.outcome.Ended.TheVariants.{Done, Usage, BadGeometry, NotCreated, NotMounted, Stopped, Port, Memory}
 use Rattle.trap_cli.specs.Command.{command_session}
 use Rattle.trap_cli.specs.Ended.{last_line}
-use Rattle.trap_cli.specs.Stops.{SessionStops, BeginsTold, HasEnded}
-use Rattle.trap_cli.specs.Crash.{IsFaultFront, HoldsSince, HoldsAfter, replies_given, SessionLeaves, LeftSaid, Leaves, LeavesBefore}
+use Rattle.trap_cli.specs.Said.{SessionSaid, BeginsHeld, ServedSaid}
+use Rattle.trap_cli.specs.Crash.{IsFaultFront, HoldsSince, HoldsAfter, AfterGiven, replies_given, SessionLeaves, LeftSaid, LeavesNow, LeavesWithFront}
 use Rattle.trap_cli.proofs.Lines.{array_answers, given_fault}
 use Rattle.trap_session.proofs.Arrays.{comes_gives}
 use Rattle.trap_cli.proofs.Stopping.{LostOn, since_store, since_like, stops_since}
@@ -38,7 +38,7 @@ drop_all : (all : List Request) → drop (length all) all ≡ []
 drop_all [] = refl
 drop_all (x ∷ all) = drop_all all
 
-module _ (g : Geometry) (s : State) (input : List ℕ) (old : View) (from : Stream) (begins : BeginsTold g s input old from) where
+module _ (g : Geometry) (s : State) (input : List ℕ) (old : View) (from : Stream) (begins : BeginsHeld g s input old from) where
   -- before the first line, only a fault line is said
   pub none_given : (p : List ℕ) → IsFaultFront p → replies_given g s input p ≡ 0
   none_given p front = given_fault (step g) (array_answers g) s (lines g.block input) 0 p (lines_go_on g.block input) (omega arith) front
@@ -52,17 +52,17 @@ module _ (g : Geometry) (s : State) (input : List ℕ) (old : View) (from : Stre
 
   -- where every crash on entry leaves the state
   pub crash_holds : Always old (λ disks. Holds g s disks) → (p : List ℕ) (disks : Disks) → SessionLeaves g s input old p disks
-      → Holds g (state_after (step g) s (lines g.block input) (replies_given g s input p)) disks
-      ⊎ Holds g (state_after (step g) s (lines g.block input) (replies_given g s input p + 1)) disks
+      → AfterGiven g s input p (λ t. Holds g t disks)
   crash_holds always p disks (inl (front, beside)) =
       let entry = always (record { disks = beside.entry; said = old.now.said })
-      (record { told = begins.tells; torn = record { disks = beside.left; said = refl } }) in
-      inl (subst (λ (j : ℕ). Holds g (state_after (step g) s (lines g.block input) j) disks) (sym (none_given p front))
-      (⊎_elim (λ (same : disks ≡ beside.entry). subst (λ (disks : Disks). Holds g s disks) (sym same) entry)
-      (λ (same : SameHead beside.entry disks). same_head_holds g s beside.entry disks same entry) beside.same))
-  crash_holds always p disks (inr holds) = ⊎_elim
-      (λ (now : HoldsAfter g s old input (replies_given g s input p) disks). inl (record { head = now.head; by = now.by }))
-      (λ (next : HoldsAfter g s old input (replies_given g s input p + 1) disks). inr (record { head = next.head; by = next.by })) holds
+      (record { told = begins.tells; torn = record { disks = beside.left; said = refl } }) in (
+        0,
+        inl (sym (none_given p front)),
+        ⊎_elim (λ (same : disks ≡ beside.entry). subst (λ (disks : Disks). Holds g s disks) (sym same) entry)
+            (λ (same : SameHead beside.entry disks). same_head_holds g s beside.entry disks same entry) beside.same,
+      )
+  crash_holds always p disks (inr (inl now)) = (_, inl refl, record { head = now.head; by = now.by })
+  crash_holds always p disks (inr (inr next)) = (_, inr refl, record { head = next.head; by = next.by })
 
   -- and then a line is said
   pub said_behind : (before : List ℕ) (z : Contents) (p0 front : List ℕ) → z.said ≡ before ++ p0 → SessionLeaves g s input old (p0 ++ front) z.disks
@@ -85,7 +85,7 @@ module _ (g : Geometry) (s : State) (input : List ℕ) (old : View) (from : Stre
 
   -- when the session has stopped
   stopped_leaves : (ended : Ended) (to : Stream) (x y z : Contents) → y.said ≡ x.said
-      → SessionStops (since_store g old) ended s input y z from to → (front rest : List ℕ) → front ++ rest ≡ last_line ended
+      → SessionSaid (since_store g old) ended s input y z from to → (front rest : List ℕ) → front ++ rest ≡ last_line ended
       → LeftSaid (SessionLeaves g s input old) x.said (record { disks = z.disks; said = z.said ++ front })
   stopped_leaves Done to x y z quiet stops front rest is =
       let all = lines g.block input in
@@ -128,9 +128,9 @@ module _ (g : Geometry) (s : State) (input : List ℕ) (old : View) (from : Stre
 
 -- An array that can't be mounted is left so.
 pub unmounted_steps : (a b : View) (from : Stream) (why : MountFault) → Moves a b (Mounting a) (Mounting a)
-    → Steps a b (Leaves command_session a from) (LeavesBefore (last_line (NotMounted why)) command_session a from)
-unmounted_steps a b from why moves = weaken a b (Quiet (Mounting a)) (Quiet (Mounting a)) (Leaves command_session a from)
-    (LeavesBefore (last_line (NotMounted why)) command_session a from) moves
+    → Steps a b (LeavesNow command_session a from) (LeavesWithFront (last_line (NotMounted why)) command_session a from)
+unmounted_steps a b from why moves = weaken a b (Quiet (Mounting a)) (Quiet (Mounting a)) (LeavesNow command_session a from)
+    (LeavesWithFront (last_line (NotMounted why)) command_session a from) moves
     (λ x y was step g s input begins. record {
       part = [];
       said = step.said ∙ sym (append-nil x.said);
@@ -144,10 +144,10 @@ pub session_steps : (a b c : View) (from to : Stream) (ended : Ended) (array : M
     → ((g : Geometry) (s : State) → IsTrue a.tells → Holds g s a.now.disks → (array.g ≡ g) × Always b (StandsFor array s))
     → ((g : Geometry) (s : State) → IsTrue a.tells → Holds g s a.now.disks → LostOn g a array.head)
     → Moves a b (Mounting a) (Mounting a)
-    → Steps b c (Serves array b from) (HasEnded array b ended from to)
-    → Steps a c (Leaves command_session a from) (LeavesBefore (last_line ended) command_session a from)
+    → Steps b c (Serves array b from) (ServedSaid array b ended from to)
+    → Steps a c (LeavesNow command_session a from) (LeavesWithFront (last_line ended) command_session a from)
 session_steps a b c from to ended array stands lost mounted served = then_ a b c (Quiet (Mounting a)) (Quiet (Mounting a))
-    (Serves array b from) (HasEnded array b ended from to) (Leaves command_session a from) (LeavesBefore (last_line ended) command_session a from) mounted served
+    (Serves array b from) (ServedSaid array b ended from to) (LeavesNow command_session a from) (LeavesWithFront (last_line ended) command_session a from) mounted served
     (λ x y was step g s input begins. record {
       part = [];
       said = step.said ∙ sym (append-nil x.said);

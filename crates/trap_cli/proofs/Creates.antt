@@ -1,5 +1,5 @@
 -- All but the last line of `create`.
-use Rattle.std.proofs.Common.{◌≡◌, ◌≢◌, ◌↔◌, ◌⊎◌, inl, inr, ⊎_elim, ℕ, zero, suc, ◌<◌, ◌≤◌, List, [], ◌++◌, Option, Some, None, Result, Ok, Err, false, IsTrue, refl, sym, ap, subst, ◌∙◌, append_assoc, append-nil, arith}
+use Rattle.std.proofs.Common.{◌≡◌, ◌≢◌, ◌↔◌, ◌⊎◌, inl, inr, ⊎_elim, ℕ, zero, suc, ◌+◌, ◌<◌, ◌≤◌, List, [], ◌++◌, Option, Some, None, Result, Ok, Err, false, IsTrue, refl, sym, ap, subst, ◌∙◌, append_assoc, append-nil, arith}
 use Rattle.std.proofs.lemmas.Bool.{cases_eq}
 use Rattle.trap_bank.specs.Faults.{Rose}
 use Rattle.trap_bank.specs.Disks.{Contents, Disks, View, Quiet, Differs, size_of}
@@ -12,22 +12,25 @@ use Rattle.trap_model.specs.declared.asked.Asked.{Asked}
 use Rattle.trap_model.specs.declared.numbers.Geometry.{Geometry}
 use Rattle.trap_format.specs.Checked.{first_broken, HasNumbers}
 use Rattle.trap_format.specs.declared.limits.Field.{Field}
+use Rattle.trap_format.specs.MemberDisk.{member_size}
 use Rattle.trap_format.proofs.Spellings.{same_geometry}
 use Rattle.trap_array.specs.Holding.{Holds}
-use Rattle.trap_array.specs.Creating.{CreateFails as MakeFails, IsNoArray, Creates, HasCreated, IsLowest, NoneIsThere, IsUntouched}
+use Rattle.trap_array.specs.Creating.{CreateFails as MakeFails, IsNoArray, Creates, HasCreated, IsLowest, NoneIsThere, IsUntouched, fresh_head}
+use Rattle.trap_mount.specs.CreateEnds.{IsMade, IsMaking, StaysBeyond, OthersStay}
 use Rattle.trap_mount.specs.declared.fault.CreateFault.{CreateFault}
 use Rattle.trap_mount.specs.declared.fault.CreateFault.TheVariants.{Exists, LogFault, MemberFault}
 use Rattle.trap_cli.specs.declared.outcome.Ended.{Ended}
 use Rattle.trap_cli.specs.declared.outcome.Ended.TheVariants.{Done, BadGeometry, NotCreated, Port}
 use Rattle.trap_cli.specs.Command.{command_create}
 use Rattle.trap_cli.specs.Ended.{last_line, created_line, is_create_refusal}
-use Rattle.trap_cli.specs.Cause.{CreateFails}
-use Rattle.trap_cli.specs.Stops.{CreateStopped, IsUnfinished}
-use Rattle.trap_cli.specs.Crash.{IsFaultFront, CreateLeaves, Leaves, LeavesBefore}
-use Rattle.trap_array.specs.Beside.{StaysFrom}
-use Rattle.trap_cli.specs.Run.{Works, TouchesBelow, LeavesOthers}
+use Rattle.trap_cli.specs.Cause.{CreateDenied}
+use Rattle.trap_cli.specs.Creating.{HoldsNew, NotCreatedSaid, IsUnfinished}
+use Rattle.trap_cli.specs.Crash.{IsFaultFront, CreateLeaves, LeavesNow, LeavesWithFront}
+use Rattle.trap_cli.specs.Run.{CommandOutcome}
+use Rattle.trap_cli.specs.Frame.{ChangesBy, InAsked, Frames}
 use Rattle.trap_cli.proofs.Saying.{took_none}
-use Rattle.trap_cli.proofs.Heads.{members_same, members_absent}
+use Rattle.trap_cli.proofs.Framing.{changes_none, changes_quiet, changes_wider, changes_kept}
+use Rattle.trap_cli.proofs.Heads.{held_same, held_none}
 use Rattle.trap_cli.proofs.Lines.{not_created}
 
 -- the numbers that were asked for are those of one array
@@ -79,8 +82,8 @@ module _ (asked : Asked) (a : View) (lawful : IsLawful a) where
 
   -- a refusal that changed nothing
   refused_steps : (b : View) (from : Stream) (ended : Ended) → Moves a b Same Same
-      → Steps a b (Leaves (command_create asked) a from) (LeavesBefore (last_line ended) (command_create asked) a from)
-  refused_steps b from ended moves = weaken a b (Quiet Same) (Quiet Same) (Leaves (command_create asked) a from) (LeavesBefore (last_line ended) (command_create asked) a from) moves
+      → Steps a b (LeavesNow (command_create asked) a from) (LeavesWithFront (last_line ended) (command_create asked) a from)
+  refused_steps b from ended moves = weaken a b (Quiet Same) (Quiet Same) (LeavesNow (command_create asked) a from) (LeavesWithFront (last_line ended) (command_create asked) a from) moves
       (λ x y was same. record { part = []; said = same.said ∙ sym (append-nil x.said); leaves = unchanged [] x y.disks (Done, [], refl) was same.disks })
       (λ x y was left same front rest is. record {
         part = front;
@@ -89,19 +92,17 @@ module _ (asked : Asked) (a : View) (lawful : IsLawful a) where
       })
 
   -- A number breaks its limit.
-  pub broken_works : (field : Field) (from : Stream) → first_broken asked ≡ Some field → Works (command_create asked) (BadGeometry field) a a from from
-  broken_works field from is = record {
+  pub broken_outcome : (field : Field) (from : Stream) → first_broken asked ≡ Some field → CommandOutcome (command_create asked) (BadGeometry field) a a from from
+  broken_outcome field from is = record {
     cause = is;
     first = (λ other broken. let both : Some field ≡ Some other = sym is ∙ broken in cc, λ g d kept numbers low. let both : None ≡ Some field = sym kept ∙ is in absurd (cc both));
-    refused = λ refused. record { sizes = λ e. refl; disks = λ told. refl };
+    refused = λ refused. record { sizes = λ e. refl; changes = changes_none a };
     stops = λ told. refl;
-    touches = record { tells = refl; sizes = λ e beyond. refl; faults = λ e. omega arith; port_faults = omega arith };
-    others = λ told e beyond. refl;
-    beside = λ e is. record { size = refl; bytes = λ told. refl };
+    frame = record { changes = changes_wider Same (InAsked asked) a a (λ x y same. inl same) (changes_none a); sizes = λ e is. refl };
     unread = λ other. refl;
     took = took_none from;
     silent = λ is told. refl;
-    members = members_same a a (λ told. refl);
+    held = held_same a a (λ told. refl);
     steps = refused_steps a from (BadGeometry field) (nothing_done a (Quiet Same) (Quiet Same) (λ x was. record { disks = refl; said = refl }));
   }
 
@@ -110,34 +111,28 @@ module _ (asked : Asked) (a : View) (lawful : IsLawful a) where
     no_field ended field is = let both : None ≡ Some field = sym kept ∙ is in absurd (cc both)
 
     -- A disk is there already.
-    pub exists_works : (d : ℕ) → IsLowest g a d → IsUntouched a b → Works (command_create asked) (NotCreated (Exists d)) a b from from
-    exists_works d low untouched = record {
+    pub exists_outcome : (d : ℕ) → IsLowest g a d → IsUntouched a b → CommandOutcome (command_create asked) (NotCreated (Exists d)) a b from from
+    exists_outcome d low untouched = record {
       cause = (g, numbers, low);
       first = (
         no_field (NotCreated (Exists d)),
         λ h e kept also other. ap (λ (d : ℕ). NotCreated (Exists d))
             (lowest_same g a d e low (subst (λ (g : Geometry). IsLowest g a e) (numbers_same asked h g also numbers) other)),
       );
-      refused = λ refused. record { sizes = untouched.sizes; disks = λ told. ap (λ (c : Contents). c.disks) (untouched.same told) };
+      refused = λ refused. record { sizes = untouched.sizes; changes = still };
       stops = untouched.same;
-      touches = record {
-        tells = untouched.moves.tells;
-        sizes = λ e beyond. untouched.sizes e;
-        faults = untouched.moves.faults;
-        port_faults = untouched.moves.port_faults;
-      };
-      others = λ told e beyond. ap (λ (c : Contents). c.disks e) (untouched.same told);
-      beside = λ e is. record { size = untouched.sizes e; bytes = λ told. ap (λ (c : Contents). c.disks e) (untouched.same told) };
+      frame = record { changes = changes_wider Same (InAsked asked) a b (λ x y same. inl same) still; sizes = λ e is. untouched.sizes e };
       unread = λ other. refl;
       took = took_none from;
       silent = λ is told. ap (λ (c : Contents). c.said) (untouched.same told);
-      members = members_same a b (λ told. ap (λ (c : Contents). c.disks) (untouched.same told));
+      held = held_same a b (λ told. ap (λ (c : Contents). c.disks) (untouched.same told));
       steps = refused_steps b from (NotCreated (Exists d)) untouched.moves;
     }
+      where
+        still : ChangesBy Same a b
+        still = changes_quiet Same a b (λ told. ap (λ (c : Contents). c.disks) (untouched.same told)) untouched.moves
 
-    module _ (no_low : (d : ℕ) → IsLowest g a d → ⊥) (sizes : (e : ℕ) → g.members < e → b.sizes e ≡ a.sizes e)
-        (others : IsTrue a.tells → (e : ℕ) → g.members < e → b.now.disks e ≡ a.now.disks e)
-        (contents : NoneIsThere g a → IsTrue a.tells → Quiet (Creates g) a.now b.now) where
+    module _ (no_low : (d : ℕ) → IsLowest g a d → ⊥) (beside : OthersStay g a b) (making : NoneIsThere g a → IsMaking g a b) where
       none : NoneIsThere g a
       none = none_there g a no_low
 
@@ -145,8 +140,8 @@ module _ (asked : Asked) (a : View) (lawful : IsLawful a) where
       not_there ended h d kept also low = absurd (no_low d (subst (λ (g : Geometry). IsLowest g a d) (numbers_same asked h g also numbers) low))
 
       -- while it is made
-      making : (p : List ℕ) (x y : Contents) → IsFaultFront p → Creates g x.disks y.disks → CreateLeaves asked a p y.disks
-      making p x y front creates = record {
+      unmade : (p : List ℕ) (x y : Contents) → IsFaultFront p → Creates g x.disks y.disks → CreateLeaves asked a p y.disks
+      unmade p x y front creates = record {
         broken = λ field is. let both : None ≡ Some field = sym kept ∙ is in absurd (cc both);
         there = λ h d also low. absurd (no_low d (subst (λ (g : Geometry). IsLowest g a d) (numbers_same asked h g also numbers) low));
         made = λ h also none. subst (λ (g : Geometry). Creates g a.now.disks y.disks) (numbers_same asked g h numbers also) creates;
@@ -154,104 +149,99 @@ module _ (asked : Asked) (a : View) (lawful : IsLawful a) where
       }
 
       -- and when it is made
-      made : (p : List ℕ) (disks : Disks) → Holds g (fresh g) disks → CreateLeaves asked a p disks
+      made : (p : List ℕ) (disks : Disks) → HoldsNew g disks → CreateLeaves asked a p disks
       made p disks holds = record {
         broken = λ field is. let both : None ≡ Some field = sym kept ∙ is in absurd (cc both);
         there = λ h d also low. absurd (no_low d (subst (λ (g : Geometry). IsLowest g a d) (numbers_same asked h g also numbers) low));
-        made = λ h also none. inr (subst (λ (g : Geometry). Holds g (fresh g) disks) (numbers_same asked g h numbers also) holds);
-        whole = λ h rest also none is. subst (λ (g : Geometry). Holds g (fresh g) disks) (numbers_same asked g h numbers also) holds;
+        made = λ h also none. inr (subst (λ (g : Geometry). Holds g (fresh g) disks) (numbers_same asked g h numbers also) (record { head = fresh_head; by = holds.by }));
+        whole = λ h rest also none is. subst (λ (g : Geometry). HoldsNew g disks) (numbers_same asked g h numbers also) holds;
       }
 
-      -- what is touched
-      touched : b.tells ≡ a.tells → ((e : ℕ) → a.faults e ≤ b.faults e) → a.port_faults ≤ b.port_faults → TouchesBelow 17 a b
-      touched tells faults ports = record {
-        tells = tells;
-        sizes = λ e beyond. sizes e (omega (arith, g.within.members_most, beyond));
-        faults = faults;
-        port_faults = ports;
-      }
+      -- what changes
+      beyond_same : ChangesBy (StaysBeyond g) a b
+      beyond_same = changes_quiet (StaysBeyond g) a b beside.contents beside.any_moment
 
       -- A disk failed.
-      pub failed_works : (why : CreateFault) → is_create_refusal why ≡ false → CreateFails g why a b
-          → Moves a b (Creates g) (Creates g)
-          → Works (command_create asked) (NotCreated why) a b from from
-      failed_works why fault fails moves = record {
+      pub failed_outcome : (why : CreateFault) → is_create_refusal why ≡ false → CreateDenied g why a b
+          → CommandOutcome (command_create asked) (NotCreated why) a b from from
+      failed_outcome why fault fails = record {
         cause = (g, numbers, fails);
         first = (no_field (NotCreated why), not_there (NotCreated why));
         refused = λ refused. absurd (cc);
         stops = λ told. unfinished why fault (record {
           g = g;
           numbers = numbers;
-          said = (contents none told).said;
-          disks = (contents none told).disks;
+          said = ((making none).contents told).said;
+          disks = ((making none).contents told).disks;
         });
-        touches = touched moves.tells moves.faults moves.port_faults;
-        others = λ told e beyond. others told e (omega (arith, g.within.members_most, beyond));
-        beside = λ e is. record { size = sizes e (is g numbers); bytes = λ told. others told e (is g numbers) };
+        frame = record {
+          changes = changes_wider (StaysBeyond g) (InAsked asked) a b (λ x y same. inr (g, numbers, same)) beyond_same;
+          sizes = λ e is. beside.sizes e (is g numbers);
+        };
         unread = λ other. refl;
         took = took_none from;
-        silent = λ is told. (contents none told).said;
-        members = members_absent a b (λ told. lawful.sized told 0 ∙ none 0 (omega arith));
-        steps = weaken a b (Quiet (Creates g)) (Quiet (Creates g)) (Leaves (command_create asked) a from) (LeavesBefore (last_line (NotCreated why)) (command_create asked) a from) moves
-            (λ x y was step. record { part = []; said = step.said ∙ sym (append-nil x.said); leaves = making [] x y (Done, [], refl) step.disks })
+        silent = λ is told. ((making none).contents told).said;
+        held = held_none a b (λ told. lawful.sized told 0 ∙ none 0 (omega arith));
+        steps = weaken a b (Quiet (Creates g)) (Quiet (Creates g)) (LeavesNow (command_create asked) a from) (LeavesWithFront (last_line (NotCreated why)) (command_create asked) a from) (making none).any_moment
+            (λ x y was step. record { part = []; said = step.said ∙ sym (append-nil x.said); leaves = unmade [] x y (Done, [], refl) step.disks })
             (λ x y was left step front rest is. record {
               part = front;
               said = ap (λ (l : List ℕ). l ++ front) step.said;
-              leaves = making front x y (NotCreated why, rest, is) step.disks;
+              leaves = unmade front x y (NotCreated why, rest, is) step.disks;
             });
       }
         where
-          unfinished : (why : CreateFault) → is_create_refusal why ≡ false → IsUnfinished asked a.now b.now → CreateStopped asked why a.now b.now
+          unfinished : (why : CreateFault) → is_create_refusal why ≡ false → IsUnfinished asked a.now b.now → NotCreatedSaid asked why a.now b.now
           unfinished (Exists d) fault is = absurd (cc fault)
           unfinished LogFault fault is = is
           unfinished (MemberFault first second) fault is = is
 
-      module _ (c : View) (moves : Moves a b (Creates g) (HasCreated g)) {T E : Type 0} (result : Result T E) (says : Says (created_line asked.id) result b c) where
+      module _ (c : View) (new : IsMade g a b) (lawful_mid : IsLawful b)
+          {T E : Type 0} (result : Result T E) (says : Says (created_line asked.id) result b c) where
         told_mid : IsTrue a.tells → IsTrue b.tells
-        told_mid told = subst IsTrue (sym moves.tells) told
+        told_mid told = subst IsTrue (sym new.moves.tells) told
 
-        holds_now : IsTrue a.tells → Holds g (fresh g) c.now.disks
-        holds_now told = subst (λ (disks : Disks). Holds g (fresh g) disks) (sym (says.disks (told_mid told)))
-            (moves.now b.now (read_is_left b (told_mid told))).by.disks
+        -- every crash leaves the new array whole
+        whole_left : (y : Contents) → MayLeave b y → HoldsNew g y.disks
+        whole_left y left = record {
+          by = new.holds y left;
+          members = λ m inside absent.
+              let both : None ≡ Some (member_size g) = sym (ap size_of absent) ∙ left.torn.disks.sizes (m + 1) ∙ lawful_mid.sized left.told (m + 1) ∙ new.members m inside in
+              cc both;
+        }
+
+        holds_now : IsTrue a.tells → HoldsNew g c.now.disks
+        holds_now told = subst (λ (disks : Disks). HoldsNew g disks) (sym (says.disks (told_mid told))) (whole_left b.now (read_is_left b (told_mid told)))
 
         said_before : IsTrue a.tells → b.now.said ≡ a.now.said
-        said_before told = (contents none told).said
+        said_before told = ((making none).contents told).said
 
-        touched_end : TouchesBelow 17 a c
-        touched_end = record {
-          tells = says.goes.tells ∙ moves.tells;
-          sizes = λ e beyond. says.sizes e ∙ sizes e (omega (arith, g.within.members_most, beyond));
-          faults = λ e. omega (arith, moves.faults e, says.goes.faults e);
-          port_faults = omega (arith, moves.port_faults, says.goes.port_faults);
+        framed : Frames (command_create asked) a c
+        framed = record {
+          changes = changes_kept (StaysBeyond g) (InAsked asked) a b c (SpokePart (created_line asked.id)) (SpokePart (created_line asked.id))
+              (λ x y same. inr (g, numbers, same)) beyond_same (say_steps result b c (created_line asked.id) says)
+              (λ y z by. by.disks) (λ y z by. by.disks) says.disks;
+          sizes = λ e is. says.sizes e ∙ beside.sizes e (is g numbers);
         }
 
-        others_end : StaysFrom 17 a c
-        others_end told e beyond = ap (λ (disks : Disks). disks e) (says.disks (told_mid told)) ∙ others told e (omega (arith, g.within.members_most, beyond))
-
-        beside_end : LeavesOthers (command_create asked) a c
-        beside_end e is = record {
-          size = says.sizes e ∙ sizes e (is g numbers);
-          bytes = λ told. ap (λ (disks : Disks). disks e) (says.disks (told_mid told)) ∙ others told e (is g numbers);
-        }
-
-        created_steps : (line : List ℕ) → Steps a c (Leaves (command_create asked) a from) (LeavesBefore line (command_create asked) a from)
+        created_steps : (line : List ℕ) → Steps a c (LeavesNow (command_create asked) a from) (LeavesWithFront line (command_create asked) a from)
         created_steps line = then_ a b c (Quiet (Creates g)) (Quiet (HasCreated g)) (SpokePart (created_line asked.id)) (SpokePart (created_line asked.id))
-            (Leaves (command_create asked) a from) (LeavesBefore line (command_create asked) a from) moves (say_steps result b c (created_line asked.id) says)
-            (λ x y was step. record { part = []; said = step.said ∙ sym (append-nil x.said); leaves = making [] x y (Done, [], refl) step.disks })
+            (LeavesNow (command_create asked) a from) (LeavesWithFront line (command_create asked) a from) new.moves (say_steps result b c (created_line asked.id) says)
+            (λ x y was step. record { part = []; said = step.said ∙ sym (append-nil x.said); leaves = unmade [] x y (Done, [], refl) step.disks })
             (λ x y z was step mid spoke. record {
               part = spoke.says.part;
               said = spoke.says.said ∙ ap (λ (l : List ℕ). l ++ spoke.says.part) step.said;
-              leaves = made spoke.says.part z.disks (subst (λ (disks : Disks). Holds g (fresh g) disks) (sym spoke.disks) step.disks);
+              leaves = made spoke.says.part z.disks (subst (λ (disks : Disks). HoldsNew g disks) (sym spoke.disks) (whole_left y mid));
             })
             (λ x y z was step mid spoke front rest is. record {
               part = spoke.says.part ++ front;
               said = ap (λ (l : List ℕ). l ++ front) (spoke.says.said ∙ ap (λ (l : List ℕ). l ++ spoke.says.part) step.said) ∙ append_assoc x.said spoke.says.part front;
-              leaves = made (spoke.says.part ++ front) z.disks (subst (λ (disks : Disks). Holds g (fresh g) disks) (sym spoke.disks) step.disks);
+              leaves = made (spoke.says.part ++ front) z.disks (subst (λ (disks : Disks). HoldsNew g disks) (sym spoke.disks) (whole_left y mid));
             })
 
         -- The array is made, and its line was said.
-        pub created_works : (IsTrue b.tells → c.now.said ≡ b.now.said ++ created_line asked.id) → Works (command_create asked) Done a c from from
-        created_works whole = record {
+        pub created_outcome : (IsTrue b.tells → c.now.said ≡ b.now.said ++ created_line asked.id) → CommandOutcome (command_create asked) Done a c from from
+        created_outcome whole = record {
           cause = kept;
           first = (no_field Done, not_there Done);
           refused = λ refused. absurd (cc refused);
@@ -261,20 +251,18 @@ module _ (asked : Asked) (a : View) (lawful : IsLawful a) where
             said = whole (told_mid told) ∙ ap (λ (l : List ℕ). l ++ created_line asked.id) (said_before told);
             holds = holds_now told;
           };
-          touches = touched_end;
-          others = others_end;
-          beside = beside_end;
+          frame = framed;
           unread = λ other. refl;
           took = took_none from;
           silent = λ is told. absurd (cc is);
-          members = members_absent a c (λ told. lawful.sized told 0 ∙ none 0 (omega arith));
+          held = held_none a c (λ told. lawful.sized told 0 ∙ none 0 (omega arith));
           steps = created_steps [];
         }
 
         -- The port failed in its line.
-        pub unsaid_works : Rose b.port_faults c.port_faults → Works (command_create asked) Port a c from from
-        unsaid_works rose = record {
-          cause = omega (arith, moves.port_faults, rose);
+        pub unsaid_outcome : Rose b.port_faults c.port_faults → CommandOutcome (command_create asked) Port a c from from
+        unsaid_outcome rose = record {
+          cause = omega (arith, new.moves.port_faults, rose);
           first = (no_field Port, not_there Port);
           refused = λ refused. absurd (cc refused);
           stops = λ told.
@@ -285,34 +273,29 @@ module _ (asked : Asked) (a : View) (lawful : IsLawful a) where
                 part = record { part = part.part; rest = part.rest; whole = part.whole; said = part.said ∙ ap (λ (l : List ℕ). l ++ part.part) (said_before told) };
                 holds = holds_now told;
               };
-          touches = touched_end;
-          others = others_end;
-          beside = beside_end;
+          frame = framed;
           unread = λ other. refl;
           took = took_none from;
           silent = λ is told. absurd (cc is);
-          members = members_absent a c (λ told. lawful.sized told 0 ∙ none 0 (omega arith));
+          held = held_none a c (λ told. lawful.sized told 0 ∙ none 0 (omega arith));
           steps = created_steps [];
         }
 
 -- What `create` answers when it made no array.
-pub uncreated_works : {T : Type 0} (asked : Asked) (g : Geometry) (a b : View) (from : Stream) (result : Result T CreateFault) (why : CreateFault)
+pub uncreated_outcome : {T : Type 0} (asked : Asked) (g : Geometry) (a b : View) (from : Stream) (result : Result T CreateFault) (why : CreateFault)
     → IsLawful a → first_broken asked ≡ None → HasNumbers g asked → result ≡ Err why
     → ((d : ℕ) → (result ≡ Err (Exists d)) ↔ IsLowest g a d) → ((d : ℕ) → IsLowest g a d → IsUntouched a b)
-    → MakeFails g why a b
-    → ((e : ℕ) → g.members < e → b.sizes e ≡ a.sizes e) → (IsTrue a.tells → (e : ℕ) → g.members < e → b.now.disks e ≡ a.now.disks e)
-    → (NoneIsThere g a → IsTrue a.tells → Quiet (Creates g) a.now b.now)
-    → (NoneIsThere g a → Moves a b (Creates g) (Creates g))
-    → Works (command_create asked) (NotCreated why) a b from from
-uncreated_works asked g a b from result (Exists d) lawful kept numbers is exists untouched fails sizes others contents moves =
+    → MakeFails g why a b → OthersStay g a b → (NoneIsThere g a → IsMaking g a b)
+    → CommandOutcome (command_create asked) (NotCreated why) a b from from
+uncreated_outcome asked g a b from result (Exists d) lawful kept numbers is exists untouched fails beside making =
     let low = (exists d).0 is in
-    exists_works asked a lawful kept g numbers b from d low (untouched d low)
-uncreated_works asked g a b from result LogFault lawful kept numbers is exists untouched fails sizes others contents moves =
+    exists_outcome asked a lawful kept g numbers b from d low (untouched d low)
+uncreated_outcome asked g a b from result LogFault lawful kept numbers is exists untouched fails beside making =
     let no_low : (d : ℕ) → IsLowest g a d → ⊥ = λ d low. let both : Err LogFault ≡ Err (Exists d) = sym is ∙ (exists d).1 low in cc in
-    failed_works asked a lawful kept g numbers b from no_low sizes others contents LogFault refl fails (moves (none_there g a no_low))
-uncreated_works asked g a b from result (MemberFault first second) lawful kept numbers is exists untouched fails sizes others contents moves =
+    failed_outcome asked a lawful kept g numbers b from no_low beside making LogFault refl fails
+uncreated_outcome asked g a b from result (MemberFault first second) lawful kept numbers is exists untouched fails beside making =
     let no_low : (d : ℕ) → IsLowest g a d → ⊥ = λ d low. let both : Err (MemberFault first second) ≡ Err (Exists d) = sym is ∙ (exists d).1 low in cc in
-    failed_works asked a lawful kept g numbers b from no_low sizes others contents (MemberFault first second) refl (fails.1, (fails.0, fails.2)) (moves (none_there g a no_low))
+    failed_outcome asked a lawful kept g numbers b from no_low beside making (MemberFault first second) refl (fails.1, (fails.0, fails.2))
 
 -- an array that was made had none of its disks there
 pub none_before : {T : Type 0} (g : Geometry) (a : View) (result : Result T CreateFault) (value : T) → result ≡ Ok value

@@ -2,7 +2,7 @@
 use Rattle.std.proofs.Common.{◌≡◌, ℕ, ◌<◌, ◌≤◌, List, length, slice_set, ap, Option, None, Result, Ok, Err, OnOk, OnErr, get_or, refl, inl, inr, arith, rules}
 use Rattle.trap_bank.specs.Faults.{Rose}
 use Rattle.trap_bank.specs.Disks.{Contents}
-use Rattle.trap_bank.specs.Calls.{Goes, Elapses, Reads, Writes, Syncs, Makes}
+use Rattle.trap_bank.specs.Calls.{Goes, KeepsLeft, Reads, Writes, Syncs, Makes}
 use Rattle.trap_cli.specs.declared.edge.bank.OpenDisk.{OpenDisk}
 use Rattle.trap_cli.specs.Counts.{Blames}
 use Rattle.trap_cli.specs.Files.{untold_view, untold, open_size}
@@ -33,7 +33,7 @@ module _ {F : Type 0} (disks disks' : List (Option (OpenDisk F))) (faults faults
   }
 
   untold_elapses : (in_call : Contents → Type 0)
-      → Elapses (untold_view disks faults port) (untold_view disks' faults' port') in_call
+      → KeepsLeft (untold_view disks faults port) (untold_view disks' faults' port') in_call
   untold_elapses in_call = record { nothing_else = λ t c before left. absurd left; keeps = λ t c before left. absurd left }
 
 module _ {F T E : Type 0} (disks : List (Option (OpenDisk F))) (d : ℕ) (faults faults' : List ℕ) (port : ℕ) (result : Result T E)

@@ -1,9 +1,8 @@
 -- The heads by which disks hold states.
 use Rattle.std.proofs.Common.{◌≡◌, ◌⊎◌, inl, inr, ⊎_elim, ℕ, ◌+◌, ◌≤◌, Some, None, IsTrue, refl, sym, ap, subst, ◌∙◌, arith}
-use Rattle.trap_bank.specs.Disks.{Contents, Disks, View, Quiet, size_of}
-use Rattle.trap_bank.specs.Calls.{MayLeave}
-use Rattle.trap_bank.specs.Steps.{Moves, From, Always}
-use Rattle.trap_bank.proofs.Moves.{read_is_left}
+use Rattle.trap_bank.specs.Disks.{Disks, View, size_of}
+use Rattle.trap_bank.specs.Steps.{Moves, Always}
+use Rattle.trap_bank.proofs.Moves.{read_is_left, moves_weaken}
 use Rattle.trap_format.specs.HeadValue.{head_value}
 use Rattle.trap_format.specs.LogDisk.{log_size}
 use Rattle.trap_format.specs.declared.head.Head.{Head}
@@ -11,12 +10,12 @@ use Rattle.trap_format.proofs.Spellings.{heads_same}
 use Rattle.trap_model.specs.declared.numbers.Geometry.{Geometry}
 use Rattle.trap_model.specs.declared.history.State.{State}
 use Rattle.trap_array.specs.Holding.{Holds, HoldsBy}
-use Rattle.trap_array.specs.Mounting.{Mounts, SameHead, FoundLost, KeepsLost}
+use Rattle.trap_array.specs.Mounting.{Mounts, SameHead, FoundLost}
 use Rattle.trap_mount.proofs.Puts.{put_in_cell, fits_put}
 use Rattle.trap_array.specs.Calls.{Mounted, StandsFor}
-use Rattle.trap_cli.specs.Crash.{HoldsSince}
+use Rattle.trap_cli.specs.Crash.{WasOut, HoldsSince}
 use Rattle.trap_cli.proofs.Stopping.{LostOn}
-use Rattle.trap_cli.specs.Run.{KeepsMembers, MembersStay}
+use Rattle.trap_cli.specs.Frame.{KeepsMembers, StaysHeld}
 use Rattle.trap_cli.proofs.Saying.{rose_later}
 
 -- there is one such head
@@ -37,10 +36,10 @@ pub same_head_holds : (g : Geometry) (s : State) (x y : Disks) → SameHead x y 
 same_head_holds g s x y same holds = record { head = holds.head; by = same_head_by g holds.head s x y same holds.by }
 
 -- and over a mounting
-pub mounted_holds : (g : Geometry) (s : State) (a : View) (y : Disks) → Mounts a a.now.disks y → Holds g s a.now.disks → Holds g s y
-mounted_holds g s a y (inl same) holds = subst (λ (disks : Disks). Holds g s disks) (sym same) holds
-mounted_holds g s a y (inr (inl head)) holds = same_head_holds g s a.now.disks y head holds
-mounted_holds g s a y (inr (inr still)) holds = still g s holds
+pub mounted_holds : (g : Geometry) (s : State) (a b : View) (y : Disks) → Mounts a b a.now.disks y → Holds g s a.now.disks → Holds g s y
+mounted_holds g s a b y (inl same) holds = subst (λ (disks : Disks). Holds g s disks) (sym same) holds
+mounted_holds g s a b y (inr (inl head)) holds = same_head_holds g s a.now.disks y head holds
+mounted_holds g s a b y (inr (inr still)) holds = let kept = still g holds.head s holds.by in record { head = kept.0; by = kept.1 }
 
 -- what mounting found of the members is so at the end
 pub keeps_found : (g : Geometry) (h k : Head) (old mid new : View) → FoundLost g h k old mid → ((e : ℕ) → mid.faults e ≤ new.faults e)
@@ -60,18 +59,31 @@ keeps_like g h k l old new keeps lost rebuilt = record {
   mark = λ m was is lower. keeps.mark m was (sym lost ∙ is) (omega (arith, lower, rebuilt));
 }
 
--- the members stay where no disk changed
-pub members_same : (old new : View) → (IsTrue old.tells → new.now.disks ≡ old.now.disks) → MembersStay old new
-members_same old new same g s t h k told was is =
-    let one = same_heads g h k s t old.now.disks was (subst (λ (disks : Disks). HoldsBy g k t disks) (same told) is) in
-    record {
-      lost = λ m lost. inl (ap (λ (h : Head). h.lost) one ∙ lost);
-      mark = λ m before after lower. absurd (omega (arith, ap (λ (h : Head). h.rebuilt) one, lower));
-    }
+-- a state stays held where no disk changed
+pub held_same : (old new : View) → (IsTrue old.tells → new.now.disks ≡ old.now.disks) → StaysHeld old new
+held_same old new same g s h told was = record {
+  state = s;
+  head = h;
+  by = subst (λ (disks : Disks). HoldsBy g h s disks) (sym (same told)) was;
+  keeps = record { lost = λ m lost. inl lost; mark = λ m before after lower. absurd (omega (arith, lower)) };
+}
 
--- and where no state was held
-pub members_absent : (old new : View) → (IsTrue old.tells → size_of (old.now.disks 0) ≡ None) → MembersStay old new
-members_absent old new absent g s t h k told was is = let both : None ≡ Some (log_size g) = sym (absent told) ∙ was.fits.log.size in absurd (cc both)
+-- and where none was held
+pub held_none : (old new : View) → (IsTrue old.tells → size_of (old.now.disks 0) ≡ None) → StaysHeld old new
+held_none old new absent g s h told was = let both : None ≡ Some (log_size g) = sym (absent told) ∙ was.fits.log.size in absurd (cc both)
+
+-- over a mounting, and what follows it, where no disk changes
+pub held_mounted : (old mid new : View) → (IsTrue old.tells → Mounts old mid old.now.disks mid.now.disks)
+    → ((g : Geometry) (h k : Head) (s t : State) → IsTrue old.tells → HoldsBy g h s old.now.disks → HoldsBy g k t mid.now.disks → FoundLost g h k old mid)
+    → ((e : ℕ) → mid.faults e ≤ new.faults e) → (IsTrue old.tells → new.now.disks ≡ mid.now.disks) → StaysHeld old new
+held_mounted old mid new mounts lost later same g s h told was =
+    let held = mounted_holds g s old mid mid.now.disks (mounts told) (record { head = h; by = was }) in
+    record {
+      state = s;
+      head = held.head;
+      by = subst (λ (disks : Disks). HoldsBy g held.head s disks) (sym (same told)) held.by;
+      keeps = keeps_found g h held.head old mid new (lost g h held.head s s told was held.by) later;
+    }
 
 -- a member that a mounted array calls lost was out on entry
 pub found_out : (g : Geometry) (s : State) (a b : View) (array : Mounted)
@@ -86,33 +98,19 @@ found_out g s a b array found told told_mid known h t was m is =
 abbrev pub Mounting : View → Disks → Disks → Type 0
 Mounting v old new = (new ≡ old) ⊎ (SameHead old new ⊎ ((g : Geometry) (s : State) → Holds g s v.now.disks → HoldsSince g v new s))
 
-pub mounting_moves : (a b : View) → Moves a b (Mounts a) (Mounts a) → Moves a b (KeepsLost a b) (KeepsLost a b) → Moves a b (Mounting a) (Mounting a)
-mounting_moves a b mounts keeps = record {
-  tells = mounts.tells;
-  faults = mounts.faults;
-  port_faults = mounts.port_faults;
-  later = mounts.later;
-  in_run = λ t c before left. ⊎_elim (λ was. inl was)
-      (λ first. ⊎_elim (λ was. inl was) (λ second. inr (join c first second)) (keeps.in_run t c before left)) (mounts.in_run t c before left);
-  now = λ c left. join c (mounts.now c left) (keeps.now c left);
-}
+pub mounting_moves : (a b : View) → Moves a b (Mounts a b) (Mounts a b) → Moves a b (Mounting a) (Mounting a)
+mounting_moves a b mounts = moves_weaken a b (Mounts a b) (Mounts a b) (Mounting a) (Mounting a) mounts
+    (λ x y was step. turn x.disks y.disks step) (λ x y was left step. turn x.disks y.disks step)
   where
-    turn : (x z : Contents) (new : Disks) → MayLeave a z → KeepsLost a b z.disks new → Mounts a x.disks new → Mounting a x.disks new
-    turn x z new was kept (inl same) = inl same
-    turn x z new was kept (inr (inl head)) = inr (inl head)
-    turn x z new was kept (inr (inr still)) = inr (inr (λ g s holds.
-        let held = still g s holds in
-        record {
-          head = held.head;
-          by = held.by;
-          entry = z.disks;
-          left = was.torn.disks;
-          lost = λ h t by m is. ⊎_elim (λ same. inl same) (λ absent. inr absent.1) ((kept g h held.head t s by held.by).lost m is);
-        }))
-
-    join : (c : Contents) → From a (Quiet (Mounts a)) c → From a (Quiet (KeepsLost a b)) c → From a (Quiet (Mounting a)) c
-    join c first second = record {
-      origin = first.origin;
-      was = first.was;
-      by = record { disks = turn first.origin second.origin c.disks second.was second.by.disks first.by.disks; said = first.by.said };
+    since : (g : Geometry) (s : State) (h : Head) (y : Disks) → HoldsBy g h s a.now.disks → (k : Head) × HoldsBy g k s y × FoundLost g h k a b → HoldsSince g a y s
+    since g s h y by kept = record {
+      head = kept.0;
+      by = kept.1;
+      lost = λ other t was m is. subst (λ (h : Head). WasOut h a m) (same_heads g h other s t a.now.disks by was)
+          (⊎_elim (λ same. inl same) (λ absent. inr absent.1) (kept.2.lost m is));
     }
+
+    turn : (x y : Disks) → Mounts a b x y → Mounting a x y
+    turn x y (inl same) = inl same
+    turn x y (inr (inl head)) = inr (inl head)
+    turn x y (inr (inr still)) = inr (inr (λ g s holds. since g s holds.head y holds.by (still g holds.head s holds.by)))

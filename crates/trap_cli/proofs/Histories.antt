@@ -3,7 +3,7 @@ use Rattle.std.proofs.Common.{◌≡◌, ◌≢◌, inl, inr, ⊎_elim, ℕ, ◌
 use Rattle.trap_bank.specs.Disks.{Contents, Disks, View, Quiet}
 use Rattle.trap_bank.specs.Faults.{Rose}
 use Rattle.trap_bank.specs.Calls.{MayLeave}
-use Rattle.trap_bank.specs.Steps.{Steps, Moves, Always}
+use Rattle.trap_bank.specs.Steps.{Steps, Moves, OnlyReads, Always}
 use Rattle.trap_bank.specs.Stream.{Stream}
 use Rattle.trap_bank.proofs.Moves.{then_, weaken, read_is_left}
 use Rattle.trap_format.specs.declared.head.Head.{Head}
@@ -11,22 +11,24 @@ use Rattle.trap_model.specs.declared.numbers.Geometry.{Geometry}
 use Rattle.trap_model.specs.declared.history.State.{State}
 use Rattle.trap_array.specs.Holding.{Holds, HoldsBy}
 use Rattle.trap_array.specs.Calls.{Mounted, StandsFor}
-use Rattle.trap_array.specs.Mounting.{Mounts, SameHead, Refuses, MountFails, FoundLost, WritesHead, HasFound, IsNoLog, is_refusal}
+use Rattle.trap_array.specs.Mounting.{Mounts, SameHead, Refuses, MountFails, FoundLost, MayPutHead, WritesHead, HasFound, IsNoLog, is_refusal}
 use Rattle.trap_mount.specs.declared.fault.MountFault.{MountFault}
-use Rattle.trap_mount.specs.declared.fault.MountFault.TheVariants.{NotAnArray}
+use Rattle.trap_mount.specs.declared.fault.MountFault.TheVariants.{NotAnArray, LogFault}
 use Rattle.trap_cli.specs.declared.outcome.Ended.{Ended}
 use Rattle.trap_cli.specs.declared.outcome.Ended.TheVariants.{Done, NotMounted, Port}
 use Rattle.trap_cli.specs.Command.{command_history}
 use Rattle.trap_cli.specs.Ended.{last_line}
 use Rattle.trap_cli.specs.History.{history_text}
 use Rattle.trap_cli.specs.Listing.{KeepsDisks, Lists, HasListed}
-use Rattle.trap_cli.specs.Cause.{IsMountable, WantsMemory, ShowsSizes}
-use Rattle.trap_cli.specs.Crash.{IsFaultFront, HistoryLeaves, LeftSaid, Leaves, LeavesBefore}
-use Rattle.trap_array.specs.Beside.{StaysFrom}
-use Rattle.trap_cli.specs.Run.{Works, TouchesBelow, LeavesOthers, MembersStay}
+use Rattle.trap_cli.specs.Cause.{WantsMemory, ShowsSizes}
+use Rattle.trap_cli.specs.Stopping.{IsMountable}
+use Rattle.trap_cli.specs.Crash.{IsFaultFront, HistoryLeaves, LeftSaid, LeavesNow, LeavesWithFront}
+use Rattle.trap_cli.specs.Run.{CommandOutcome}
+use Rattle.trap_cli.specs.Frame.{Frames, StaysHeld}
 use Rattle.trap_cli.proofs.Saying.{took_none}
 use Rattle.trap_cli.proofs.Saying.{rose_since}
-use Rattle.trap_cli.proofs.Heads.{same_head_holds, mounted_holds, keeps_found, found_out, Mounting, mounting_moves}
+use Rattle.trap_cli.proofs.Framing.{changes_kept, changes_reads, no_log_fault, put_later, mount_changes}
+use Rattle.trap_cli.proofs.Heads.{same_head_holds, mounted_holds, held_mounted, found_out, Mounting, mounting_moves}
 use Rattle.trap_cli.proofs.Stopping.{LostOn}
 use Rattle.trap_cli.proofs.Crashing.{no_front}
 
@@ -61,9 +63,9 @@ empty_front (byte ∷ front) rest line none is = absurd (cc)
 
 -- The array could not be mounted.
 unlisted_steps : (a b : View) (from : Stream) (why : MountFault) → Moves a b (Mounting a) (Mounting a)
-    → Steps a b (Leaves command_history a from) (LeavesBefore (last_line (NotMounted why)) command_history a from)
-unlisted_steps a b from why moves = weaken a b (Quiet (Mounting a)) (Quiet (Mounting a)) (Leaves command_history a from)
-    (LeavesBefore (last_line (NotMounted why)) command_history a from) moves
+    → Steps a b (LeavesNow command_history a from) (LeavesWithFront (last_line (NotMounted why)) command_history a from)
+unlisted_steps a b from why moves = weaken a b (Quiet (Mounting a)) (Quiet (Mounting a)) (LeavesNow command_history a from)
+    (LeavesWithFront (last_line (NotMounted why)) command_history a from) moves
     (λ x y was step g s told holds. record {
       part = [];
       said = step.said ∙ sym (append-nil x.said);
@@ -89,8 +91,6 @@ lists_leave a array g s x y z quiet is stands lost listed =
           head = array.head;
           by = subst (λ (g : Geometry). HoldsBy g array.head s z.disks) is
               (subst (λ (disks : Disks). HoldsBy array.g array.head s disks) (sym listed.disks) stands.by);
-          entry = a.now.disks;
-          left = record { sizes = λ e. refl; bytes = λ e i outside. refl };
           lost = lost;
         },
       );
@@ -102,9 +102,9 @@ listed_steps : {T E : Type 0} (a b c : View) (from : Stream) (ended : Ended) (ar
     → ((g : Geometry) (s : State) → IsTrue a.tells → Holds g s a.now.disks → LostOn g a array.head)
     → Moves a b (Mounting a) (Mounting a)
     → Steps b c (Lists array) (HasListed array result)
-    → Steps a c (Leaves command_history a from) (LeavesBefore (last_line ended) command_history a from)
+    → Steps a c (LeavesNow command_history a from) (LeavesWithFront (last_line ended) command_history a from)
 listed_steps a b c from ended array result silent stands lost mounted listed = then_ a b c (Quiet (Mounting a)) (Quiet (Mounting a))
-    (Lists array) (HasListed array result) (Leaves command_history a from) (LeavesBefore (last_line ended) command_history a from) mounted listed
+    (Lists array) (HasListed array result) (LeavesNow command_history a from) (LeavesWithFront (last_line ended) command_history a from) mounted listed
     (λ x y was step g s told holds. record {
       part = [];
       said = step.said ∙ sym (append-nil x.said);
@@ -123,40 +123,32 @@ listed_steps a b c from ended array result silent stands lost mounted listed = t
       leaves = left.leaves;
     })
 
-module _ (a b : View) (from : Stream) (mounted : Moves a b (Mounts a) (Mounts a)) (sizes : (e : ℕ) → b.sizes e ≡ a.sizes e)
-    (contents : IsTrue a.tells → Quiet (Mounts a) a.now b.now)
-    (others : IsTrue a.tells → (e : ℕ) → e ≢ 0 → b.now.disks e ≡ a.now.disks e)
+module _ (a b : View) (from : Stream) (mounted : Moves a b (Mounts a b) (Mounts a b)) (sizes : (e : ℕ) → b.sizes e ≡ a.sizes e)
+    (contents : IsTrue a.tells → Quiet (Mounts a b) a.now b.now)
     (writes : WritesHead a b)
     (lost : (g : Geometry) (h k : Head) (s t : State) → IsTrue a.tells → HoldsBy g h s a.now.disks → HoldsBy g k t b.now.disks → FoundLost g h k a b) where
   -- The array could not be mounted.
-  pub unlisted_works : (why : MountFault) → (IsNoLog (a.sizes 0) → why ≡ NotAnArray) → (IsTrue a.tells → Refuses a why) → MountFails why a b → WantsMemory why a b → ShowsSizes why a
-      → (is_refusal why ≡ true → IsTrue a.tells → b.now ≡ a.now)
+  pub unlisted_outcome : (why : MountFault) → (IsNoLog (a.sizes 0) → why ≡ NotAnArray) → (IsTrue a.tells → Refuses a why) → MountFails why a b → WantsMemory why a b → ShowsSizes why a
+      → ((why ≡ LogFault → ⊥) → OnlyReads a b)
       → ((g : Geometry) (s : State) → IsTrue a.tells → Holds g s a.now.disks → is_refusal why ≡ false)
-      → Works command_history (NotMounted why) a b from from
-  unlisted_works why no_log refuses fails wants shows unwritten held = record {
+      → CommandOutcome command_history (NotMounted why) a b from from
+  unlisted_outcome why no_log refuses fails wants shows unwritten held = record {
     cause = (refuses, fails, wants, shows);
     first = λ none. ap NotMounted (no_log none);
-    refused = λ is. record { sizes = sizes; disks = λ told. ap (λ (c : Contents). c.disks) (unwritten is told) };
+    refused = λ is. record { sizes = sizes; changes = changes_reads a b (unwritten (no_log_fault why is)) };
     stops = λ g s told holds. (
       held g s told holds,
       record {
         said = (contents told).said ∙ sym (append-nil a.now.said);
-        holds = mounted_holds g s a b.now.disks (contents told).disks holds;
+        holds = mounted_holds g s a b b.now.disks (contents told).disks holds;
       },
     );
-    touches = record {
-      tells = mounted.tells;
-      sizes = λ e beyond. sizes e;
-      faults = mounted.faults;
-      port_faults = mounted.port_faults;
-    };
-    others = λ told e beyond. others told e (λ zero. absurd (omega (arith, beyond, zero)));
-    beside = λ e is. record { size = sizes e; bytes = λ told. others told e is.0 };
+    frame = record { changes = mount_changes a b writes; sizes = λ e is. sizes e };
     unread = λ other. refl;
     took = took_none from;
     silent = λ is told. (contents told).said;
-    members = λ g s t h k told was is. keeps_found g h k a b b (lost g h k s t told was is) (λ e. omega arith);
-    steps = unlisted_steps a b from why (mounting_moves a b mounted writes.lost);
+    held = held_mounted a b b (λ told. (contents told).disks) lost (λ e. omega arith) (λ told. refl);
+    steps = unlisted_steps a b from why (mounting_moves a b mounted);
   }
 
   module _ (c : View) (array : Mounted)
@@ -171,39 +163,28 @@ module _ (a b : View) (from : Stream) (mounted : Moves a b (Mounts a) (Mounts a)
     mountable : IsMountable a
     mountable told = let passed = found.passed told in (array.g, record { h = passed.0; members = passed.1; own = passed.3 })
 
-    others_now : StaysFrom 17 a c
-    others_now told e beyond = ap (λ (disks : Disks). disks e) (keeps.disks (told_mid told)) ∙ others told e (λ zero. absurd (omega (arith, beyond, zero)))
-
-    beside_now : LeavesOthers command_history a c
-    beside_now e is = record {
-      size = keeps.sizes e ∙ sizes e;
-      bytes = λ told. ap (λ (disks : Disks). disks e) (keeps.disks (told_mid told)) ∙ others told e is.0;
-    }
-
-    members_now : ((e : ℕ) → b.faults e ≤ c.faults e) → MembersStay a c
-    members_now later g s t h k told was is =
-        keeps_found g h k a b c (lost g h k s t told was (subst (λ (disks : Disks). HoldsBy g k t disks) (keeps.disks (told_mid told)) is)) later
+    held_now : ((e : ℕ) → b.faults e ≤ c.faults e) → StaysHeld a c
+    held_now later = held_mounted a b c (λ told. (contents told).disks) lost later (λ told. keeps.disks (told_mid told))
 
     module _ {T E : Type 0} (result : Result T E) (listed : Steps b c (Lists array) (HasListed array result)) where
       told_end : IsTrue a.tells → IsTrue c.tells
       told_end told = subst IsTrue (sym listed.tells) (told_mid told)
 
-      touched : TouchesBelow 17 a c
-      touched = record {
-        tells = listed.tells ∙ mounted.tells;
-        sizes = λ e beyond. keeps.sizes e ∙ sizes e;
-        faults = λ e. omega (arith, mounted.faults e, listed.faults e);
-        port_faults = omega (arith, mounted.port_faults, listed.port_faults);
+      framed : Frames command_history a c
+      framed = record {
+        changes = changes_kept (MayPutHead a b) (MayPutHead a c) a b c (Lists array) (HasListed array result) (put_later a b c listed.faults) (mount_changes a b writes)
+            listed (λ y z by. by.disks) (λ y z by. (some_listed array result y z by).disks) keeps.disks;
+        sizes = λ e is. keeps.sizes e ∙ sizes e;
       }
 
       -- what a read gives at the end
       holds_now : (g : Geometry) (s : State) → IsTrue a.tells → Holds g s a.now.disks → Holds g s c.now.disks
       holds_now g s told holds = subst (λ (disks : Disks). Holds g s disks) (sym (keeps.disks (told_mid told)))
-          (mounted_holds g s a b.now.disks (contents told).disks holds)
+          (mounted_holds g s a b b.now.disks (contents told).disks holds)
 
     -- Every line was said.
-    pub listed_works : (T E : Type 0) (value : T) → Steps b c (Lists array) (HasListed {T = T} {E = E} array (Ok value)) → Works command_history Done a c from from
-    listed_works T E value listed = record {
+    pub listed_outcome : (T E : Type 0) (value : T) → Steps b c (Lists array) (HasListed {T = T} {E = E} array (Ok value)) → CommandOutcome command_history Done a c from from
+    listed_outcome T E value listed = record {
       cause = mountable;
       first = λ none. absurd (log none);
       refused = λ is. absurd (cc is);
@@ -215,19 +196,17 @@ module _ (a b : View) (from : Stream) (mounted : Moves a b (Mounts a) (Mounts a)
                 ∙ ap (λ (l : List ℕ). l ++ history_text s) (came.was.torn.said ∙ (contents told).said);
             holds = holds_now {T = T} {E = E} (Ok value) listed g s told holds;
           };
-      touches = touched {T = T} {E = E} (Ok value) listed;
-      others = others_now;
-      beside = beside_now;
+      frame = framed {T = T} {E = E} (Ok value) listed;
       unread = λ other. refl;
       took = took_none from;
       silent = λ is told. absurd (cc is);
-      members = members_now listed.faults;
-      steps = listed_steps {T = T} {E = E} a b c from Done array (Ok value) refl stands was_out (mounting_moves a b mounted writes.lost) listed;
+      held = held_now listed.faults;
+      steps = listed_steps {T = T} {E = E} a b c from Done array (Ok value) refl stands was_out (mounting_moves a b mounted) listed;
     }
 
     -- The port failed in the lines.
-    pub cut_works : (T E : Type 0) (e : E) → Steps b c (Lists array) (HasListed {T = T} {E = E} array (Err e)) → Rose b.port_faults c.port_faults → Works command_history Port a c from from
-    cut_works T E e listed rose = record {
+    pub cut_outcome : (T E : Type 0) (e : E) → Steps b c (Lists array) (HasListed {T = T} {E = E} array (Err e)) → Rose b.port_faults c.port_faults → CommandOutcome command_history Port a c from from
+    cut_outcome T E e listed rose = record {
       cause = (mountable, rose_since a.port_faults b.port_faults c.port_faults mounted.port_faults rose);
       first = λ none. absurd (log none);
       refused = λ is. absurd (cc is);
@@ -244,12 +223,10 @@ module _ (a b : View) (from : Stream) (mounted : Moves a b (Mounts a) (Mounts a)
             };
             holds = holds_now {T = T} {E = E} (Err e) listed g s told holds;
           };
-      touches = touched {T = T} {E = E} (Err e) listed;
-      others = others_now;
-      beside = beside_now;
+      frame = framed {T = T} {E = E} (Err e) listed;
       unread = λ other. refl;
       took = took_none from;
       silent = λ is told. absurd (cc is);
-      members = members_now listed.faults;
-      steps = listed_steps {T = T} {E = E} a b c from Port array (Err e) refl stands was_out (mounting_moves a b mounted writes.lost) listed;
+      held = held_now listed.faults;
+      steps = listed_steps {T = T} {E = E} a b c from Port array (Err e) refl stands was_out (mounting_moves a b mounted) listed;
     }

@@ -1,6 +1,7 @@
 pub mod FilesLemmas
 pub mod Words
 pub mod Saying
+pub mod Framing
 pub mod Lines
 pub mod Heads
 pub mod Stopping

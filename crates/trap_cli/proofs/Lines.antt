@@ -10,7 +10,7 @@ use Rattle.trap_model.specs.Given.{given}
 use Rattle.trap_model.specs.Machine.{Machine}
 use Rattle.trap_model.specs.Image.{block_of}
 use Rattle.trap_model.specs.State.{last, last_time, image, image_at, image_by}
-use Rattle.trap_model.specs.ArrayStep.{step, unless, refusal}
+use Rattle.trap_model.specs.ArrayStep.{step, or_refused, refusal}
 use Rattle.trap_model.specs.declared.numbers.Geometry.{Geometry}
 use Rattle.trap_model.specs.declared.history.State.{State}
 use Rattle.trap_model.specs.declared.request.Request.{Request}
@@ -32,7 +32,7 @@ use Rattle.trap_cli.specs.Ended.{last_line, created_line}
 use Rattle.trap_cli.specs.Crash.{IsFaultFront}
 
 -- the array answers every request but `Q` with a line
-unless_speaks : (why : Option Refusal) (reply : Reply) → reply ≢ Silent → unless why reply No ≢ Silent
+unless_speaks : (why : Option Refusal) (reply : Reply) → reply ≢ Silent → or_refused why reply No ≢ Silent
 unless_speaks None reply speaks = speaks
 unless_speaks (Some why) reply speaks = λ silent. cc silent
 

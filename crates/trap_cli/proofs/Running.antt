@@ -4,6 +4,7 @@ use Rattle.std.specs.declared.alloc.Global.{Global}
 use Rattle.std.specs.Prelude.{String}
 use Rattle.trap_bank.specs.Disks.{Contents, Disks, View}
 use Rattle.trap_bank.specs.Calls.{MayLeave, IsLawful}
+use Rattle.trap_bank.specs.Steps.{Same}
 use Rattle.trap_bank.specs.Stream.{Stream}
 use Rattle.trap_bank.proofs.Moves.{nothing_done}
 use Rattle.trap_array.specs.Holding.{HoldsBy}
@@ -21,13 +22,14 @@ use Rattle.trap_cli.specs.declared.outcome.Ended.{Ended}
 use Rattle.trap_cli.specs.declared.outcome.Ended.TheVariants.{Done, Usage, BadGeometry, NotCreated, NotMounted, Stopped, Port, Memory}
 use Rattle.trap_cli.specs.Command.{IsCommand}
 use Rattle.trap_cli.specs.Ended.{status_of, last_line, is_refused}
-use Rattle.trap_cli.specs.Listing.{KeepsDisks}
-use Rattle.trap_cli.specs.Cause.{WantsMemory, CauseOf, SessionCause, HistoryCause, CreateCause, StoppedBy}
-use Rattle.trap_cli.specs.Stops.{StopsBefore}
-use Rattle.trap_cli.specs.Crash.{LeftBy, Leaves, LeavesBefore}
-use Rattle.trap_array.specs.Beside.{StaysFrom}
-use Rattle.trap_cli.specs.Run.{Works, Runs, Ends, Spoken, TouchesBelow, LeavesOthers, MembersStay}
-use Rattle.trap_cli.proofs.Heads.{members_same}
+use Rattle.trap_cli.specs.Cause.{WantsMemory, CauseOf, SessionCause, HistoryCause, CreateCause}
+use Rattle.trap_cli.specs.Stopping.{StopCause}
+use Rattle.trap_cli.specs.Said.{SaidAndHeld}
+use Rattle.trap_cli.specs.Crash.{CommandLeaves, LeavesNow, LeavesWithFront}
+use Rattle.trap_cli.specs.Run.{CommandOutcome, EndsAs, ThenLastLine, Spoken}
+use Rattle.trap_cli.specs.Frame.{MayChange, Frames, ChangesNothing, StaysHeld}
+use Rattle.trap_cli.proofs.Framing.{changes_none, changes_said, change_later}
+use Rattle.trap_cli.proofs.Heads.{held_same}
 use Rattle.trap_cli.proofs.Words.{one_command}
 use Rattle.trap_cli.proofs.Saying.{took_none}
 use Rattle.trap_cli.proofs.Saying.{rose_later, last_since, run_leaves}
@@ -53,7 +55,7 @@ wants_later why old mid new later wants g h s told by log members = wants g h s 
     (λ m inside rose. members m inside (rose_later (old.faults (m + 1)) (mid.faults (m + 1)) (new.faults (m + 1)) rose (later (m + 1))))
 
 stopped_later : (why : SessionFault) (old mid new : View) (from to : Stream) → ((e : ℕ) → mid.faults e ≤ new.faults e) → mid.port_faults ≤ new.port_faults → (IsTrue old.tells → new.now.disks ≡ mid.now.disks)
-    → StoppedBy why old mid from to → StoppedBy why old new from to
+    → StopCause why old mid from to → StopCause why old new from to
 stopped_later (serving.Array (denied.Refused why)) old mid new from to later port same by = absurd by
 stopped_later (serving.Array denied.LogFault) old mid new from to later port same by = rose_later (old.faults 0) (mid.faults 0) (new.faults 0) by (later 0)
 stopped_later (serving.Array (denied.MemberFault first second)) old mid new from to later port same by =
@@ -69,7 +71,7 @@ stopped_later (serving.Array (denied.Damaged offset)) old mid new from to later 
   by.0,
   λ told.
       let named = by.1 told in
-      (named.0, named.1, named.2, subst (λ (disks : Disks). HasBadRecord named.0 named.1 disks offset) (sym (same told)) named.3),
+      (named.0, named.1, named.2, named.3, named.4, subst (λ (disks : Disks). HasBadRecord named.0 named.2 disks offset) (sym (same told)) named.5),
 )
 stopped_later (serving.Array denied.Stopped) old mid new from to later port same by = absurd by
 stopped_later serving.ReadFault old mid new from to later port same by = by
@@ -152,7 +154,7 @@ usage_exact status words (Some command) ended old new from to is number by =
     some_none command is none = let both = one_command words (Some command) None is none in cc both
 
 -- what a crash on entry leaves
-pub at_entry : (command : Option Command) (a : View) (from : Stream) → IsLawful a → (x : Contents) → MayLeave a x → LeftBy command a from x.said x
+pub at_entry : (command : Option Command) (a : View) (from : Stream) → IsLawful a → (x : Contents) → MayLeave a x → CommandLeaves command a from x.said x
 at_entry None a from lawful x was = record { part = []; said = sym (append-nil x.said); leaves = (no_front, was.torn.disks) }
 at_entry (Some Session) a from lawful x was = λ g s input begins. record {
   part = [];
@@ -171,88 +173,80 @@ at_entry (Some (Create asked)) a from lawful x was = record {
 }
 
 -- words that are no command
-pub no_command : (a : View) (from : Stream) → Works None Usage a a from from
+pub no_command : (a : View) (from : Stream) → CommandOutcome None Usage a a from from
 no_command a from = record {
   cause = refl;
   first = tt;
-  refused = λ is. record { sizes = λ e. refl; disks = λ told. refl };
+  refused = λ is. record { sizes = λ e. refl; changes = changes_none a };
   stops = λ told. refl;
-  touches = record { tells = refl; sizes = λ e beyond. refl; faults = λ e. omega arith; port_faults = omega arith };
-  others = λ told e beyond. refl;
-  beside = λ e is. record { size = refl; bytes = λ told. refl };
+  frame = record { changes = changes_none a; sizes = λ e is. refl };
   unread = λ other. refl;
   took = took_none from;
   silent = λ is told. refl;
-  members = members_same a a (λ told. refl);
-  steps = nothing_done a (Leaves None a from) (LeavesBefore (last_line Usage) None a from)
+  held = held_same a a (λ told. refl);
+  steps = nothing_done a (LeavesNow None a from) (LeavesWithFront (last_line Usage) None a from)
       (λ x was front rest is. record { part = front; said = refl; leaves = ((Usage, rest, is), was.torn.disks) });
 }
 
--- what is so of the members stays so over the last line
-members_stay : (old mid new : View) → (IsTrue old.tells → new.now.disks ≡ mid.now.disks) → ((e : ℕ) → mid.faults e ≤ new.faults e)
-    → MembersStay old mid → MembersStay old new
-members_stay old mid new same later stay g s t h k told was is =
-    let keeps = stay g s t h k told was (subst (λ (disks : Disks). HoldsBy g k t disks) (same told) is) in
+-- what is held stays so over the last line
+held_later : (old mid new : View) → (IsTrue old.tells → new.now.disks ≡ mid.now.disks) → ((e : ℕ) → mid.faults e ≤ new.faults e)
+    → StaysHeld old mid → StaysHeld old new
+held_later old mid new same later stay g s h told was =
+    let held = stay g s h told was in
     record {
-      lost = keeps.lost;
-      mark = λ m before after lower. ⊎_elim
-          (λ rose. inl (rose_later (old.faults (m + 1)) (mid.faults (m + 1)) (new.faults (m + 1)) rose (later (m + 1)))) (λ other. inr other)
-          (keeps.mark m before after lower);
+      state = held.state;
+      head = held.head;
+      by = subst (λ (disks : Disks). HoldsBy g held.head held.state disks) (sym (same told)) held.by;
+      keeps = record {
+        lost = held.keeps.lost;
+        mark = λ m before after lower. ⊎_elim
+            (λ rose. inl (rose_later (old.faults (m + 1)) (mid.faults (m + 1)) (new.faults (m + 1)) rose (later (m + 1)))) (λ other. inr other)
+            (held.keeps.mark m before after lower);
+      };
     }
 
-module _ (command : Option Command) (ended : Ended) (old mid new : View) (from to : Stream) (works : Works command ended old mid from to)
+module _ (command : Option Command) (ended : Ended) (old mid new : View) (from to : Stream) (outcome : CommandOutcome command ended old mid from to)
     (spoken : Spoken (last_line ended) mid new) where
   told_mid : IsTrue old.tells → IsTrue mid.tells
-  told_mid told = subst IsTrue (sym works.touches.tells) told
+  told_mid told = subst IsTrue (sym outcome.steps.tells) told
 
-  ends : IsTrue old.tells → Ends command ended old new from to
+  ends : IsTrue old.tells → ThenLastLine command ended old new from to
   ends told = record {
     before = mid.now.said;
-    stops = subst (λ (disks : Disks). StopsBefore command ended old (record { disks = disks; said = mid.now.said }) from to)
-        (sym (spoken.disks (told_mid told))) works.stops;
-    last = last_since old mid new works.touches.port_faults (spoken.last (told_mid told));
+    stops = subst (λ (disks : Disks). SaidAndHeld command ended old (record { disks = disks; said = mid.now.said }) from to)
+        (sym (spoken.disks (told_mid told))) outcome.stops;
+    last = last_since old mid new outcome.steps.port_faults (spoken.last (told_mid told));
   }
 
-  refuses : is_refused ended ≡ true → KeepsDisks old new
+  refuses : is_refused ended ≡ true → ChangesNothing old new
   refuses is = record {
-    sizes = λ e. spoken.sizes e ∙ (works.refused is).sizes e;
-    disks = λ told. spoken.disks (told_mid told) ∙ (works.refused is).disks told;
+    sizes = λ e. spoken.sizes e ∙ (outcome.refused is).sizes e;
+    changes = changes_said Same Same old mid new (last_line ended) (λ x y same. same) (outcome.refused is).changes spoken.steps spoken.disks;
   }
 
-  pub run_members : MembersStay old new
-  run_members = members_stay old mid new (λ told. spoken.disks (told_mid told)) spoken.steps.faults works.members
+  pub run_held : StaysHeld old new
+  run_held = held_later old mid new (λ told. spoken.disks (told_mid told)) spoken.steps.faults outcome.held
 
-  pub run_runs : (status : ℕ) → status ≡ status_of ended → Runs status command old new from to
-  run_runs status is = record {
-    ended = ended;
+  pub run_ends : (status : ℕ) → status ≡ status_of ended → EndsAs status command ended old new from to
+  run_ends status is = record {
     number = is;
-    cause = cause_later command ended old mid new from to spoken.steps.faults spoken.steps.port_faults (λ told. spoken.disks (told_mid told)) works.cause;
-    first = works.first;
+    cause = cause_later command ended old mid new from to spoken.steps.faults spoken.steps.port_faults (λ told. spoken.disks (told_mid told)) outcome.cause;
+    first = outcome.first;
     refused = refuses;
-    unread = works.unread;
-    took = works.took;
+    unread = outcome.unread;
+    took = outcome.took;
     silent = λ is told.
-        let last = last_since old mid new works.touches.port_faults (spoken.last (told_mid told)) in
-        record { part = last.part; rest = last.rest; whole = last.whole; said = last.said ∙ ap (λ (l : List ℕ). l ++ last.part) (works.silent is told); port = last.port };
+        let last = last_since old mid new outcome.steps.port_faults (spoken.last (told_mid told)) in
+        record { part = last.part; rest = last.rest; whole = last.whole; said = last.said ∙ ap (λ (l : List ℕ). l ++ last.part) (outcome.silent is told); port = last.port };
     told = ends;
   }
 
-  pub run_touches : TouchesBelow 17 old new
-  run_touches = record {
-    tells = spoken.steps.tells ∙ works.touches.tells;
-    sizes = λ e beyond. spoken.sizes e ∙ works.touches.sizes e beyond;
-    faults = λ e. omega (arith, works.touches.faults e, spoken.steps.faults e);
-    port_faults = omega (arith, works.touches.port_faults, spoken.steps.port_faults);
+  pub run_frame : Frames command old new
+  run_frame = record {
+    changes = changes_said (MayChange command old mid) (MayChange command old new) old mid new (last_line ended)
+        (change_later command old mid new spoken.steps.faults) outcome.frame.changes spoken.steps spoken.disks;
+    sizes = λ e is. spoken.sizes e ∙ outcome.frame.sizes e is;
   }
 
-  pub run_others : StaysFrom 17 old new
-  run_others told e beyond = ap (λ (disks : Disks). disks e) (spoken.disks (told_mid told)) ∙ works.others told e beyond
-
-  pub run_beside : LeavesOthers command old new
-  run_beside e is = record {
-    size = spoken.sizes e ∙ (works.beside e is).size;
-    bytes = λ told. ap (λ (disks : Disks). disks e) (spoken.disks (told_mid told)) ∙ (works.beside e is).bytes told;
-  }
-
-  pub run_crash : IsLawful old → (w : Contents) → new.left old.moment w → LeftBy command old from old.now.said w
-  run_crash lawful = run_leaves command old mid new from (last_line ended) lawful (at_entry command old from lawful) works.steps spoken.steps
+  pub run_crash : IsLawful old → (w : Contents) → new.left old.moment w → CommandLeaves command old from old.now.said w
+  run_crash lawful = run_leaves command old mid new from (last_line ended) lawful (at_entry command old from lawful) outcome.steps spoken.steps

@@ -1,15 +1,17 @@
 -- What the last line does.
-use Rattle.std.proofs.Common.{◌≡◌, ◌⊎◌, inl, inr, ℕ, ◌≤◌, List, [], ◌++◌, Option, Some, None, Result, Ok, Err, IsTrue, refl, sym, ap₂, subst, append-nil, arith}
+use Rattle.std.proofs.Common.{◌≡◌, ◌⊎◌, inl, inr, ⊎_elim, ℕ, ◌≤◌, List, [], ◌++◌, Option, Some, None, Result, Ok, Err, IsTrue, refl, sym, ap₂, subst, append-nil, arith}
 use Rattle.std.specs.Io.KnownBytes.{Consumes}
 use Rattle.trap_bank.specs.Faults.{Rose}
 use Rattle.trap_bank.specs.Disks.{Contents, Disks, View}
 use Rattle.trap_bank.specs.Calls.{Says, MayLeave, IsLawful}
+use Rattle.trap_bank.specs.declared.disks.Failed.{Failed}
 use Rattle.trap_bank.specs.Steps.{Steps, SpokePart}
 use Rattle.trap_bank.specs.Stream.{Stream}
 use Rattle.trap_bank.proofs.Moves.{say_steps, nothing_done, then_, since_entry}
 use Rattle.trap_session.specs.Serving.{Took}
 use Rattle.trap_cli.specs.declared.command.Command.{Command}
-use Rattle.trap_cli.specs.Crash.{LeftBy, Leaves, LeavesBefore}
+use Rattle.trap_cli.specs.Crash.{CommandLeaves, LeavesNow, LeavesWithFront}
+use Rattle.trap_cli.specs.Session.{SaysInOne}
 use Rattle.trap_cli.specs.Run.{SaysLast, Spoken}
 
 says_last : {T E : Type 0} (result : Result T E) (line : List ℕ) (old new : View) → Says line result old new → IsTrue old.tells
@@ -19,7 +21,7 @@ says_last (Err e) line old new call told =
     let part = call.part told in
     record { part = part.part; rest = part.rest; whole = part.whole; said = part.said; port = inr call.cause }
 
-pub spoken_by : {T E : Type 0} (result : Result T E) (said line : List ℕ) (old new : View) → said ≡ line → Says said result old new → Spoken line old new
+spoken_by : {T E : Type 0} (result : Result T E) (said line : List ℕ) (old new : View) → said ≡ line → Says said result old new → Spoken line old new
 spoken_by result said line old new is call =
     let call = subst (λ (line : List ℕ). Says line result old new) is call in
     record {
@@ -29,8 +31,13 @@ spoken_by result said line old new is call =
       last = says_last result line old new call;
     }
 
+-- in one call of the bank
+pub said_by : {B : Type 0} (view : B → View) (result : Result (Unit {0}) Failed) (said line : List ℕ) (old new : B) → said ≡ line
+    → Says said result (view old) (view new) → SaysInOne view line old new
+said_by view result said line old new is call = inr (result, subst (λ (line : List ℕ). Says line result (view old) (view new)) is call)
+
 -- no line is said
-pub spoken_nothing : (line : List ℕ) (v : View) → line ≡ [] → Spoken line v v
+spoken_nothing : (line : List ℕ) (v : View) → line ≡ [] → Spoken line v v
 spoken_nothing line v none = subst (λ (line : List ℕ). Spoken line v v) (sym none) (record {
   steps = nothing_done v (SpokePart []) (SpokePart [])
       (λ x was. record { disks = refl; says = record { part = []; rest = []; whole = refl; said = sym (append-nil x.said) } });
@@ -38,6 +45,13 @@ spoken_nothing line v none = subst (λ (line : List ℕ). Spoken line v v) (sym 
   disks = λ told. refl;
   last = λ told. record { part = []; rest = []; whole = refl; said = sym (append-nil v.now.said); port = inl refl };
 })
+
+-- a line that is said in one call, or an empty one, is said
+pub spoken_once : {B : Type 0} (view : B → View) (line : List ℕ) (old new : B) → SaysInOne view line old new → Spoken line (view old) (view new)
+spoken_once view line old new said = ⊎_elim
+    (λ (none : (line ≡ []) × (new ≡ old)). subst (λ (bank : _). Spoken line (view old) (view bank)) (sym none.1) (spoken_nothing line (view old) none.0))
+    (λ (some : (result : Result (Unit {0}) Failed) × Says line result (view old) (view new)). spoken_by some.0 line line (view old) (view new) refl some.1)
+    said
 
 -- a count that rose before a while, or since a while
 pub rose_later : (a b c : ℕ) → Rose a b → b ≤ c → Rose a c
@@ -62,23 +76,23 @@ last_since old mid new later last = record {
 
 -- The last line is said, and this is what a crash at any moment of the run leaves.
 pub run_leaves : (command : Option Command) (a b c : View) (from : Stream) (line : List ℕ) → IsLawful a
-    → ((x : Contents) → MayLeave a x → LeftBy command a from x.said x)
-    → Steps a b (Leaves command a from) (LeavesBefore line command a from) → Steps b c (SpokePart line) (SpokePart line)
-    → (w : Contents) → c.left a.moment w → LeftBy command a from a.now.said w
+    → ((x : Contents) → MayLeave a x → CommandLeaves command a from x.said x)
+    → Steps a b (LeavesNow command a from) (LeavesWithFront line command a from) → Steps b c (SpokePart line) (SpokePart line)
+    → (w : Contents) → c.left a.moment w → CommandLeaves command a from a.now.said w
 run_leaves command a b c from line lawful at_entry worked spoke w left =
-    let came = since_entry a c (Leaves command a from) (Leaves command a from) lawful at_entry both w left in
-    subst (λ (said : List ℕ). LeftBy command a from said w) came.was.torn.said came.by
+    let came = since_entry a c (LeavesNow command a from) (LeavesNow command a from) lawful at_entry both w left in
+    subst (λ (said : List ℕ). CommandLeaves command a from said w) came.was.torn.said came.by
   where
     whole_contents : (z : Contents) (disks : Disks) (said : List ℕ) → z.disks ≡ disks → z.said ≡ said → record { disks = disks; said = said } ≡ z
     whole_contents z disks said same is = ap₂ (λ (disks : Disks) (said : List ℕ). record { disks = disks; said = said }) (sym same) (sym is)
 
-    said_part : (x y z : Contents) → LeavesBefore line command a from x y → SpokePart line y z → Leaves command a from x z
-    said_part x y z before spoke = subst (λ (z : Contents). LeftBy command a from x.said z)
+    said_part : (x y z : Contents) → LeavesWithFront line command a from x y → SpokePart line y z → LeavesNow command a from x z
+    said_part x y z before spoke = subst (λ (z : Contents). CommandLeaves command a from x.said z)
         (whole_contents z y.disks (y.said ++ spoke.says.part) spoke.disks spoke.says.said)
         (before spoke.says.part spoke.says.rest spoke.says.whole)
 
-    both : Steps a c (Leaves command a from) (Leaves command a from)
-    both = then_ a b c (Leaves command a from) (LeavesBefore line command a from) (SpokePart line) (SpokePart line) (Leaves command a from) (Leaves command a from) worked spoke
+    both : Steps a c (LeavesNow command a from) (LeavesNow command a from)
+    both = then_ a b c (LeavesNow command a from) (LeavesWithFront line command a from) (SpokePart line) (SpokePart line) (LeavesNow command a from) (LeavesNow command a from) worked spoke
         (λ x y was some. some)
         (λ x y z was before mid spoke. said_part x y z before spoke)
         (λ x y z was before mid spoke. said_part x y z before spoke)

@@ -16,7 +16,7 @@ use Rattle.trap_session.proofs.Arrays.{comes_also}
 use Rattle.trap_session.specs.Serving.{StopsAfter, StopsTorn}
 use Rattle.trap_cli.specs.declared.outcome.Ended.{Ended}
 use Rattle.trap_cli.specs.declared.outcome.Ended.TheVariants.{Done, Usage, BadGeometry, NotCreated, NotMounted, Stopped, Port, Memory}
-use Rattle.trap_cli.specs.Stops.{store_of, held_store, SessionStops}
+use Rattle.trap_cli.specs.Said.{store_of, held_store, SessionSaid}
 use Rattle.trap_cli.specs.Crash.{WasOut, HoldsSince}
 
 module _ (g : Geometry) (has also : Disks → State → Type 0) (f : (disks : Disks) (t : State) → has disks t → also disks t)
@@ -39,8 +39,8 @@ module _ (g : Geometry) (has also : Disks → State → Type 0) (f : (disks : Di
   }
 
   -- the same, where a state is held so, and as much was said before
-  pub stops_by : (ended : Ended) (from to : Stream) → SessionStops (store_of g has) ended s input x y from to
-      → SessionStops (store_of g also) ended s input x' y from to
+  pub stops_by : (ended : Ended) (from to : Stream) → SessionSaid (store_of g has) ended s input x y from to
+      → SessionSaid (store_of g also) ended s input x' y from to
   stops_by Done from to stops = record {
     said = stops.said ∙ ap (λ (l : List ℕ). l ++ all_texts (step g) s (lines g.block input)) same;
     holds = f y.disks _ stops.holds;
@@ -64,9 +64,9 @@ module _ (g : Geometry) (has also : Disks → State → Type 0) (f : (disks : Di
 
 -- what a mounted array's session holds, the disks hold
 pub stops_held : (array : Mounted) (g : Geometry) (ended : Ended) (s : State) (input : List ℕ) (x x' y : Contents) (from to : Stream) → array.g ≡ g
-    → x.said ≡ x'.said → SessionStops (array_store array) ended s input x y from to → SessionStops (held_store g) ended s input x' y from to
+    → x.said ≡ x'.said → SessionSaid (array_store array) ended s input x y from to → SessionSaid (held_store g) ended s input x' y from to
 stops_held array g ended s input x x' y from to is same stops =
-    subst (λ (g : Geometry). SessionStops (held_store g) ended s input x' y from to) is
+    subst (λ (g : Geometry). SessionSaid (held_store g) ended s input x' y from to) is
     (stops_by array.g (λ disks t. HoldsLike array.g array.head t disks) (λ disks t. Holds array.g t disks)
     (λ disks t like. record { head = like.head; by = like.by }) s input x x' y same ended from to stops)
 
@@ -82,15 +82,13 @@ pub since_like : (g : Geometry) (old : View) (h : Head) (disks : Disks) (t : Sta
 since_like g old h disks t lost like = record {
   head = like.head;
   by = like.by;
-  entry = old.now.disks;
-  left = record { sizes = λ e. refl; bytes = λ e i outside. refl };
-  lost = λ k s was m is. lost k s was m (sym like.lost ∙ is);
+  lost = λ k s was m is. lost k s was m (sym like.follows.lost ∙ is);
 }
 
 pub stops_since : (array : Mounted) (g : Geometry) (old : View) (ended : Ended) (s : State) (input : List ℕ) (x x' y : Contents) (from to : Stream) → array.g ≡ g
-    → LostOn g old array.head → x.said ≡ x'.said → SessionStops (array_store array) ended s input x y from to
-    → SessionStops (since_store g old) ended s input x' y from to
+    → LostOn g old array.head → x.said ≡ x'.said → SessionSaid (array_store array) ended s input x y from to
+    → SessionSaid (since_store g old) ended s input x' y from to
 stops_since array g old ended s input x x' y from to is lost same stops =
     stops_by g (λ disks t. HoldsLike g array.head t disks) (λ disks t. HoldsSince g old disks t)
     (λ disks t like. since_like g old array.head disks t lost like) s input x x' y same ended from to
-    (subst (λ (g : Geometry). SessionStops (store_of g (λ disks t. HoldsLike g array.head t disks)) ended s input x y from to) is stops)
+    (subst (λ (g : Geometry). SessionSaid (store_of g (λ disks t. HoldsLike g array.head t disks)) ended s input x y from to) is stops)

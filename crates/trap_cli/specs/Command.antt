@@ -1,4 +1,4 @@
--- What the words behind the program's name are.
+-- What the words after the program's name are.
 use Rattle.std.specs.Prelude.{◌≡◌, ℕ, List, [], ◌∷◌, map, codes, string_bytes, String, Option, Some, None}
 use Rattle.std.specs.declared.alloc.Global.{Global}
 use Rattle.trap_model.specs.declared.asked.Asked.{Asked}
@@ -14,15 +14,17 @@ IsSession words = map string_bytes words ≡ codes "session" ∷ []
 abbrev pub IsHistory : List (String Global) → Type 0
 IsHistory words = map string_bytes words ≡ codes "history" ∷ []
 
--- the nine numbers behind `create`, in their order
+-- the nine numbers after `create`, in their order
 abbrev pub numbers_of : Asked → List ℕ
 numbers_of asked =
-    asked.id ∷ asked.members ∷ asked.chunk ∷ asked.block ∷ asked.rows ∷ asked.slots ∷ asked.gap ∷ asked.entries
+    asked.id ∷ asked.members ∷ asked.chunk ∷ asked.block ∷ asked.rows ∷ asked.slots ∷ asked.gap
+    ∷ asked.entries
     ∷ asked.ring ∷ []
 
 -- the words are these nine numbers
 abbrev pub AreNumbers : List (String Global) → Asked → Type 0
-AreNumbers words asked = map (λ word. number_of (string_bytes word)) words ≡ map Some (numbers_of asked)
+AreNumbers words asked =
+    map (λ word. number_of (string_bytes word)) words ≡ map Some (numbers_of asked)
 
 -- the words are `create` and these nine numbers
 pub record IsCreate (words : List (String Global)) (asked : Asked) : Type 0 where

@@ -14,7 +14,7 @@ use Rattle.trap_array.specs.Creating.{NoneIsThere}
 use Rattle.trap_array.specs.Holding.{Holds}
 use Rattle.trap_cli.specs.Ended.{created_line}
 use Rattle.trap_cli.specs.History.{history_text}
-use Rattle.trap_cli.specs.Stops.{BeginsTold}
+use Rattle.trap_cli.specs.Said.{BeginsHeld}
 use Rattle.trap_cli.specs.declared.command.Command.{Command}
 use Rattle.trap_cli.specs.declared.command.Command.TheVariants.{Create, Session, History}
 
@@ -25,7 +25,8 @@ output g s History input = history_text s
 output g s (Create asked) input = created_line asked.id
 
 -- no count of disk 0, of the port or of the source rose, nor of any member but some
-pub record NothingFails (g : Geometry) (but : ℕ → Type 0) (old new : View) (from to : Stream) : Type 0 where
+pub record NothingFails (g : Geometry) (but : ℕ → Type 0) (old new : View)
+    (from to : Stream) : Type 0 where
   pub log : Rose (old.faults 0) (new.faults 0) → ⊥
   pub members : (m : ℕ) → m < g.members → Rose (old.faults (m + 1)) (new.faults (m + 1)) → but m
   pub port : Rose old.port_faults new.port_faults → ⊥
@@ -39,17 +40,22 @@ IsUnused h disks m = (disks (m + 1) ≡ None) ⊎ ((h.lost ≡ Some m) × (h.reb
 abbrev pub IsDone : ℕ → List ℕ → View → View → Type 0
 IsDone status text old new = ((status ≡ 0) × (new.now.said ≡ old.now.said ++ text)) ⊎ (status ≡ 10)
 
--- Over disks that hold a state, the command is done where nothing fails but a member that isn't used, whichever member is
--- out. A session's input has fewer than 2^40 bytes. An array is made where its numbers are within their limits, none of its
--- disks is there, and nothing fails.
+-- Over disks that hold a state, the command is done where nothing fails but a member that isn't
+-- used, whichever member is out. A session's input has fewer than 2^40 bytes. An array is made
+-- where its numbers are within their limits, none of its disks is there, and nothing fails.
 abbrev pub Completes : ℕ → Option Command → View → View → Stream → Stream → Type 0
 Completes status None old new from to = Unit {0}
-Completes status (Some Session) old new from to = (g : Geometry) (s : State) (input : List ℕ) (begins : BeginsTold g s input old from)
-    → length input < 2 ^ 40 → NothingFails g (IsUnused begins.holds.head old.now.disks) old new from to
+Completes status (Some Session) old new from to =
+    (g : Geometry) (s : State) (input : List ℕ) (begins : BeginsHeld g s input old from)
+    → length input < 2 ^ 40
+    → NothingFails g (IsUnused begins.holds.head old.now.disks) old new from to
     → IsDone status (output g s Session input) old new
-Completes status (Some History) old new from to = (g : Geometry) (s : State) (input : List ℕ) → IsTrue old.tells
-    → (holds : Holds g s old.now.disks) → NothingFails g (IsUnused holds.head old.now.disks) old new from to
+Completes status (Some History) old new from to =
+    (g : Geometry) (s : State) (input : List ℕ) → IsTrue old.tells
+    → (holds : Holds g s old.now.disks)
+    → NothingFails g (IsUnused holds.head old.now.disks) old new from to
     → IsDone status (output g s History input) old new
-Completes status (Some (Create asked)) old new from to = (g : Geometry) → IsTrue old.tells → HasNumbers g asked → first_broken asked ≡ None
+Completes status (Some (Create asked)) old new from to =
+    (g : Geometry) → IsTrue old.tells → HasNumbers g asked → first_broken asked ≡ None
     → NoneIsThere g old → NothingFails g (λ m. ⊥) old new from to
     → (status ≡ 0) × (new.now.said ≡ old.now.said ++ created_line asked.id)

@@ -1,7 +1,8 @@
 -- Counts of faults, one for each disk.
 use Rattle.std.specs.Prelude.{◌≡◌, ◌≢◌, ℕ, ◌+◌, ◌-◌, ◌^◌, ◌≤◌, min, List, length, get_or}
 
--- the count of this disk rose by one, or stands at the greatest number of 64 bits; no other changed, and none fell
+-- the count of this disk rose by one, or stands at the greatest number of 64 bits; no other
+-- changed, and none fell
 pub record Blames (d : ℕ) (old new : List ℕ) : Type 0 where
   pub disks : length new ≡ length old
   pub one_more : get_or new d 0 ≡ min (get_or old d 0 + 1) (2 ^ 64 - 1)

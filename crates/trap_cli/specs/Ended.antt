@@ -87,8 +87,10 @@ fault_line text = codes "fault " ++ text ++ codes "\n"
 abbrev pub session_line : SessionFault → List ℕ
 session_line (serving.Array (denied.Refused why)) = fault_line (codes "log")
 session_line (serving.Array denied.LogFault) = fault_line (codes "log")
-session_line (serving.Array (denied.MemberFault first second)) = fault_line (codes "members " ++ pair first second)
-session_line (serving.Array (denied.Damaged offset)) = fault_line (codes "damaged " ++ decimal offset)
+session_line (serving.Array (denied.MemberFault first second)) =
+    fault_line (codes "members " ++ pair first second)
+session_line (serving.Array (denied.Damaged offset)) =
+    fault_line (codes "damaged " ++ decimal offset)
 session_line (serving.Array denied.Stopped) = fault_line (codes "log")
 session_line serving.ReadFault = fault_line (codes "input")
 session_line serving.WriteFault = []

@@ -35,7 +35,8 @@ pub untold : {P : Type 0} → IsTrue false → P
 untold told = absurd (subst is_false told tt)
 
 -- what tells nothing owes nothing of content
-pub untold_lawful : {F : Type 0} (disks : List (Option (OpenDisk F))) (faults : List ℕ) (port_faults : ℕ)
+pub untold_lawful : {F : Type 0} (disks : List (Option (OpenDisk F))) (faults : List ℕ)
+    (port_faults : ℕ)
     → IsLawful (untold_view disks faults port_faults)
 untold_lawful disks faults port_faults = record {
   sized = λ told. untold told;

@@ -20,13 +20,15 @@ line_of q time block size snap = word q ++ word time ++ word block ++ word size 
 
 -- the line of entry number q, over its block's contents before
 abbrev pub entry_line : ℕ → List ℕ → Entry → List ℕ
-entry_line q old entry = line_of q entry.time entry.block (length (record_of q old entry)) entry.snap
+entry_line q old entry =
+    line_of q entry.time entry.block (length (record_of q old entry)) entry.snap
 
--- the lines of these entries, the first of them over this image and with the number behind q
+-- the lines of these entries, the first of them over this image and with the number after q
 abbrev pub lines_from : List (List ℕ) → ℕ → List Entry → List (List ℕ)
 lines_from image q [] = []
 lines_from image q (entry ∷ later) =
-    entry_line (q + 1) (block_of image entry.block) entry ∷ lines_from (written image entry) (q + 1) later
+    entry_line (q + 1) (block_of image entry.block) entry
+    ∷ lines_from (written image entry) (q + 1) later
 
 -- the lines of all retained entries
 abbrev pub history_lines : State → List (List ℕ)

@@ -4,8 +4,12 @@ pub mod Command
 pub mod Ended
 pub mod History
 pub mod Listing
+pub mod Stopping
 pub mod Cause
-pub mod Stops
+pub mod Creating
+pub mod Said
 pub mod Crash
+pub mod Session
+pub mod Frame
 pub mod Run
 pub mod Completes

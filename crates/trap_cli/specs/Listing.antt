@@ -24,12 +24,13 @@ pub record SpokeFront (piece : List ℕ) (len at : ℕ) (old new : Contents) : T
   pub said : new.said ≡ old.said ++ part
   pub whole : part ++ take at piece ≡ take len piece
 
--- there is room for a line behind `at`, or the port failed
+-- there is room for a line after `at`, or the port failed
 abbrev pub Flushed : {E : Type 0} → List ℕ → ℕ → Result ℕ E → Contents → Contents → Type 0
 Flushed piece len (Ok at) old new = SpokeFront piece len at old new
 Flushed piece len (Err e) old new = SpokePart (take len piece) old new
 
--- the disks are the same, and some first part was said of the text of each state that the array stands for
+-- the disks are the same, and some first part was said of the text of each state that the array
+-- stands for
 pub record Lists (a : Mounted) (old new : Contents) : Type 0 where
   pub disks : new.disks ≡ old.disks
   pub says : (s : State) (on : Disks) → StandsFor a s on → SaysPart (history_text s) old new

@@ -1,4 +1,4 @@
-//! The words behind the program's name.
+//! The words after the program's name.
 
 ghost use Rattle.std.specs.Prelude.{◌≡◌, length, IfNone, IfSome};
 ghost use Rattle.trap_model.specs.declared.asked.Asked.{Asked};

@@ -7,7 +7,7 @@ ghost use Rattle.trap_model.specs.declared.asked.Asked.{Asked};
 ghost use Rattle.trap_format.specs.Checked.{first_broken, HasNumbers};
 ghost use Rattle.trap_cli.specs.Command.{command_create};
 ghost use Rattle.trap_cli.specs.Ended.{created_line};
-ghost use Rattle.trap_cli.specs.Run.{Works};
+ghost use Rattle.trap_cli.specs.Run.{CommandOutcome};
 
 use crate::last::write_created;
 use crate::outcome::Ended;
@@ -18,7 +18,8 @@ use trap_model::{Asked, Geometry};
 
 /// Makes an array, and says that it is made. All but the last line of the run.
 pub fn run_create<B: Bank>(bank: &mut B, asked: &Asked) -> Ended
-    ensures works { (from : Stream) → Works (command_create asked.now) result (B.view bank.old) (B.view bank.new) from from }
+    ensures outcome { (from : Stream) → CommandOutcome (command_create asked.now) result
+        (B.view bank.old) (B.view bank.new) from from }
 {
     match check(asked) {
         Ok(g) => make_array(bank, &g),
@@ -29,8 +30,9 @@ pub fn run_create<B: Bank>(bank: &mut B, asked: &Asked) -> Ended
 // Makes the array of these numbers, and says so.
 fn make_array<B: Bank>(bank: &mut B, g: &Geometry) -> Ended
     requires one_slot { g.now.slots ≡ 1 }
-    ensures works { (asked : Asked) (from : Stream) → first_broken asked ≡ None → HasNumbers g.now asked
-        → Works (command_create asked) result (B.view bank.old) (B.view bank.new) from from }
+    ensures outcome { (asked : Asked) (from : Stream) → first_broken asked ≡ None
+        → HasNumbers g.now asked → CommandOutcome (command_create asked) result
+        (B.view bank.old) (B.view bank.new) from from }
 {
     if let Err(why) = create(bank, g) {
         return Ended::NotCreated(why);

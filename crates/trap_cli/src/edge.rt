@@ -1,5 +1,5 @@
-//! The trusted edge: files of the current folder as disks, standard output as the port, and standard
-//! input. No clause can say what these give or take, so they tell nothing of content.
+//! The trusted edge: files of the current folder as disks, standard output as the port, and
+//! standard input. No clause can say what these give or take, so they tell nothing of content.
 
 mod bank;
 mod fault;

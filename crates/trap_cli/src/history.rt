@@ -7,7 +7,7 @@ ghost use Rattle.trap_bank.specs.Stream.{Stream};
 ghost use Rattle.trap_cli.specs.Command.{command_history};
 ghost use Rattle.trap_cli.specs.History.{word, mark};
 ghost use Rattle.trap_cli.specs.Listing.{item_line, KeepsDisks, Flushed, Lists, HasListed};
-ghost use Rattle.trap_cli.specs.Run.{Works};
+ghost use Rattle.trap_cli.specs.Run.{CommandOutcome};
 
 use crate::last::{put, put_number};
 use crate::outcome::Ended;
@@ -19,7 +19,7 @@ use trap_index::Item;
 /// So many bytes of lines are said at once, at most.
 const PIECE_BYTES: usize = 4096;
 
-/// A line has at most so many bytes.
+/// A line has at most that many bytes.
 const LINE_BYTES: usize = 86;
 
 /// The bytes of a record's header.
@@ -27,7 +27,8 @@ const HEADER_BYTES: u64 = 26;
 
 /// Mounts the array, and says a line for each retained entry. All but the last line of the run.
 pub fn run_history<B: Bank>(alloc: Global, bank: &mut B) -> Ended
-    ensures works { (from : Stream) → Works command_history result (B.view bank.old) (B.view bank.new) from from }
+    ensures outcome { (from : Stream) → CommandOutcome command_history result
+        (B.view bank.old) (B.view bank.new) from from }
 {
     match Array::mount(alloc, bank) {
         Ok(array) => match say_lines(&array, bank) {
@@ -40,15 +41,17 @@ pub fn run_history<B: Bank>(alloc: Global, bank: &mut B) -> Ended
 
 // Says the lines in their order, many at once.
 fn say_lines<B: Bank>(array: &Array, bank: &mut B) -> Result<(), Failed>
-    ensures steps { Steps (B.view bank.old) (B.view bank.new) (Lists array.now) (HasListed array.now result) }
+    ensures steps { Steps (B.view bank.old) (B.view bank.new)
+        (Lists array.now) (HasListed array.now result) }
     ensures disks { KeepsDisks (B.view bank.old) (B.view bank.new) }
-    ensures cause { OnErr result (Rose (B.view bank.old).port_faults (B.view bank.new).port_faults) }
+    ensures cause { OnErr result
+        (Rose (B.view bank.old).port_faults (B.view bank.new).port_faults) }
 {
     let span = array.span();
     let mut piece = [0u8; PIECE_BYTES];
     let mut len = 0;
     for before in span.first..span.last {
-        // Every number behind the first one is retained, up to the last.
+        // Every number after the first one is retained, up to the last.
         if let Some(item) = array.entry(before + 1) {
             len = make_room(bank, &piece, len)?;
             len = put_line(&mut piece, len, before + 1, &item);
@@ -57,7 +60,8 @@ fn say_lines<B: Bank>(array: &Array, bank: &mut B) -> Result<(), Failed>
     bank.say(&piece[..len])
 }
 
-// Says what the piece begins with where no line has room behind it, and answers where the next line goes.
+// Says what the piece begins with where no line has room after it, and answers where the next line
+// goes.
 fn make_room<B: Bank>(bank: &mut B, piece: &[u8], len: usize) -> Result<usize, Failed>
     requires within { len ≤ length piece.now }
     requires line { 86 ≤ length piece.now }
@@ -65,7 +69,8 @@ fn make_room<B: Bank>(bank: &mut B, piece: &[u8], len: usize) -> Result<usize, F
     ensures steps { Steps (B.view bank.old) (B.view bank.new)
         (SpokePart (take len piece.now)) (Flushed piece.now len result) }
     ensures disks { KeepsDisks (B.view bank.old) (B.view bank.new) }
-    ensures cause { OnErr result (Rose (B.view bank.old).port_faults (B.view bank.new).port_faults) }
+    ensures cause { OnErr result
+        (Rose (B.view bank.old).port_faults (B.view bank.new).port_faults) }
 {
     if LINE_BYTES <= piece.len() - len {
         return Ok(len);
@@ -76,7 +81,7 @@ fn make_room<B: Bank>(bank: &mut B, piece: &[u8], len: usize) -> Result<usize, F
     }
 }
 
-// Writes the line of the entry with this number, and answers the place behind it.
+// Writes the line of the entry with this number, and answers the place after it.
 fn put_line(out: &mut [u8], at: usize, seq: u64, item: &Item) -> usize
     requires { at + 86 ≤ length out.old }
     ensures end { result ≤ at + 86 }

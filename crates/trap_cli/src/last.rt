@@ -66,7 +66,7 @@ fn session_status(why: SessionFault) -> u8
     }
 }
 
-/// Writes the bytes at a place, and answers the place behind them.
+/// Writes the bytes at a place, and answers the place after them.
 pub fn put(out: &mut [u8], at: usize, bytes: &[u8]) -> usize
     requires { at + length bytes.now ≤ length out.old }
     ensures end { result ≡ at + length bytes.now }
@@ -189,7 +189,8 @@ fn write_session(why: SessionFault, out: &mut [u8]) -> usize
     }
 }
 
-/// Writes the last line at the front of `out`, which has room for 64 bytes, and answers how long it is.
+/// Writes the last line at the front of `out`, which has room for 64 bytes, and answers how long it
+/// is.
 pub fn write_last(ended: Ended, out: &mut [u8]) -> usize
     requires { 64 ≤ length out.old }
     ensures end { result ≤ length out.new }
@@ -219,7 +220,8 @@ pub fn write_last(ended: Ended, out: &mut [u8]) -> usize
     }
 }
 
-/// Writes what `create` says at the front of `out`, which has room for 64 bytes, and answers how long it is.
+/// Writes what `create` says at the front of `out`, which has room for 64 bytes, and answers how
+/// long it is.
 pub fn write_created(id: u64, out: &mut [u8]) -> usize
     requires { 64 ≤ length out.old }
     ensures end { result ≤ length out.new }

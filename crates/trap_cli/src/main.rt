@@ -27,7 +27,7 @@ fn no_memory(rt: &HostRuntime) -> u8 {
     10
 }
 
-// The word of that number, none behind the last, or the status that says why there are none.
+// The word of that number, none after the last, or the status that says why there are none.
 fn word_of(rt: &HostRuntime, number: usize) -> Result<Option<String>, u8> {
     let mut room = 256usize;
     for _ in 0..usize::BITS {
@@ -50,7 +50,7 @@ fn word_of(rt: &HostRuntime, number: usize) -> Result<Option<String>, u8> {
     Err(no_memory(rt))
 }
 
-// The words behind the program's name, whose own bytes may be any, or the status that says why
+// The words after the program's name, whose own bytes may be any, or the status that says why
 // there are none.
 fn words_of(rt: &HostRuntime) -> Result<Vec<String>, u8> {
     let mut words = Vec::new(rt.alloc());

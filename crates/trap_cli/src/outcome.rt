@@ -7,7 +7,8 @@ use trap_session::SessionFault;
 /// How a run ends.
 #[derive(Debug, Clone, Copy, PartialEq, Eq)]
 pub enum Ended {
-    /// The array was made, the lines were answered up to the end of the input or to `Q`, or the history was said.
+    /// The array was made, the lines were answered up to the end of the input or to `Q`, or the
+    /// history was said.
     Done,
     /// The words are no command.
     Usage,
@@ -19,7 +20,8 @@ pub enum Ended {
     NotMounted(MountFault),
     /// The session stopped.
     Stopped(SessionFault),
-    /// The reply port failed while `create` said that the array is made, or in the lines of `history`.
+    /// The reply port failed while `create` said that the array is made, or in the lines of
+    /// `history`.
     Port,
     /// There was no memory for the session.
     Memory,

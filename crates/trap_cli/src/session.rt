@@ -1,13 +1,15 @@
 //! The command `session`.
 
-ghost use Rattle.std.specs.Prelude.{◌≡◌, ◌+◌, ◌^◌, ◌<◌, ◌≤◌, ℕ, Some, IsTrue, false};
+ghost use Rattle.std.specs.Prelude.{◌≡◌, ◌+◌, ◌^◌, ◌<◌, ◌≤◌, ℕ, true, false};
 ghost use Rattle.trap_bank.specs.Steps.{Steps};
-ghost use Rattle.trap_array.specs.Beside.{StaysFrom};
+ghost use Rattle.trap_array.specs.Areas.{MayTouch};
 ghost use Rattle.trap_array.specs.Calls.{IsReady};
-ghost use Rattle.trap_session.specs.Serving.{Serves, HoldsStill, Took};
+ghost use Rattle.trap_session.specs.Changing.{ChangesOnly};
+ghost use Rattle.trap_session.specs.Serving.{Serves, StandsAtEnd, Took};
 ghost use Rattle.trap_cli.specs.Command.{command_session};
-ghost use Rattle.trap_cli.specs.Stops.{HasEnded, EndsBy, NamesEnd};
-ghost use Rattle.trap_cli.specs.Run.{Works};
+ghost use Rattle.trap_cli.specs.Said.{ServedSaid, ServedCause, ServedBad};
+ghost use Rattle.trap_cli.specs.Session.{AnswersLines, AnswersMounted};
+ghost use Rattle.trap_cli.specs.Run.{CommandOutcome, reads_input};
 
 use crate::outcome::Ended;
 use std::alloc::Global;
@@ -18,8 +20,10 @@ use trap_session::Session;
 /// Mounts the array, and answers the lines of the input. All but the last line of the run.
 pub fn run_session<B: Bank, S: Source>(alloc: Global, bank: &mut B, source: &mut S) -> Ended
     requires below { (S.stream source.old).given ≤ 2 ^ 62 }
-    ensures works { Works command_session result (B.view bank.old) (B.view bank.new)
+    ensures outcome { CommandOutcome command_session result (B.view bank.old) (B.view bank.new)
         (S.stream source.old) (S.stream source.new) }
+    ensures lines { reads_input command_session result ≡ true
+        → AnswersMounted B.view result bank.old bank.new (S.stream source.old) }
 {
     match Array::mount(alloc, bank) {
         Ok(array) => answer_lines(alloc, array, bank, source),
@@ -39,14 +43,16 @@ fn answer_lines<B: Bank, S: Source>(
     requires below { (S.stream source.old).given ≤ 2 ^ 62 }
     ensures steps { Steps (B.view bank.old) (B.view bank.new)
         (Serves array (B.view bank.old) (S.stream source.old))
-        (HasEnded array (B.view bank.old) result (S.stream source.old) (S.stream source.new)) }
-    ensures cause { EndsBy array result (B.view bank.old) (B.view bank.new)
+        (ServedSaid array (B.view bank.old) result (S.stream source.old) (S.stream source.new)) }
+    ensures cause { ServedCause array result (B.view bank.old) (B.view bank.new)
         (S.stream source.old) (S.stream source.new) }
     ensures sizes { (e : ℕ) → (B.view bank.new).sizes e ≡ (B.view bank.old).sizes e }
-    ensures others { StaysFrom (array.g.members + 1) (B.view bank.old) (B.view bank.new) }
-    ensures held { HoldsStill array (B.view bank.old) (B.view bank.new) }
+    ensures changes { ChangesOnly (MayTouch array) (B.view bank.old) (B.view bank.new) }
+    ensures lines { reads_input command_session result ≡ true
+        → AnswersLines B.view array result bank.old bank.new (S.stream source.old) }
+    ensures held { StandsAtEnd array (B.view bank.old) (B.view bank.new) }
     ensures took { Took (S.stream source.old) (S.stream source.new) }
-    ensures bad { NamesEnd array result (B.view bank.new) }
+    ensures bad { ServedBad array result (B.view bank.new) }
     ensures idle { result ≡ Ended.Memory → ((B.view bank.new).now ≡ (B.view bank.old).now)
         × (S.stream source.new ≡ S.stream source.old) }
 {

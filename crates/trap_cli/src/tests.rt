@@ -14,7 +14,8 @@ use std::test::Fail;
 use trap_bank::{Bank, MemoryBank, MemorySource, Source, Steady};
 use trap_format::{Head, spell_head};
 
-/// Three members, a block a chunk, blocks of 16 bytes, four rows: eight blocks. The ring stands at byte 236.
+/// Three members, a block a chunk, blocks of 16 bytes, four rows: eight blocks. The ring stands at
+/// byte 236.
 pub const CREATE: &str = "create 7 3 1 16 4 1 2 8 2048";
 
 const ZEROS: &str = "is 00000000000000000000000000000000\n";
@@ -23,8 +24,8 @@ const ZEROS: &str = "is 00000000000000000000000000000000\n";
 pub const WRITES: &str =
     "W 100 0 01000000000000000000000000000000\nW 100 0 01000000000000000000000000000000\n";
 
-// The status of a run of these words over that input, in pieces of that length; the source fails in that
-// call of `take`, where there is one.
+// The status of a run of these words over that input, in pieces of that length; the source fails in
+// that call of `take`, where there is one.
 pub fn ended(
     alloc: Global,
     bank: &mut MemoryBank,

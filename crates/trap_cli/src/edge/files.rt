@@ -98,8 +98,8 @@ fn is_absent<R: Files>(rt: &R, name: &str) -> bool {
     }
 }
 
-// The zeros are written and not left as a hole: a write into a hole takes space, so that it may find
-// none, and its sync waits for the file system's journal.
+// The zeros are written and not left as a hole: a write into a hole takes space, so that it may
+// find none, and its sync waits for the file system's journal.
 fn fill_zero<F: FileExt>(file: &F, len: u64) -> io::Result<()> {
     let zeros = [0u8; ZEROS_BYTES];
     let mut done = 0u64;

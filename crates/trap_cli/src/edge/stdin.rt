@@ -32,7 +32,8 @@ impl<R: Input + Drop> StdinSource<R> {
 }
 
 impl<R: Input> Source for StdinSource<R> {
-    ghost stream = { λ s. record { left = None; given = s.given; ended = s.ended; faults = s.faults } };
+    ghost stream = { λ s.
+        record { left = None; given = s.given; ended = s.ended; faults = s.faults } };
 
     fn take(&mut self, buf: &mut [u8]) -> Result<usize, Failed> {
         'tries: for _ in 0..u64::MAX {

@@ -11,6 +11,9 @@ const AT_ZEROS: &str = "at 00000000000000000000000000000000\n";
 
 const AT_ONE: &str = "at 01000000000000000000000000000000\n";
 
+/// A write at the last time that there is.
+const LAST_TIME: &str = "W 18446744073709551615 0 00000000000000000000000000000000\n";
+
 #[test]
 fn instants_are_answered(rt: HostRuntime) -> Result<(), Fail> {
     let alloc = rt.alloc();
@@ -35,10 +38,7 @@ fn instants_are_answered(rt: HostRuntime) -> Result<(), Fail> {
         ("W 100 7 01000000000000000000000000000000\n", "ok 4\n"),
         ("A 3 7\n", AT_ZEROS),
         ("T 100 7\n", AT_ONE),
-        (
-            "W 18446744073709551615 0 00000000000000000000000000000000\n",
-            "ok 5\n",
-        ),
+        (LAST_TIME, "ok 5\n"),
         ("T 18446744073709551614 0\n", AT_ONE),
         ("T 18446744073709551615 0\n", AT_ZEROS),
         (
@@ -59,7 +59,8 @@ fn instants_are_answered(rt: HostRuntime) -> Result<(), Fail> {
 /// The first of the two writes.
 const FIRST: &str = "W 100 0 01000000000000000000000000000000\n";
 
-// Whether the write, stopped behind so many calls and crashed, is an instant. If not, nothing was written.
+// Whether the write, stopped after that many calls and crashed, is an instant. If not, nothing was
+// written.
 fn is_instant(
     rt: &impl Abort,
     alloc: Global,

@@ -37,7 +37,8 @@ fn a_history_is_refused(rt: HostRuntime) -> Result<(), Fail> {
     Ok(())
 }
 
-// Whether the statuses of a history of two entries, whose calls fail in turn, come with what is said.
+// Whether the statuses of a history of two entries, whose calls fail in turn, come with what is
+// said.
 fn is_failing(status: u8, said: &[u8]) -> bool {
     match status {
         0 => said == BOTH.as_bytes(),
@@ -76,7 +77,8 @@ fn each_call_of_a_history_fails_in_turn(rt: HostRuntime) -> Result<(), Fail> {
 /// The first of the two writes.
 const FIRST: &str = "W 100 0 01000000000000000000000000000000\n";
 
-// Whether one write, stopped behind so many calls and crashed, is in the history. It is where it was replied to.
+// Whether one write, stopped after that many calls and crashed, is in the history. It is where it
+// was replied to.
 fn is_kept(rt: &impl Abort, alloc: Global, calls: u64, seed: u64) -> Result<bool, AllocError> {
     let mut bank = with_array(rt, alloc)?;
     let created = bank.said().len();

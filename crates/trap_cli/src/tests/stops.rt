@@ -25,7 +25,7 @@ fn put_reply(text: &mut [u8; 108], at: usize, digit: u8)
     text[at + 35] = b'\n';
 }
 
-// What blocks 0, 1 and 5 read as after so many of the eight lines.
+// What blocks 0, 1 and 5 read as after that many of the eight lines.
 fn state_after(lines: usize) -> [u8; 108] {
     let mut text = [0; 108];
     let first = match lines {
@@ -50,8 +50,9 @@ fn line_feeds(bytes: &[u8]) -> usize {
     count
 }
 
-// Whether a session that is stopped behind so many calls, and crashes, leaves the state after the lines
-// whose replies were said, or after one more. A member is removed then, unless its number is 3.
+// Whether a session that is stopped after that many calls, and crashes, leaves the state after the
+// lines whose replies were said, or after one more. A member is removed then, unless its number is
+// 3.
 fn outlives(
     rt: &impl Abort,
     alloc: Global,

@@ -1,13 +1,13 @@
 use Rattle.std.proofs.Common.{◌≡◌, Ok, Err, sym, ◌∙◌}
 use Rattle.trap_mount.specs.declared.fault.MountFault.TheVariants.{NotAnArray}
 use Rattle.trap_bank.specs.declared.disks.Failed.{Failed}
-use Rattle.trap_cli.proofs.Histories.{unlisted_works, listed_works, cut_works}
+use Rattle.trap_cli.proofs.Histories.{unlisted_outcome, listed_outcome, cut_outcome}
 use Rattle.trap_cli.proofs.history.run_history.Goals as goal
 
 pub returns-in-Ok-say_lines : goal.returns-in-Ok-say_lines
 returns-in-Ok-say_lines g c = record {
-  works = λ from. listed_works (g.B.Bank.view c.args.bank.now) (g.B.Bank.view c.mount.new.bank) from
-      c.mount.ensures.any_moment c.mount.ensures.sizes c.mount.ensures.contents c.mount.ensures.others c.mount.ensures.writes c.mount.ensures.lost
+  outcome = λ from. listed_outcome (g.B.Bank.view c.args.bank.now) (g.B.Bank.view c.mount.new.bank) from
+      c.mount.ensures.keeps.any_moment c.mount.ensures.sizes c.mount.ensures.keeps.contents c.mount.ensures.writes c.mount.ensures.keeps.lost
       (g.B.Bank.view c.say_lines.new.bank) c.in-Ok.array c.in-Ok.ensures.mounted.stands c.in-Ok.ensures.mounted.found c.say_lines.ensures.disks
       (λ none. let both : Ok c.in-Ok.array ≡ Err NotAnArray = sym c.in-Ok.is ∙ c.mount.ensures.no_log none in cc)
       _ Failed c.in-Ok-say_lines.field-0 c.in-Ok-say_lines.ensures.steps;
@@ -15,8 +15,8 @@ returns-in-Ok-say_lines g c = record {
 
 pub returns-in-Ok : goal.returns-in-Ok
 returns-in-Ok g c = record {
-  works = λ from. cut_works (g.B.Bank.view c.args.bank.now) (g.B.Bank.view c.mount.new.bank) from
-      c.mount.ensures.any_moment c.mount.ensures.sizes c.mount.ensures.contents c.mount.ensures.others c.mount.ensures.writes c.mount.ensures.lost
+  outcome = λ from. cut_outcome (g.B.Bank.view c.args.bank.now) (g.B.Bank.view c.mount.new.bank) from
+      c.mount.ensures.keeps.any_moment c.mount.ensures.sizes c.mount.ensures.keeps.contents c.mount.ensures.writes c.mount.ensures.keeps.lost
       (g.B.Bank.view c.say_lines.new.bank) c.in-Ok.array c.in-Ok.ensures.mounted.stands c.in-Ok.ensures.mounted.found c.say_lines.ensures.disks
       (λ none. let both : Ok c.in-Ok.array ≡ Err NotAnArray = sym c.in-Ok.is ∙ c.mount.ensures.no_log none in cc)
       (Unit {0}) Failed c.in-Err-say_lines.field-0 c.in-Err-say_lines.ensures.steps c.in-Err-say_lines.ensures.cause;
@@ -24,8 +24,8 @@ returns-in-Ok g c = record {
 
 pub returns : goal.returns
 returns g c = record {
-  works = λ from. unlisted_works (g.B.Bank.view c.args.bank.now) (g.B.Bank.view c.mount.new.bank) from
-      c.mount.ensures.any_moment c.mount.ensures.sizes c.mount.ensures.contents c.mount.ensures.others c.mount.ensures.writes c.mount.ensures.lost
+  outcome = λ from. unlisted_outcome (g.B.Bank.view c.args.bank.now) (g.B.Bank.view c.mount.new.bank) from
+      c.mount.ensures.keeps.any_moment c.mount.ensures.sizes c.mount.ensures.keeps.contents c.mount.ensures.writes c.mount.ensures.keeps.lost
       c.in-Err.why
       (λ none. let both : Err c.in-Err.why ≡ Err NotAnArray = sym c.in-Err.is ∙ c.mount.ensures.no_log none in cc)
       c.in-Err.ensures.ended.refused

@@ -1,9 +1,10 @@
+use Rattle.std.proofs.Common.{inr}
 use Rattle.trap_cli.specs.Ended.{last_line}
-use Rattle.trap_cli.proofs.Saying.{spoken_by}
+use Rattle.trap_cli.proofs.Saying.{said_by}
 use Rattle.trap_cli.proofs.run.say_last.Goals as goal
 
 pub returns-in-Ok : goal.returns-in-Ok
-returns-in-Ok g c = record { spoken = spoken_by _ _ (last_line c.args.ended) _ _ c.write_last-len.ensures.text c.say.ensures.call }
+returns-in-Ok g c = record { said = said_by g.B.Bank.view c.say.result _ (last_line c.args.ended) c.args.bank.now c.say.new.self c.write_last-len.ensures.text c.say.ensures.call }
 
 pub returns-in-Err : goal.returns-in-Err
-returns-in-Err g c = record { spoken = spoken_by _ _ (last_line c.args.ended) _ _ c.write_last-len.ensures.text c.say.ensures.call }
+returns-in-Err g c = record { said = said_by g.B.Bank.view c.say.result _ (last_line c.args.ended) c.args.bank.now c.say.new.self c.write_last-len.ensures.text c.say.ensures.call }

@@ -1,0 +1,89 @@
+-- What a run changes on the disks, and what it leaves as it was.
+use Rattle.std.specs.Prelude.{◌≡◌, ◌≢◌, ◌⊎◌, ℕ, ◌+◌, ◌<◌, Option, Some, None, IsTrue}
+use Rattle.trap_bank.specs.Faults.{Rose}
+use Rattle.trap_bank.specs.Disks.{Contents, Disks, View, Differs}
+use Rattle.trap_bank.specs.Steps.{Steps, Same}
+use Rattle.trap_model.specs.declared.asked.Asked.{Asked}
+use Rattle.trap_model.specs.declared.numbers.Geometry.{Geometry}
+use Rattle.trap_model.specs.declared.history.State.{State}
+use Rattle.trap_format.specs.Checked.{HasNumbers}
+use Rattle.trap_format.specs.declared.head.Head.{Head}
+use Rattle.trap_raid.specs.Members.{IsMember}
+use Rattle.trap_array.specs.Areas.{MayTouch}
+use Rattle.trap_array.specs.Calls.{Mounted}
+use Rattle.trap_mount.specs.CreateEnds.{StaysBeyond}
+use Rattle.trap_array.specs.Holding.{HoldsBy}
+use Rattle.trap_array.specs.Mounting.{HasHeader, HasFound, MayPutHead}
+use Rattle.trap_cli.specs.declared.command.Command.{Command}
+use Rattle.trap_cli.specs.declared.command.Command.TheVariants.{Create, Session, History}
+
+-- by this step of the disks, whatever was said
+abbrev pub ByDisks : (Disks → Disks → Type 0) → Contents → Contents → Type 0
+ByDisks step old new = step old.disks new.disks
+
+-- The disks changed by this step alone: as a read gives them, and as a crash at any moment leaves
+-- them.
+pub record ChangesBy (step : Disks → Disks → Type 0) (old new : View) : Type 0 where
+  pub now : IsTrue old.tells → step old.now.disks new.now.disks
+  pub any_moment : Steps old new (ByDisks step) (ByDisks step)
+
+-- no byte differs but those that calls of the array may touch that mounting found
+abbrev pub InMounted : View → View → Disks → Disks → Type 0
+InMounted v w old new = (a : Mounted) × HasFound a v w × Differs (MayTouch a) old new
+
+-- nothing differs, or disks of the array that was asked for
+abbrev pub InAsked : Asked → Disks → Disks → Type 0
+InAsked asked old new =
+    (new ≡ old) ⊎ ((g : Geometry) × HasNumbers g asked × StaysBeyond g old new)
+
+-- What a command changes, whatever the disks hold. Mounting puts a head, or nothing; a history
+-- changes no more.
+abbrev pub MayChange : Option Command → View → View → Disks → Disks → Type 0
+MayChange None v w old new = new ≡ old
+MayChange (Some Session) v w old new = MayPutHead v w old new ⊎ InMounted v w old new
+MayChange (Some History) v w old new = MayPutHead v w old new
+MayChange (Some (Create asked)) v w old new = InAsked asked old new
+
+-- the disk is neither the log nor a member of the array whose header stands on disk 0
+abbrev pub IsBesideMounted : View → ℕ → Type 0
+IsBesideMounted old e =
+    (e ≢ 0) × (IsTrue old.tells → (g : Geometry) → HasHeader g old.now.disks → g.members < e)
+
+-- the disk is none of the array: of the one on the disks, or for `create` of the one asked for
+abbrev pub IsBeside : Option Command → View → ℕ → Type 0
+IsBeside None old e = Unit {0}
+IsBeside (Some Session) old e = IsBesideMounted old e
+IsBeside (Some History) old e = IsBesideMounted old e
+IsBeside (Some (Create asked)) old e = (g : Geometry) → HasNumbers g asked → g.members < e
+
+-- Nothing changes but what the command may change, at the end and at any moment, whatever the disks
+-- hold. Whether the bank tells or not, no disk beside the array has another size.
+pub record Frames (command : Option Command) (old new : View) : Type 0 where
+  pub changes : ChangesBy (MayChange command old new) old new
+  pub sizes : (e : ℕ) → IsBeside command old e → new.sizes e ≡ old.sizes e
+
+-- no disk changed, at the end or at any moment
+pub record ChangesNothing (old new : View) : Type 0 where
+  pub sizes : (e : ℕ) → new.sizes e ≡ old.sizes e
+  pub changes : ChangesBy Same old new
+
+-- A member is recorded lost only where it was so on entry, or its disk was absent. The mark of one
+-- that was lost is smaller only where the count of its disk rose, or its disk was absent or not its
+-- own.
+pub record KeepsMembers (g : Geometry) (h k : Head) (old new : View) : Type 0 where
+  pub lost : (m : ℕ) → k.lost ≡ Some m → (h.lost ≡ Some m) ⊎ (old.sizes (m + 1) ≡ None)
+  pub mark : (m : ℕ) → h.lost ≡ Some m → k.lost ≡ Some m → k.rebuilt < h.rebuilt
+      → Rose (old.faults (m + 1)) (new.faults (m + 1)) ⊎ (IsMember g old.now.disks m → ⊥)
+
+-- a state is held at exit, by a head that keeps what was known of the members
+pub record HoldsStill (g : Geometry) (h : Head) (old new : View) : Type 0 where
+  pub state : State
+  pub head : Head
+  pub by : HoldsBy g head state new.now.disks
+  pub keeps : KeepsMembers g h head old new
+
+-- Where the bank tells, and the disks held a state on entry, they hold one at exit, whether the
+-- input is known or not.
+abbrev pub StaysHeld : View → View → Type 0
+StaysHeld old new = (g : Geometry) (s : State) (h : Head) → IsTrue old.tells
+    → HoldsBy g h s old.now.disks → HoldsStill g h old new

@@ -1,0 +1,112 @@
+-- What was said and what the disks hold when a command is done, before its last line is said.
+use Rattle.std.specs.Prelude.{◌≡◌, ◌⊎◌, ℕ, ◌++◌, List, [], Some, None, Option, IsTrue, Err, true, false}
+use Rattle.trap_bank.specs.Disks.{Contents, Disks, View}
+use Rattle.trap_bank.specs.Calls.{SaysPart}
+use Rattle.trap_bank.specs.Stream.{Stream}
+use Rattle.trap_bank.specs.Steps.{Always}
+use Rattle.trap_array.specs.Calls.{Mounted, StandsFor}
+use Rattle.trap_model.specs.ArrayStep.{step}
+use Rattle.trap_model.specs.declared.numbers.Geometry.{Geometry}
+use Rattle.trap_model.specs.declared.history.State.{State}
+use Rattle.trap_array.specs.Holding.{Holds}
+use Rattle.trap_array.specs.Mounting.{is_refusal}
+use Rattle.trap_session.specs.Store.{Store, array_store, NamesBad}
+use Rattle.trap_session.specs.Leaving.{HasRecordsMore}
+use Rattle.trap_session.specs.Serving.{StopsDone, StopsAfter, StopsAs, StopsBy, TookQuit}
+use Rattle.trap_cli.specs.Creating.{CreateSaid}
+use Rattle.trap_cli.specs.History.{history_text}
+use Rattle.trap_cli.specs.declared.command.Command.{Command}
+use Rattle.trap_cli.specs.declared.command.Command.TheVariants.{Create, Session, History}
+use Rattle.trap_cli.specs.declared.outcome.Ended.{Ended}
+use Rattle.trap_cli.specs.declared.outcome.Ended.TheVariants.{Done, Usage, BadGeometry, NotCreated, NotMounted, Stopped, Port, Memory}
+
+-- The states of an array of these numbers, by how disks have them. Where a disk failed in a
+-- request, the disks have the state before it or the one after.
+abbrev pub store_of : Geometry → (Disks → State → Type 0) → Store State
+store_of g has = record {
+  machine = step g;
+  block = g.block;
+  holds = has;
+  torn = λ disks s asked. has disks s ⊎ has disks ((step g).next s asked);
+}
+
+-- the states of an array on disks that hold them
+abbrev pub held_store : Geometry → Store State
+held_store g = store_of g (λ disks s. Holds g s disks)
+
+-- `session` over disks that hold a state. None of its refusals comes.
+abbrev pub SessionSaid : Store State → Ended → State → List ℕ → Contents → Contents → Stream
+    → Stream → Type 0
+SessionSaid store Done s input old now from to = StopsDone store s input old now
+SessionSaid store Usage s input old now from to = ⊥
+SessionSaid store (BadGeometry field) s input old now from to = ⊥
+SessionSaid store (NotCreated why) s input old now from to = ⊥
+SessionSaid store (NotMounted why) s input old now from to =
+    (is_refusal why ≡ false) × StopsAfter store s input 0 old now
+SessionSaid store (Stopped why) s input old now from to =
+    StopsAs store (Err why) s input old now from to
+SessionSaid store Port s input old now from to = ⊥
+SessionSaid store Memory s input old now from to = StopsAfter store s input 0 old now
+
+-- exactly this was said, and the disks hold the state
+pub record SaidOver (g : Geometry) (s : State) (text : List ℕ) (old now : Contents) : Type 0 where
+  pub said : now.said ≡ old.said ++ text
+  pub holds : Holds g s now.disks
+
+-- the port failed in this; the disks hold the state
+pub record SaidPartOver (g : Geometry) (s : State) (text : List ℕ)
+    (old now : Contents) : Type 0 where
+  pub part : SaysPart text old now
+  pub holds : Holds g s now.disks
+
+-- `history` over disks that hold a state. None of its refusals comes.
+abbrev pub HistorySaid : Geometry → State → Ended → Contents → Contents → Type 0
+HistorySaid g s Done old now = SaidOver g s (history_text s) old now
+HistorySaid g s Usage old now = ⊥
+HistorySaid g s (BadGeometry field) old now = ⊥
+HistorySaid g s (NotCreated why) old now = ⊥
+HistorySaid g s (NotMounted why) old now = (is_refusal why ≡ false) × SaidOver g s [] old now
+HistorySaid g s (Stopped why) old now = ⊥
+HistorySaid g s Port old now = SaidPartOver g s (history_text s) old now
+HistorySaid g s Memory old now = ⊥
+
+-- the bank and the source tell, and the disks hold the state
+pub record BeginsHeld (g : Geometry) (s : State) (input : List ℕ) (v : View)
+    (from : Stream) : Type 0 where
+  pub left : from.left ≡ Some input
+  pub tells : IsTrue v.tells
+  pub holds : Holds g s v.now.disks
+
+-- Where the bank tells, and for `session` also the source, and the disks held a state on entry.
+abbrev pub SaidAndHeld : Option Command → Ended → View → Contents → Stream → Stream → Type 0
+SaidAndHeld None ended old now from to = IsTrue old.tells → now ≡ old.now
+SaidAndHeld (Some Session) ended old now from to = (g : Geometry) (s : State) (input : List ℕ)
+    → BeginsHeld g s input old from → SessionSaid (held_store g) ended s input old.now now from to
+SaidAndHeld (Some History) ended old now from to = (g : Geometry) (s : State)
+    → IsTrue old.tells → Holds g s old.now.disks → HistorySaid g s ended old.now now
+SaidAndHeld (Some (Create asked)) ended old now from to =
+    IsTrue old.tells → CreateSaid asked ended old.now now
+
+-- At its end, where the array stood for a state on entry and the input is known: the session ended
+-- so.
+abbrev pub ServedSaid : Mounted → View → Ended → Stream → Stream → Contents → Contents → Type 0
+ServedSaid a v ended from to old new =
+    (s : State) → Always v (StandsFor a s) → (input : List ℕ) → from.left ≡ Some input
+    → SessionSaid (array_store a) ended s input old new from to
+
+-- why a mounted session ended so
+abbrev pub ServedCause : Mounted → Ended → View → View → Stream → Stream → Type 0
+ServedCause a Done old new from to = (to.ended ≡ true) ⊎ TookQuit a.g.block from to
+ServedCause a Usage old new from to = ⊥
+ServedCause a (BadGeometry field) old new from to = ⊥
+ServedCause a (NotCreated why) old new from to = ⊥
+ServedCause a (NotMounted why) old new from to = ⊥
+ServedCause a (Stopped why) old new from to = StopsBy a (Err why) old new from to
+ServedCause a Port old new from to = ⊥
+ServedCause a Memory old new from to = Unit {0}
+
+-- the record that a mounted session found damaged, by what the array knows at its end
+abbrev pub ServedBad : Mounted → Ended → View → Type 0
+ServedBad a (Stopped why) new =
+    (b : Mounted) × (b.g ≡ a.g) × HasRecordsMore a.index b.index × NamesBad b why new
+ServedBad a ended new = Unit {0}
