@@ -1,5 +1,6 @@
 #!/usr/bin/env bash
-# The limits of docs/CONTRIBUTING.md that can be counted: lengths of files, READMEs and edits of each crate.
+# The limits of docs/CONTRIBUTING.md that can be counted: widths and lengths of files, functions and READMEs, levels of
+# nesting, and the number of edits of each crate.
 set -uo pipefail
 cd "$(dirname "$0")/.."
 failed=0
@@ -7,8 +8,31 @@ complain() {
   echo "style: $1"
   failed=$((failed + 1))
 }
+# Lines of src/ and specs/ that are wider than 100 columns. A list of imports, or of bytes, may be wider.
+wider() { # file, columns
+  LC_ALL=C.UTF-8 grep -nE "^.{$(($2 + 1)),}$" "$1" | grep -vE '^[0-9]+: *((pub )?(ghost )?use |\*?b?".*";$)' | cut -d: -f1 |
+    while read -r line; do echo "$1:$line is wider than $2 columns"; done
+}
+too_wide() { # crate
+  find "$1/src" "$1/specs" -name '*.rt' -o -name '*.antt' | while read -r file; do wider "$file" 100; done
+}
+# Functions whose body has more than 40 lines, or more than five levels of indentation; tests may be longer.
+too_long() { # crate
+  find "$1/src" -name '*.rt' ! -name '*test*' | while read -r file; do
+    awk -v file="$file" '
+      /^ *(pub(\([a-z]*\))? )?(const )?fn [a-z]/ && !body { match($0, /^ */); indent = RLENGTH; name = $0; sub(/.*fn /, "", name); sub(/[(<].*/, "", name); inside = 1; clauses = 0 }
+      body { level = match($0, /[^ ]/) - 1 - indent; if (level == 0 && $0 ~ /^ *}/) {
+          if (NR - start - 1 > 40) print file ": " name " has " NR - start - 1 " lines, more than 40"
+          if (deepest > 20) print file ": " name " has more than five levels"
+          body = 0; inside = 0; next }
+        if (level > deepest) deepest = level }
+      inside && !body && /^ *(requires|ensures) / { clauses = 1 }
+      inside && !body && ((!clauses && /\{$/) || (clauses && /^ *\{$/)) { body = 1; start = NR; deepest = 0 }
+    ' "$file"
+  done
+}
 passed=0
-for crate in crates/*/; do
+for crate in crates/*; do
   name=$(basename "$crate")
   if [ ! -f "$crate/README.md" ]; then
     complain "$name has no README.md"
@@ -27,6 +51,9 @@ for crate in crates/*/; do
     lines=$(wc -l <"$file")
     [ "$lines" -le 150 ] || complain "$file has $lines lines, more than 150"
   done < <(find "$crate/specs" -name '*.antt' 2>/dev/null)
+  while read -r line; do
+    complain "$line"
+  done < <(too_wide "$crate"; too_long "$crate")
   passed=$((passed + 1))
 done
 [ "$(cat HANDLES)" = 'Handles allowed: none.' ] || complain 'HANDLES must hold its one line'
