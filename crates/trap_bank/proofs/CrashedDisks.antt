@@ -1,4 +1,4 @@
--- Disks in a crash, one after another, and the bank behind it.
+-- Disks in a crash, one after another, and the bank after it.
 use Rattle.std.proofs.Common.{◌≡◌, ℕ, ◌+◌, ◌<◌, ◌≤◌, ◌≢◌, List, [], length, replicate, get_or, set, Option, Some, None, refl, sym, ◌∙◌, ap, subst, ⊎_elim, arith, add-one, get_or-set_same, get_or-set_other}
 use Rattle.std.proofs.lemmas.Bool.{cases_lt}
 use Rattle.std.proofs.lemmas.Bool.Decides.{eqb_tells}
@@ -9,7 +9,7 @@ use Rattle.trap_bank.specs.Record.{bytes_kept, ranges_kept}
 use Rattle.trap_bank.specs.Memory.{Memory, state_of}
 use Rattle.trap_bank.specs.Crash.{Crashed, AllCrashed, Crashes, first_draw, last_draw, option_crashed, stable_kept}
 
--- the bytes of the next disk are drawn behind those of this one
+-- the bytes of the next disk are drawn after those of this one
 pub drawn_next : (seed : ℕ) (old : List (Option Kept)) (d x y : ℕ) (disk : Option Kept) → x ≡ first_draw seed old d → disk ≡ get_or old d None
     → y ≡ last_draw seed x (ranges_kept disk) → y ≡ first_draw seed old (d + 1)
 drawn_next seed old d x y disk from is number =
@@ -17,7 +17,7 @@ drawn_next seed old d x y disk from is number =
     ∙ ap (λ (o : Option Kept). last_draw seed (first_draw seed old d) (ranges_kept o)) is
     ∙ sym (ap (λ (k : ℕ). first_draw seed old k) (add-one d))
 
--- one more disk is behind the crash
+-- one more disk is after the crash
 pub one_more_crashed : (seed d x : ℕ) (old now : List (Option Kept)) (disk new : Option Kept) → d < length now → x ≡ first_draw seed old d → disk ≡ get_or old d None
     → Crashed seed x disk new → ((k : ℕ) → k < d → Crashed seed (first_draw seed old k) (get_or old k None) (get_or now k None))
     → (k : ℕ) → k < d + 1 → Crashed seed (first_draw seed old k) (get_or old k None) (get_or (set now d new) k None)
@@ -31,7 +31,7 @@ one_more_crashed seed d x old now disk new below from is crashed done k lt =
     subst (λ (o : Option Kept). Crashed seed (first_draw seed old k) (get_or old k None) o) (sym (get_or-set_other now d k new None other)) (done k earlier))
     (eqb_tells k d)
 
--- the disks behind it are as before
+-- the disks after it are as before
 pub others_left : (d : ℕ) (old now : List (Option Kept)) (new : Option Kept) → ((k : ℕ) → d ≤ k → get_or now k None ≡ get_or old k None)
     → (k : ℕ) → d + 1 ≤ k → get_or (set now d new) k None ≡ get_or old k None
 others_left d old now new left k le =
@@ -69,11 +69,11 @@ nothing_unsynced : (seed x : ℕ) (disk : Option Kept) (i : ℕ) → InRanges (r
 nothing_unsynced seed x None i h = h
 nothing_unsynced seed x (Some disk) i h = h
 
--- the bank behind a crash
-abbrev pub behind_crash : Memory → List (Option Kept) → Memory
-behind_crash m disks = record m { disks = disks; past = []; since = m.moment; chosen = replicate 8 0; fuse = None; spared = replicate 21 None }
+-- the bank after a crash
+abbrev pub after_crash : Memory → List (Option Kept) → Memory
+after_crash m disks = record m { disks = disks; past = []; since = m.moment; chosen = replicate 8 0; fuse = None; spared = replicate 21 None }
 
-pub crashes : (seed : ℕ) (m : Memory) (disks : List (Option Kept)) → AllCrashed seed m.disks disks → Crashes seed m (behind_crash m disks)
+pub crashes : (seed : ℕ) (m : Memory) (disks : List (Option Kept)) → AllCrashed seed m.disks disks → Crashes seed m (after_crash m disks)
 crashes seed m disks all = record {
   left = record {
     told = refl;
@@ -83,7 +83,7 @@ crashes seed m disks all = record {
     };
   };
   kept = λ zero_seed.
-      let same : (state_of (behind_crash m disks)).disks ≡ (state_of m).disks = fun_ext (λ e.
+      let same : (state_of (after_crash m disks)).disks ≡ (state_of m).disks = fun_ext (λ e.
       ap bytes_kept (all.each e).exact
       ∙ ap (λ (n : ℕ). bytes_kept (option_crashed n (first_draw seed m.disks e) (get_or m.disks e None))) zero_seed
       ∙ kept_at_zero (first_draw seed m.disks e) (get_or m.disks e None)) in

@@ -1,4 +1,4 @@
--- What the calls of a bank in memory do, by the views before and behind them.
+-- What the calls of a bank in memory do, by the views before and after them.
 use Rattle.std.proofs.Common.{◌≡◌, ℕ, ◌-◌, ◌^◌, ◌<◌, ◌≤◌, List, [], length, Option, Some, None, Bool, true, false, Ok, Err, IsTrue, refl, sym, inl, inr, arith, append-nil, le_refl, subst}
 use Rattle.trap_bank.specs.Disks.{bytes_of, size_of, region}
 use Rattle.trap_bank.specs.Calls.{Fits, Goes, Reads, Writes, Syncs, Says, Makes}
@@ -128,5 +128,5 @@ used_up m worn = omega arith
 pub worn_before : (m : Memory) (d : ℕ) (n : Memory) → n ≡ counted_on m d → IsWorn n → IsWorn m
 worn_before m d n is worn = subst IsWorn is worn
 
-pub worn_behind : (m : Memory) (d : ℕ) (n : Memory) → n ≡ counted_on m d → IsWorn m → IsWorn n
-worn_behind m d n is worn = subst IsWorn (sym is) worn
+pub worn_after : (m : Memory) (d : ℕ) (n : Memory) → n ≡ counted_on m d → IsWorn m → IsWorn n
+worn_after m d n is worn = subst IsWorn (sym is) worn

@@ -15,7 +15,7 @@ use Rattle.trap_bank.specs.Memory.{Memory, IsMemoryBank, state_of, view_of}
 abbrev pub recounted : Memory → ℕ → List ℕ → ℕ → ℕ → Memory
 recounted m moment faults port starved = record m { moment = moment; faults = faults; port_faults = port; starved = starved }
 
--- the bank behind a call that is in its record
+-- the bank after a call that is in its record
 abbrev pub changed : Memory → List (Option Kept) → List ℕ → Change → List ℕ → ℕ → Memory
 changed m disks said change faults port = record m {
   disks = disks;

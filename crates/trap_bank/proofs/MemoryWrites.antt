@@ -42,13 +42,13 @@ pub range_length : (disk : Option Kept) (at : ℕ) (fresh : List ℕ) → at + l
 range_length None at fresh fits = omega arith
 range_length (Some disk) at fresh fits = simp (length-take, length-drop) (omega arith)
 
--- the bank behind a write
-abbrev pub behind_write : Memory → ℕ → ℕ → List ℕ → List ℕ → Memory
-behind_write m d at fresh faults = changed m (slice_set m.disks d (option_written (disk_at m d) at fresh)) m.said
+-- the bank after a write
+abbrev pub after_write : Memory → ℕ → ℕ → List ℕ → List ℕ → Memory
+after_write m d at fresh faults = changed m (slice_set m.disks d (option_written (disk_at m d) at fresh)) m.said
     (Written d at (option_range (disk_at m d) at (at + length fresh))) faults m.port_faults
 
 pub torn_by_write : (m : Memory) (d at : ℕ) (fresh faults : List ℕ) → d < length m.disks → at + length fresh ≤ length (bytes_of (bytes_kept (disk_at m d)))
-    → Torn (Within d at (length fresh)) (contents_of (state_of m)) (contents_of (state_of (behind_write m d at fresh faults)))
+    → Torn (Within d at (length fresh)) (contents_of (state_of m)) (contents_of (state_of (after_write m d at fresh faults)))
 torn_by_write m d at fresh faults below fits =
     let other : Option Kept = option_written (disk_at m d) at fresh in
     record {
@@ -68,7 +68,7 @@ torn_by_write m d at fresh faults below fits =
     }
 
 pub unsynced_by_write : (m : Memory) (d at : ℕ) (fresh faults : List ℕ) (e i : ℕ) → d < length m.disks
-    → area_of (state_of (behind_write m d at fresh faults)) e i → Either (area_of (state_of m)) (Within d at (length fresh)) e i
+    → area_of (state_of (after_write m d at fresh faults)) e i → Either (area_of (state_of m)) (Within d at (length fresh)) e i
 unsynced_by_write m d at fresh faults e i below h = ⊎_elim
     (λ here. ⊎_elim
     (λ earlier. inl (subst (λ (k : ℕ). InRanges (ranges_kept (disk_at m k)) i) (sym here.0) earlier))
@@ -77,10 +77,10 @@ unsynced_by_write m d at fresh faults e i below h = ⊎_elim
     (λ apart. inl (subst (λ (o : Option Kept). InRanges (ranges_kept o) i) apart.1 h))
     (set_tells m.disks d (option_written (disk_at m d) at fresh) e below)
 
-left_behind_write : (m : Memory) (d at : ℕ) (fresh faults : List ℕ) (c : Contents) → d < length m.disks → at + length fresh ≤ length (bytes_of (bytes_kept (disk_at m d)))
-    → MayLeave (still (state_of (behind_write m d at fresh faults))) c → LeftOver (Either (view_of m).unsynced (Within d at (length fresh))) (view_of m) c
-left_behind_write m d at fresh faults c below fits left =
-    let torn : Torn (Within d at (length fresh)) (contents_of (state_of m)) (contents_of (state_of (behind_write m d at fresh faults))) = torn_by_write m d at fresh faults below fits in
+left_after_write : (m : Memory) (d at : ℕ) (fresh faults : List ℕ) (c : Contents) → d < length m.disks → at + length fresh ≤ length (bytes_of (bytes_kept (disk_at m d)))
+    → MayLeave (still (state_of (after_write m d at fresh faults))) c → LeftOver (Either (view_of m).unsynced (Within d at (length fresh))) (view_of m) c
+left_after_write m d at fresh faults c below fits left =
+    let torn : Torn (Within d at (length fresh)) (contents_of (state_of m)) (contents_of (state_of (after_write m d at fresh faults))) = torn_by_write m d at fresh faults below fits in
     record {
       told = refl;
       torn = record {
@@ -118,20 +118,21 @@ left_before_write m d at n c left = record {
 pub writes : {T E : Type 0} (result : Result T E) (m : Memory) (d at : ℕ) (fresh faults : List ℕ) → IsMemoryBank m → (m.moment ≡ 2 ^ 64 - 1 → ⊥) → d ≤ 20
     → at + length fresh ≤ length (bytes_of (bytes_kept (disk_at m d)))
     → OnOk result (m.moment < m.moment + 1) → ((e : ℕ) → get_or m.faults e 0 ≤ get_or faults e 0) → OnErr result (Rose (get_or m.faults d 0) (get_or faults d 0))
-    → OnOk result (region (contents_of (state_of (behind_write m d at fresh faults))).disks d at (length fresh) ≡ fresh)
-    → Writes d at fresh result (view_of m) (view_of (behind_write m d at fresh faults))
+    → OnOk result (region (contents_of (state_of (after_write m d at fresh faults))).disks d at (length fresh) ≡ fresh)
+    → Writes d at fresh result (view_of m) (view_of (after_write m d at fresh faults))
 writes result m d at fresh faults sound free le fits rises grow cause there =
     let below : d < length m.disks = on_disk m d sound le in
     let bound : m.moment < 2 ^ 64 = sound.bound in
     record {
-      goes = goes result m (behind_write m d at fresh faults) (omega (arith, free)) grow (le_refl m.port_faults) rises;
+      goes = goes result m (after_write m d at fresh faults) (omega (arith, free)) grow (le_refl m.port_faults) rises;
       sizes = λ e. (torn_by_write m d at fresh faults below fits).disks.sizes e;
       cause = cause;
       time = recorded m (slice_set m.disks d (option_written (disk_at m d) at fresh)) m.said (Written d at (option_range (disk_at m d) at (at + length fresh))) faults m.port_faults
           (LeftOver (Either (view_of m).unsynced (Within d at (length fresh))) (view_of m)) sound
           (back_from_write m d at fresh faults m.port_faults below fits)
-          (λ c left. left_behind_write m d at fresh faults c below fits left)
-          (λ c left. left_in_write m d at (length (option_range (disk_at m d) at (at + length fresh))) fresh (option_range (disk_at m d) at (at + length fresh)) faults c (range_length (disk_at m d) at fresh fits) left)
+          (λ c left. left_after_write m d at fresh faults c below fits left)
+          (λ c left. left_in_write m d at (length (option_range (disk_at m d) at (at + length fresh))) fresh (option_range (disk_at m d) at (at + length fresh)) faults c
+          (range_length (disk_at m d) at fresh fits) left)
           (λ c left. left_before_write m d at (length (option_range (disk_at m d) at (at + length fresh))) c left);
       torn = λ told. torn_by_write m d at fresh faults below fits;
       written = λ told. there;
@@ -140,7 +141,7 @@ writes result m d at fresh faults sound free le fits rises grow cause there =
 
 -- what was written is read
 pub written_region : (m : Memory) (d at : ℕ) (fresh faults : List ℕ) → d < length m.disks → at + length fresh ≤ length (bytes_of (bytes_kept (disk_at m d)))
-    → region (contents_of (state_of (behind_write m d at fresh faults))).disks d at (length fresh) ≡ fresh
+    → region (contents_of (state_of (after_write m d at fresh faults))).disks d at (length fresh) ≡ fresh
 written_region m d at fresh faults below fits = ⊎_elim
     (λ here. ap (λ (o : Option Kept). take (length fresh) (drop at (bytes_of (bytes_kept o)))) here.1 ∙ written_there (disk_at m d) at fresh fits)
     (λ apart. absurd (apart.0 refl))

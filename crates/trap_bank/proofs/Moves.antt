@@ -82,7 +82,8 @@ pub no_moves : (v : View) (during after : Disks → Disks → Type 0) → ((x : 
 no_moves v during after same = nothing_done v (Quiet during) (Quiet after) (λ x was. record { disks = same x was; said = refl })
 
 -- what a crash at any moment since entry leaves
-pub since_entry : (old new : View) (during after : Contents → Contents → Type 0) → IsLawful old → ((x : Contents) → MayLeave old x → during x x) → Steps old new during after → (w : Contents) → new.left old.moment w → From old during w
+pub since_entry : (old new : View) (during after : Contents → Contents → Type 0) → IsLawful old → ((x : Contents) → MayLeave old x → during x x)
+    → Steps old new during after → (w : Contents) → new.left old.moment w → From old during w
 since_entry old new during after lawful none steps w left = ⊎_elim (λ before. at_entry (lawful.only_now w before)) (λ from. from) (steps.in_run old.moment w (omega arith) left)
   where
     at_entry : MayLeave old w → From old during w
@@ -101,7 +102,8 @@ pub always_same : (a b : View) (has : Disks → Type 0) → Moves a b Same Same 
 always_same a b has moves always w left = let from = moves.now w left in subst has (sym from.by.disks) (always from.origin from.was)
 
 -- what every crash leaves after a run, from what every crash leaves on entry
-pub always_after : (a b : View) (during after : Disks → Disks → Type 0) (has also : Disks → Type 0) → Moves a b during after → Always a has → ((x y : Disks) → has x → after x y → also y) → Always b also
+pub always_after : (a b : View) (during after : Disks → Disks → Type 0) (has also : Disks → Type 0) → Moves a b during after → Always a has
+    → ((x y : Disks) → has x → after x y → also y) → Always b also
 always_after a b during after has also moves always step w left = let from = moves.now w left in step from.origin.disks w.disks (always from.origin from.was) from.by.disks
 
 -- a run that changes an area changes a larger one
@@ -111,8 +113,10 @@ moves_mono small large a b more moves = moves_weaken a b (Differs small) (Differ
     (λ x y was left torn. differs_mono small large x.disks y.disks more torn)
 
 -- a run that changes a range changes a larger one
-pub moves_wider : (d at n from len : ℕ) (a b : View) → from ≤ at → at + n ≤ from + len → Moves a b (Differs (Within d at n)) (Differs (Within d at n)) → Moves a b (Differs (Within d from len)) (Differs (Within d from len))
-moves_wider d at n from len a b low high moves = moves_mono (Within d at n) (Within d from len) a b (λ e i within. record { disk = within.disk; from = omega (arith, within.from); to = omega (arith, within.to) }) moves
+pub moves_wider : (d at n from len : ℕ) (a b : View) → from ≤ at → at + n ≤ from + len → Moves a b (Differs (Within d at n)) (Differs (Within d at n))
+    → Moves a b (Differs (Within d from len)) (Differs (Within d from len))
+moves_wider d at n from len a b low high moves = moves_mono (Within d at n) (Within d from len) a b
+    (λ e i within. record { disk = within.disk; from = omega (arith, within.from); to = omega (arith, within.to) }) moves
 
 -- two runs that change one area
 pub moves_again : (area : Area) (a b c : View) → Moves a b (Differs area) (Differs area) → Moves b c (Differs area) (Differs area) → Moves a c (Differs area) (Differs area)
@@ -144,7 +148,8 @@ torn_mono small large x y more torn = record { disks = differs_mono small large 
 
 -- what a read gives after a call that changes a smaller range
 pub torn_wider : (d at n from len : ℕ) (x y : Contents) → from ≤ at → at + n ≤ from + len → Torn (Within d at n) x y → Torn (Within d from len) x y
-torn_wider d at n from len x y low high torn = torn_mono (Within d at n) (Within d from len) x y (λ e i within. record { disk = within.disk; from = omega (arith, within.from); to = omega (arith, within.to) }) torn
+torn_wider d at n from len x y low high torn = torn_mono (Within d at n) (Within d from len) x y
+    (λ e i within. record { disk = within.disk; from = omega (arith, within.from); to = omega (arith, within.to) }) torn
 
 -- xs where the test holds, else ys
 abbrev mix : (ℕ → Bool) → List ℕ → List ℕ → List ℕ
@@ -183,7 +188,8 @@ byte-mixed p None (Some ys) i e = cc
 byte-mixed p (Some xs) y i e = get_or-mix p xs (bytes_of y) i (sym (same_length y (Some xs) e))
 
 -- What is left over after a change in an area comes by that change from what was left before it: the area's bytes are put back.
-pub split : (p : ℕ → ℕ → Bool) (area : Area) (v : View) (w : Contents) → ((e i : ℕ) → p e i ≡ true → area e i) → ((e i : ℕ) → area e i → p e i ≡ true) → LeftOver (Either v.unsynced area) v w → From v (Torn area) w
+pub split : (p : ℕ → ℕ → Bool) (area : Area) (v : View) (w : Contents) → ((e i : ℕ) → p e i ≡ true → area e i) → ((e i : ℕ) → area e i → p e i ≡ true)
+    → LeftOver (Either v.unsynced area) v w → From v (Torn area) w
 split p area v w in_area covers left = record { origin = before; was = was; by = by }
   where
     before : Contents
@@ -243,7 +249,11 @@ still_left : (old new : View) → new.tells ≡ old.tells → (IsTrue old.tells 
 still_left old new tells same fewer w left = record {
   told = told;
   torn = record {
-    disks = record { sizes = λ e. left.torn.disks.sizes e ∙ ap (λ (c : Contents). size_of (c.disks e)) (same told); bytes = λ e i synced. left.torn.disks.bytes e i (λ more. synced (fewer told e i more)) ∙ ap (λ (c : Contents). byte c.disks e i) (same told) };
+    disks = record {
+      sizes = λ e. left.torn.disks.sizes e ∙ ap (λ (c : Contents). size_of (c.disks e)) (same told);
+      bytes = λ e i synced. left.torn.disks.bytes e i
+          (λ more. synced (fewer told e i more)) ∙ ap (λ (c : Contents). byte c.disks e i) (same told);
+    };
     said = left.torn.said ∙ ap (λ (c : Contents). c.said) (same told);
   };
 }
@@ -292,7 +302,8 @@ synced_steps value old new d call = record {
 }
 
 -- a call of `write`, whatever its result
-pub write_steps : {T E : Type 0} (result : Result T E) (old new : View) (d at : ℕ) (bytes : List ℕ) → Writes d at bytes result old new → Moves old new (Differs (Within d at (length bytes))) (Differs (Within d at (length bytes)))
+pub write_steps : {T E : Type 0} (result : Result T E) (old new : View) (d at : ℕ) (bytes : List ℕ) → Writes d at bytes result old new
+    → Moves old new (Differs (Within d at (length bytes))) (Differs (Within d at (length bytes)))
 write_steps result old new d at bytes call = record {
   tells = call.goes.tells;
   faults = call.goes.faults;
@@ -408,7 +419,12 @@ make_steps result old new d n call = record {
     told_of w left = subst IsTrue call.goes.tells left.told
 
     remade : (w : Contents) → LeftMaking d n old w → From old (Quiet (RemadeDisk d n)) w
-    remade w left = record { origin = left.from; was = record { told = left.told; torn = left.before }; by = record { disks = record { others = left.step.others; disk = left.step.disk }; said = left.step.said } }
+    remade w left = record {
+      origin = left.from;
+      was = record { told = left.told; torn = left.before };
+      by = record
+          { disks = record { others = left.step.others; disk = left.step.disk }; said = left.step.said };
+    }
 
     -- the disk is as it was
     unmade : (w : Contents) → MayLeave new w → new.now.disks d ≡ old.now.disks d → From old (Quiet (RemadeDisk d n)) w
@@ -462,7 +478,9 @@ make_steps result old new d n call = record {
 
         bytes : (e i : ℕ) → (old.unsynced e i → ⊥) → byte before.disks e i ≡ byte old.now.disks e i
         bytes e i clean = ⊎_elim (λ (is : e ≡ d). ap (λ (x : Option (List ℕ)). get_or (bytes_of x) i 0) (replaced_at w.disks d (old.now.disks d) e is ∙ sym (ap old.now.disks is)))
-            (λ other. ap (λ (x : Option (List ℕ)). get_or (bytes_of x) i 0) (replaced_beside w.disks d (old.now.disks d) e other) ∙ left.torn.disks.bytes e i (λ more. clean (call.fewer (told_of w left) e i more)) ∙ ap (λ (x : Option (List ℕ)). get_or (bytes_of x) i 0) ((call.step (told_of w left)).others e other)) (cases_eq e d)
+            (λ other. ap (λ (x : Option (List ℕ)). get_or (bytes_of x) i 0) (replaced_beside w.disks d (old.now.disks d) e other)
+            ∙ left.torn.disks.bytes e i (λ more. clean (call.fewer (told_of w left) e i more))
+            ∙ ap (λ (x : Option (List ℕ)). get_or (bytes_of x) i 0) ((call.step (told_of w left)).others e other)) (cases_eq e d)
 
 -- a call of `make` that answered Ok: every crash leaves the zeros
 pub made_steps : {T E : Type 0} (value : T) (old new : View) (d n : ℕ) → Makes {T = T} {E = E} d n (Ok value) old new → Moves old new (RemadeDisk d n) (MadeDisk d n)

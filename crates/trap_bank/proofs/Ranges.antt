@@ -29,9 +29,9 @@ overlaid-before old at bytes i fits below =
     let long : i < length (take at old) = simp length-take (omega arith) in
     get_or_append_left (take at old) (bytes ++ drop (at + length bytes) old) 0 i long ∙ get_or-take at old i 0 below
 
--- behind them the bytes are as before
-pub overlaid-behind : (old : List ℕ) (at : ℕ) (bytes : List ℕ) (i : ℕ) → at + length bytes ≤ length old → at + length bytes ≤ i → slice_index (overlaid old at bytes) i ≡ slice_index old i
-overlaid-behind old at bytes i fits behind =
+-- after them the bytes are as before
+pub overlaid-after : (old : List ℕ) (at : ℕ) (bytes : List ℕ) (i : ℕ) → at + length bytes ≤ length old → at + length bytes ≤ i → slice_index (overlaid old at bytes) i ≡ slice_index old i
+overlaid-after old at bytes i fits behind =
     let long : length (take at old) ≡ at = simp length-take (omega arith) in
     let first : at ≤ i = omega arith in
     let second : length bytes ≤ i - at = omega arith in
@@ -52,10 +52,11 @@ overlaid-within old at bytes k fits below =
     ∙ get_or_append_left bytes (drop (at + length bytes) old) 0 k below
 
 -- outside of the range the bytes are as before
-pub overlaid-outside : (old : List ℕ) (at : ℕ) (bytes : List ℕ) (i : ℕ) → at + length bytes ≤ length old → (at ≤ i → i < at + length bytes → ⊥) → slice_index (overlaid old at bytes) i ≡ slice_index old i
+pub overlaid-outside : (old : List ℕ) (at : ℕ) (bytes : List ℕ) (i : ℕ) → at + length bytes ≤ length old → (at ≤ i → i < at + length bytes → ⊥)
+    → slice_index (overlaid old at bytes) i ≡ slice_index old i
 overlaid-outside old at bytes i fits out =
     ⊎_elim (overlaid-before old at bytes i fits)
-    (λ (behind : at ≤ i). ⊎_elim (λ (within : i < at + length bytes). absurd (out behind within)) (overlaid-behind old at bytes i fits) (either_side i (at + length bytes)))
+    (λ (behind : at ≤ i). ⊎_elim (λ (within : i < at + length bytes). absurd (out behind within)) (overlaid-after old at bytes i fits) (either_side i (at + length bytes)))
     (either_side i at)
 
 -- a disk that was written is still well kept
@@ -72,7 +73,7 @@ written_is_kept bytes stable ranges at fresh fits kept =
           ∙ sym (overlaid-outside bytes at fresh i fits (λ from to. out (in_last ranges last i from to)));
     }
 
--- what is in the ranges from one on is in the first of them or behind it
+-- what is in the ranges from one on is in the first of them or after it
 pub in_first : (ranges : List Range) (k : ℕ) (first : Range) (i : ℕ) → drop k ranges ≡ first ∷ drop (k + 1) ranges
     → InRanges (drop k ranges) i → ((first.at ≤ i) × (i < first.at + first.len)) ⊎ InRanges (drop (k + 1) ranges) i
 in_first ranges k first i split h = subst (λ (rs : List Range). InRanges rs i) split h
@@ -115,7 +116,7 @@ agree_everywhere to from ranges same agree =
     let none_left : drop (length ranges) ranges ≡ [] = drop-length ranges in
     ext_get_or 0 to from same (λ i below. agree i (λ h. subst (λ (rs : List Range). InRanges rs i) none_left h))
 
--- a list with more behind it, cut to its length
+-- a list with more after it, cut to its length
 pub cut_to_length : {A : Type 0} (xs ys : List A) (n : ℕ) → length xs ≡ n → take n (xs ++ ys) ≡ xs
 cut_to_length xs ys n long = subst (λ (k : ℕ). take k (xs ++ ys) ≡ xs) long (take-append_seam xs ys)
 

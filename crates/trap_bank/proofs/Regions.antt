@@ -45,7 +45,7 @@ region_apart area old new d at n differs apart = region_ext old new d at n (diff
 pub disk_apart : (area : Area) (old new : Disks) (d : ℕ) → Differs area old new → ((i : ℕ) → area d i → ⊥) → new d ≡ old d
 disk_apart area old new d differs apart = disk_ext (new d) (old d) (differs.sizes d) (λ i. differs.bytes d i (apart i))
 
--- a region before or behind what changed keeps its bytes
+-- a region before or after what changed keeps its bytes
 pub region_beside : (e from len : ℕ) (old new : Disks) (at n : ℕ) → Differs (Within e from len) old new → (at + n ≤ from) ⊎ (from + len ≤ at) → region new e at n ≡ region old e at n
 region_beside e from len old new at n differs beside = region_apart (Within e from len) old new e at n differs apart
   where
@@ -56,7 +56,7 @@ region_beside e from len old new at n differs beside = region_apart (Within e fr
 pub disk_beside : (e from len : ℕ) (old new : Disks) (d : ℕ) → Differs (Within e from len) old new → (d ≡ e → ⊥) → new d ≡ old d
 disk_beside e from len old new d differs other = disk_apart (Within e from len) old new d differs (λ i within. other within.disk)
 
--- a byte before or behind what changed is the same
+-- a byte before or after what changed is the same
 pub byte_beside : (e from len : ℕ) (old new : Disks) (i : ℕ) → Differs (Within e from len) old new → (i < from) ⊎ (from + len ≤ i) → byte new e i ≡ byte old e i
 byte_beside e from len old new i differs beside = differs.bytes e i apart
   where
@@ -91,11 +91,13 @@ differs_same area old new same = record { sizes = λ e. ap (λ (x : Disks). size
 
 -- a range within a larger one
 pub differs_wider : (d a n b m : ℕ) (old new : Disks) → b ≤ a → a + n ≤ b + m → Differs (Within d a n) old new → Differs (Within d b m) old new
-differs_wider d a n b m old new low high differs = differs_mono (Within d a n) (Within d b m) old new (λ e i within. record { disk = within.disk; from = omega (arith, within.from); to = omega (arith, within.to) }) differs
+differs_wider d a n b m old new low high differs = differs_mono (Within d a n) (Within d b m) old new
+    (λ e i within. record { disk = within.disk; from = omega (arith, within.from); to = omega (arith, within.to) }) differs
 
 -- the same range under other names
 pub differs_at : (d at n e from len : ℕ) (old new : Disks) → d ≡ e → at ≡ from → n ≡ len → Differs (Within d at n) old new → Differs (Within e from len) old new
-differs_at d at n e from len old new disk start size differs = differs_mono (Within d at n) (Within e from len) old new (λ k i within. record { disk = within.disk ∙ disk; from = omega (arith, within.from); to = omega (arith, within.to) }) differs
+differs_at d at n e from len old new disk start size differs = differs_mono (Within d at n) (Within e from len) old new
+    (λ k i within. record { disk = within.disk ∙ disk; from = omega (arith, within.from); to = omega (arith, within.to) }) differs
 
 -- a byte at an offset of a region that is known
 pub byte_in_region : (w : Disks) (d at n i j : ℕ) (bytes : List ℕ) → j ≡ at + i → region w d at n ≡ bytes → i < n → byte w d j ≡ get_or bytes i 0

@@ -96,7 +96,8 @@ one_from_others size one n block_of sized below none =
     ∙ xor-zeros (xor_but size one block_of n) size long
 
 -- a change of one other member changes the exclusive-or by old xor new
-pub xor_but_changed : (size one n j : ℕ) (f g : ℕ → List ℕ) → length (f j) ≡ size → length (g j) ≡ size → j < n → j ≢ one → ((m : ℕ) → m < n → m ≢ one → m ≢ j → g m ≡ f m) → xor_but size one g n ≡ xor (xor_but size one f n) (xor (f j) (g j))
+pub xor_but_changed : (size one n j : ℕ) (f g : ℕ → List ℕ) → length (f j) ≡ size → length (g j) ≡ size → j < n → j ≢ one
+    → ((m : ℕ) → m < n → m ≢ one → m ≢ j → g m ≡ f m) → xor_but size one g n ≡ xor (xor_but size one f n) (xor (f j) (g j))
 xor_but_changed size one zero j f g old_size new_size below apart alike = absurd (omega arith)
 xor_but_changed size one (suc n) j f g old_size new_size below apart alike =
     elim (cases_eq n one) [

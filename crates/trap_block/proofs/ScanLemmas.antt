@@ -35,7 +35,7 @@ pub record IsApart (bytes : List ℕ) (at end : ℕ) : Type 0 where
   pub from : at ≤ end
   pub none : (place : ℕ) → at ≤ place → place < end → ¬ AreZeros bytes place 4
 
--- behind fewer than four zero bytes stands one that isn't zero, so four begin nowhere up to it
+-- after fewer than four zero bytes stands one that isn't zero, so four begin nowhere up to it
 pub apart-more : (bytes : List ℕ) (at end zeros : ℕ) → IsApart bytes at end → AreZeros bytes end zeros → zeros < 4
     → (end + zeros < length bytes → 0 < get_or bytes (end + zeros) 0) → IsApart bytes at (end + (zeros + 1))
 apart-more bytes at end gap apart run few stop = record {

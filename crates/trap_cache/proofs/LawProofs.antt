@@ -2,22 +2,22 @@
 use Rattle.std.proofs.Common.{◌≡◌, ℕ, zero, suc, ◌≤◌, ◌<◌, true, false, ◌&&◌, List, [], ◌∷◌, length, take, Option, Some, None, nat_eq, refl, ap, sym, ◌∙◌, subst, arith}
 use Rattle.std.specs.Cmp.{nat_eq_equiv}
 use Rattle.std.proofs.lemmas.Bool.{and_parts, eqb-true}
-use Rattle.trap_cache.specs.Cached.{Kept, Cached, is_under, bytes_under, without, at_front, found_first, after_get, after_keep}
+use Rattle.trap_cache.specs.Cached.{KeptPair, Cached, is_under, bytes_under, without, at_front, found_first, after_get, after_keep}
 use Rattle.trap_cache.proofs.Hits.{taken, left_out}
 use Rattle.trap_cache.proofs.Steps.{take_short}
 
-abbrev pair : ℕ → ℕ → List ℕ → Kept
+abbrev pair : ℕ → ℕ → List ℕ → KeptPair
 pair block seq bytes = record { block = block; seq = seq; bytes = bytes }
 
 -- a pair is under itself
 own_pair : (block seq : ℕ) (bytes : List ℕ) → is_under block seq (pair block seq bytes) ≡ true
 own_pair block seq bytes = ap (λ b. b && nat_eq seq seq) (nat_eq_equiv.refl block) ∙ nat_eq_equiv.refl seq
 
-pub got_what_was_kept : (block seq : ℕ) (bytes : List ℕ) (ks : List Kept) → bytes_under block seq (pair block seq bytes ∷ ks) ≡ Some bytes
+pub got_what_was_kept : (block seq : ℕ) (bytes : List ℕ) (ks : List KeptPair) → bytes_under block seq (pair block seq bytes ∷ ks) ≡ Some bytes
 got_what_was_kept block seq bytes ks = taken (is_under block seq (pair block seq bytes)) (Some bytes) (bytes_under block seq ks) (own_pair block seq bytes)
 
 -- what is kept under one pair isn't kept under another
-apart : (b s block seq : ℕ) (k : Kept) → ((b ≡ block) × (s ≡ seq) → ⊥) → is_under b s k ≡ true → is_under block seq k ≡ false
+apart : (b s block seq : ℕ) (k : KeptPair) → ((b ≡ block) × (s ≡ seq) → ⊥) → is_under b s k ≡ true → is_under block seq k ≡ false
 apart b s block seq k differ h = (elim (is_under block seq k) as (λ y. is_under block seq k ≡ y → is_under block seq k ≡ false) [
   | true ↦ λ u.
       let one = and_parts (nat_eq k.block b) (nat_eq k.seq s) h in
@@ -26,7 +26,7 @@ apart b s block seq k differ h = (elim (is_under block seq k) as (λ y. is_under
   | false ↦ λ u. u
 ]) refl
 
-without_other : (b s block seq : ℕ) (ks : List Kept) → ((b ≡ block) × (s ≡ seq) → ⊥) → bytes_under b s (without block seq ks) ≡ bytes_under b s ks
+without_other : (b s block seq : ℕ) (ks : List KeptPair) → ((b ≡ block) × (s ≡ seq) → ⊥) → bytes_under b s (without block seq ks) ≡ bytes_under b s ks
 without_other b s block seq [] differ = refl
 without_other b s block seq (k ∷ ks) differ = (elim (is_under b s k) as (λ y. is_under b s k ≡ y → bytes_under b s (without block seq (k ∷ ks)) ≡ bytes_under b s (k ∷ ks)) [
   | true ↦ λ t.
@@ -45,13 +45,13 @@ without_other b s block seq (k ∷ ks) differ = (elim (is_under b s k) as (λ y.
   ]) refl
 ]) refl
 
-other_at_front : (b s block seq : ℕ) (bytes : List ℕ) (ks : List Kept) → ((b ≡ block) × (s ≡ seq) → ⊥) → bytes_under b s (at_front block seq bytes ks) ≡ bytes_under b s ks
+other_at_front : (b s block seq : ℕ) (bytes : List ℕ) (ks : List KeptPair) → ((b ≡ block) × (s ≡ seq) → ⊥) → bytes_under b s (at_front block seq bytes ks) ≡ bytes_under b s ks
 other_at_front b s block seq bytes ks differ =
     left_out (is_under b s (pair block seq bytes)) (Some bytes) (bytes_under b s (without block seq ks))
     (apart block seq b s (pair block seq bytes) (λ e. differ (sym e.0, sym e.1)) (own_pair block seq bytes))
     ∙ without_other b s block seq ks differ
 
-found_before : (n b s : ℕ) (was : List ℕ) (ks : List Kept) → bytes_under b s (take n ks) ≡ Some was → bytes_under b s ks ≡ Some was
+found_before : (n b s : ℕ) (was : List ℕ) (ks : List KeptPair) → bytes_under b s (take n ks) ≡ Some was → bytes_under b s ks ≡ Some was
 found_before zero b s was ks h = cc
 found_before (suc n) b s was [] h = h
 found_before (suc n) b s was (k ∷ ks) h = (elim (is_under b s k) as (λ y. is_under b s k ≡ y → bytes_under b s (k ∷ ks) ≡ Some was) [
@@ -66,7 +66,7 @@ pub others_after_keep : (c : Cached) (block seq b s : ℕ) (bytes was : List ℕ
 others_after_keep c block seq b s bytes was differ h =
     sym (other_at_front b s block seq bytes c.kept differ) ∙ found_before 16 b s was (at_front block seq bytes c.kept) h
 
-no_longer : (block seq : ℕ) (ks : List Kept) → length (without block seq ks) ≤ length ks
+no_longer : (block seq : ℕ) (ks : List KeptPair) → length (without block seq ks) ≤ length ks
 no_longer block seq [] = omega arith
 no_longer block seq (k ∷ ks) = (elim (is_under block seq k) as (λ y. is_under block seq k ≡ y → length (without block seq (k ∷ ks)) ≤ length (k ∷ ks)) [
   | true ↦ λ u. let e = ap length (taken (is_under block seq k) ks (k ∷ without block seq ks) u) in omega (arith, e)
@@ -80,7 +80,7 @@ stays_with_room c block seq b s bytes differ room =
     let fits : length (at_front block seq bytes c.kept) ≤ 16 = omega (arith, l, room) in
     ap (bytes_under b s) (take_short 16 (at_front block seq bytes c.kept) fits) ∙ other_at_front b s block seq bytes c.kept differ
 
-same_pair : (b s block seq : ℕ) (bytes : List ℕ) (ks : List Kept) → nat_eq b block ≡ true → nat_eq s seq ≡ true
+same_pair : (b s block seq : ℕ) (bytes : List ℕ) (ks : List KeptPair) → nat_eq b block ≡ true → nat_eq s seq ≡ true
     → bytes_under block seq ks ≡ Some bytes → bytes_under b s (at_front block seq bytes ks) ≡ bytes_under b s ks
 same_pair b s block seq bytes ks x y h =
     let one : block ≡ b = sym (eqb-true b block x) in
@@ -89,7 +89,7 @@ same_pair b s block seq bytes ks x y h =
     (subst (λ m. bytes_under block m (at_front block seq bytes ks) ≡ bytes_under block m ks) two
     (got_what_was_kept block seq bytes (without block seq ks) ∙ sym h))
 
-still_found : (b s block seq : ℕ) (o : Option (List ℕ)) (ks : List Kept) → bytes_under block seq ks ≡ o → bytes_under b s (found_first block seq o ks) ≡ bytes_under b s ks
+still_found : (b s block seq : ℕ) (o : Option (List ℕ)) (ks : List KeptPair) → bytes_under block seq ks ≡ o → bytes_under b s (found_first block seq o ks) ≡ bytes_under b s ks
 still_found b s block seq None ks h = refl
 still_found b s block seq (Some bytes) ks h = (elim (nat_eq b block) as (λ y. nat_eq b block ≡ y → bytes_under b s (at_front block seq bytes ks) ≡ bytes_under b s ks) [
   | true ↦ λ t. (elim (nat_eq s seq) as (λ y. nat_eq s seq ≡ y → bytes_under b s (at_front block seq bytes ks) ≡ bytes_under b s ks) [

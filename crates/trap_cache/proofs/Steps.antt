@@ -8,8 +8,8 @@ use Rattle.std.specs.Map.{lookup, lookup_entry, remove_entry, set_value}
 use Rattle.std.specs.Option.{option_map_or}
 use Rattle.std.specs.Prelude.{slice_get, option_map}
 use Rattle.lru.specs.LruCache.{LruCache, lru_cache, promoted, put_entries, last_entry}
-use Rattle.trap_cache.specs.Cached.{Kept, Cached, at_front, found_first, after_get, after_keep}
-use Rattle.trap_cache.specs.Slots.{place_of, kept_in, AreDistinct, IsCache, IsRewritten}
+use Rattle.trap_cache.specs.Cached.{KeptPair, Cached, at_front, found_first, after_get, after_keep}
+use Rattle.trap_cache.specs.Slots.{pair_place, kept_in, AreDistinct, IsCache, IsRewritten}
 use Rattle.trap_cache.specs.declared.slots.Slot.{Slot}
 use Rattle.trap_cache.proofs.Hits.{taken, left_out, IsHit, hit, others, missed, first_kept, length_kept}
 use Rattle.trap_cache.proofs.Places.{fronted, last_out, value_of, none_there}
@@ -18,10 +18,10 @@ use Rattle.trap_cache.proofs.Places.{fronted, last_out, value_of, none_there}
 abbrev pub seen : ℕ → ℕ → List (ℕ × Slot) → Cached
 seen size used es = record { size = size; kept = kept_in (take used es) }
 
-abbrev cached : ℕ → List Kept → Cached
+abbrev cached : ℕ → List KeptPair → Cached
 cached size ks = record { size = size; kept = ks }
 
-abbrev pair : ℕ → ℕ → List ℕ → Kept
+abbrev pair : ℕ → ℕ → List ℕ → KeptPair
 pair block seq bytes = record { block = block; seq = seq; bytes = bytes }
 
 pub take_short : {X : Type 0} (n : ℕ) (xs : List X) → length xs ≤ n → take n xs ≡ xs
@@ -76,7 +76,7 @@ still_cache size used more p old new was slot is there fits few e =
     subst (λ (c : LruCache ℕ Slot). IsCache size more c.cap c.entries) (sym e) all
 
 -- the pair that was found is at the front
-pub moved : (used : ℕ) (es : List (ℕ × Slot)) (p block seq : ℕ) (slot : Slot) → AreDistinct es → place_of block seq (take used es) ≡ Some p → slot.block ≡ block → slot.seq ≡ seq
+pub moved : (used : ℕ) (es : List (ℕ × Slot)) (p block seq : ℕ) (slot : Slot) → AreDistinct es → pair_place block seq (take used es) ≡ Some p → slot.block ≡ block → slot.seq ≡ seq
     → kept_in (take used ((p, slot) ∷ remove_entry (nat_eq p) es)) ≡ at_front block seq slot.bytes.items (kept_in (take used es))
 moved zero es p block seq slot d f b s = cc
 moved (suc n) es p block seq slot d f b s =
@@ -97,7 +97,7 @@ first_shown used p block seq old new h e =
     ∙ taken (nat_eq p p) (Some h.slot) (lookup (nat_eq p) (remove_entry (nat_eq p) old.entries)) (nat_eq_equiv.refl p)
 
 -- a look-up that finds the pair
-pub got : (size used p block seq : ℕ) (old new : LruCache ℕ Slot) (now : Cached) → seen size used old.entries ≡ now → AreDistinct old.entries → place_of block seq (take used old.entries) ≡ Some p
+pub got : (size used p block seq : ℕ) (old new : LruCache ℕ Slot) (now : Cached) → seen size used old.entries ≡ now → AreDistinct old.entries → pair_place block seq (take used old.entries) ≡ Some p
     → new ≡ lru_cache (promoted (nat_eq p) old.entries) old.cap → seen size used new.entries ≡ after_get block seq now
 got size used p block seq old new now view d f e =
     let h = hit used old.entries p block seq d f in
@@ -107,13 +107,13 @@ got size used p block seq old new now view d f e =
     ∙ ap (after_get block seq) view
 
 -- one that doesn't
-pub not_got : (size used block seq : ℕ) (es : List (ℕ × Slot)) (now : Cached) → seen size used es ≡ now → place_of block seq (take used es) ≡ None → seen size used es ≡ after_get block seq now
+pub not_got : (size used block seq : ℕ) (es : List (ℕ × Slot)) (now : Cached) → seen size used es ≡ now → pair_place block seq (take used es) ≡ None → seen size used es ≡ after_get block seq now
 not_got size used block seq es now view f =
     sym (ap (λ o. cached size (found_first block seq o (kept_in (take used es)))) (missed (take used es) block seq f).0) ∙ ap (after_get block seq) view
 
 -- a pair that is kept already is rewritten
 pub kept_again : (size used p block seq : ℕ) (bytes : List ℕ) (old new : LruCache ℕ Slot) (now : Cached) → seen size used old.entries ≡ now → IsCache size used old.cap old.entries
-    → place_of block seq (take used old.entries) ≡ Some p → IsRewritten old new p block seq bytes → seen size used new.entries ≡ after_keep block seq bytes now
+    → pair_place block seq (take used old.entries) ≡ Some p → IsRewritten old new p block seq bytes → seen size used new.entries ≡ after_keep block seq bytes now
 kept_again size used p block seq bytes old new now view is f r =
     let es = (p, r.slot) ∷ remove_entry (nat_eq p) old.entries in
     let few : length (kept_in (take used es)) ≤ 16 = let n = length_kept (take used es) in let m = short used es in let l = is.few in omega (arith, n, m, l) in
@@ -145,7 +145,7 @@ new_first used (suc n) es p slot few fits near room =
 
 -- a pair that isn't kept yet takes the slot that was used least recently
 pub kept_new : (size used more p block seq : ℕ) (bytes : List ℕ) (old new : LruCache ℕ Slot) (now : Cached) → seen size used old.entries ≡ now → IsCache size used old.cap old.entries
-    → place_of block seq (take used old.entries) ≡ None → option_map (λ e. e.0) (last_entry old.entries) ≡ Some p → IsRewritten old new p block seq bytes
+    → pair_place block seq (take used old.entries) ≡ None → option_map (λ e. e.0) (last_entry old.entries) ≡ Some p → IsRewritten old new p block seq bytes
     → more ≤ 16 → more ≤ used + 1 → (used + 1 ≤ more) ⊎ (more ≡ 16) → seen size more new.entries ≡ after_keep block seq bytes now
 kept_new size used more p block seq bytes old new now view is f last r fits near room =
     let all = kept_in (take used old.entries) in

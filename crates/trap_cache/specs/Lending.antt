@@ -6,5 +6,5 @@ use Rattle.trap_cache.specs.Cached.{Cached}
 use Rattle.trap_cache.specs.contracts.cache.Cache.{the_row}
 
 -- it is this one
-abbrev pub EndsAs : MutBor Cached → Cached → Fml
-EndsAs cache end = follows_so the_row the_row cache.ghost_name none (λ _ _. ⊤) (λ n. n ≡ end)
+abbrev pub CacheEndsAs : MutBor Cached → Cached → Fml
+CacheEndsAs cache end = follows_so the_row the_row cache.ghost_name none (λ _ _. ⊤) (λ n. n ≡ end)

@@ -3,7 +3,7 @@ use Rattle.std.specs.Prelude.{◌≡◌, ℕ, ◌≤◌, Bool, ◌&&◌, ◌==�
 use Rattle.std.specs.List.{AllByRecursion}
 use Rattle.std.specs.Map.{lookup_entry, remove_entry}
 use Rattle.lru.specs.LruCache.{LruCache, lru_cache}
-use Rattle.trap_cache.specs.Cached.{Kept}
+use Rattle.trap_cache.specs.Cached.{KeptPair}
 use Rattle.trap_cache.specs.declared.slots.Slot.{Slot}
 
 -- whether a slot has this pair
@@ -11,12 +11,12 @@ abbrev pub has_pair : ℕ → ℕ → Slot → Bool
 has_pair block seq slot = (slot.block == block) && (slot.seq == seq)
 
 -- the place of the first slot that has a pair
-abbrev pub place_of : ℕ → ℕ → List (ℕ × Slot) → Option ℕ
-place_of block seq [] = None
-place_of block seq (e ∷ es) = if has_pair block seq e.1 then Some e.0 else place_of block seq es
+abbrev pub pair_place : ℕ → ℕ → List (ℕ × Slot) → Option ℕ
+pair_place block seq [] = None
+pair_place block seq (e ∷ es) = if has_pair block seq e.1 then Some e.0 else pair_place block seq es
 
 -- what is kept in these slots
-abbrev pub kept_in : List (ℕ × Slot) → List Kept
+abbrev pub kept_in : List (ℕ × Slot) → List KeptPair
 kept_in [] = []
 kept_in (e ∷ es) =
     record { block = e.1.block; seq = e.1.seq; bytes = e.1.bytes.items } ∷ kept_in es

@@ -3,7 +3,7 @@
 ghost use Rattle.std.specs.Prelude.{◌≡◌, [], length, option_copied, IfOk};
 ghost use Rattle.std.specs.Borrow.{sem};
 ghost use Rattle.trap_cache.specs.Cached.{bytes_under, after_get, after_keep};
-ghost use Rattle.trap_cache.specs.Lending.{EndsAs};
+ghost use Rattle.trap_cache.specs.Lending.{CacheEndsAs};
 
 use crate::slots::{SLOTS, Slot, bytes_at, find, last_place, rewrite};
 use lru::LruCache;
@@ -59,7 +59,7 @@ impl Cache {
 
     /// The bytes that are kept under a pair, which goes to the front.
     pub fn get(&mut self, block: u32, seq: u64) -> Option<&[u8]>
-        ensures* moves { sem 𝓛 (EndsAs self.entry (after_get block seq self.old)) }
+        ensures* moves { sem 𝓛 (CacheEndsAs self.entry (after_get block seq self.old)) }
         ensures bytes { option_copied result ≡ bytes_under block seq self.old.kept }
     {
         let place = find(&self.slots, self.used, block, seq)?;

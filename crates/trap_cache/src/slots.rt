@@ -3,7 +3,7 @@
 ghost use Rattle.std.specs.Prelude.{◌≡◌, ◌<◌, nat_eq, length, take, option_map, Some, IfSome, IsSome};
 ghost use Rattle.std.specs.Map.{lookup};
 ghost use Rattle.lru.specs.LruCache.{last_entry};
-ghost use Rattle.trap_cache.specs.Slots.{place_of, IsRewritten};
+ghost use Rattle.trap_cache.specs.Slots.{pair_place, IsRewritten};
 
 use lru::LruCache;
 
@@ -23,7 +23,7 @@ pub struct Slot {
 
 /// The place of the pair among the slots that were used last.
 pub fn find(slots: &LruCache<usize, Slot>, used: usize, block: u32, seq: u64) -> Option<usize>
-    ensures { result ≡ place_of block seq (take used slots.now.entries) }
+    ensures { result ≡ pair_place block seq (take used slots.now.entries) }
 {
     let mut left = used;
     for (place, slot) in slots.iter() {

@@ -16,11 +16,13 @@ abbrev pub begun_with : ℕ → Place → Slots
 begun_with turn p = record { place = p; second = false; turn = turn; other_open = false }
 
 -- a write within the cell
-pub begin_part : {T E : Type 0} (result : Result T E) (d at from size : ℕ) (bytes : List ℕ) (a b : View) → Writes d from bytes result a b → at ≤ from → from + length bytes ≤ at + 2 * (2 + size) → Moves a b (Differs (cell_area (place_of d at size))) (Differs (cell_area (place_of d at size)))
+pub begin_part : {T E : Type 0} (result : Result T E) (d at from size : ℕ) (bytes : List ℕ) (a b : View) → Writes d from bytes result a b → at ≤ from
+    → from + length bytes ≤ at + 2 * (2 + size) → Moves a b (Differs (cell_area (place_of d at size))) (Differs (cell_area (place_of d at size)))
 begin_part {T} {E} result d at from size bytes a b call low high = moves_wider d from (length bytes) at (2 * (2 + size)) a b low high (write_steps {T = T} {E = E} result a b d from bytes call)
 
 -- what a read gives after a write within the cell
-pub part_torn : {T E : Type 0} (result : Result T E) (d at from size : ℕ) (bytes : List ℕ) (a b : View) → Writes d from bytes result a b → at ≤ from → from + length bytes ≤ at + 2 * (2 + size) → IsTrue a.tells → Torn (cell_area (place_of d at size)) a.now b.now
+pub part_torn : {T E : Type 0} (result : Result T E) (d at from size : ℕ) (bytes : List ℕ) (a b : View) → Writes d from bytes result a b → at ≤ from
+    → from + length bytes ≤ at + 2 * (2 + size) → IsTrue a.tells → Torn (cell_area (place_of d at size)) a.now b.now
 part_torn result d at from size bytes a b call low high told = torn_wider d from (length bytes) at (2 * (2 + size)) a.now b.now low high (call.torn told)
 
 -- what a read gives after two writes within the cell
@@ -39,7 +41,8 @@ three_torn {T} {E} r1 r2 r3 d at size turn value a b1 b2 b3 len w1 w2 w3 told = 
 
 -- and after the sync
 pub all_torn : {T E : Type 0} (r1 r2 r3 r4 : Result T E) (d at size turn : ℕ) (value : List ℕ) (a b1 b2 b3 b4 : View) → length value ≡ size
-    → Writes d at (165 ∷ turn ∷ []) r1 a b1 → Writes d (at + 2) value r2 b1 b2 → Writes d (at + (2 + size)) (0 ∷ []) r3 b2 b3 → Syncs d r4 b3 b4 → IsTrue a.tells → Torn (cell_area (place_of d at size)) a.now b4.now
+    → Writes d at (165 ∷ turn ∷ []) r1 a b1 → Writes d (at + 2) value r2 b1 b2 → Writes d (at + (2 + size)) (0 ∷ []) r3 b2 b3 → Syncs d r4 b3 b4 → IsTrue a.tells
+    → Torn (cell_area (place_of d at size)) a.now b4.now
 all_torn {T} {E} r1 r2 r3 r4 d at size turn value a b1 b2 b3 b4 len w1 w2 w3 sync told = torn_again (cell_area (place_of d at size)) a b3 b4 (w3.goes.tells ∙ (w2.goes.tells ∙ w1.goes.tells))
     (three_torn {T = T} {E = E} r1 r2 r3 d at size turn value a b1 b2 b3 len w1 w2 w3)
     (torn_same (cell_area (place_of d at size)) b3 b4 sync.same) told
@@ -103,7 +106,8 @@ pub begin_synced : {T E : Type 0} (result : Result T E) (d at size : ℕ) (a b c
     → Moves a b (Differs (cell_area (place_of d at size))) (Differs (cell_area (place_of d at size)))
     → Syncs d result b c
     → Moves a c (Differs (cell_area (place_of d at size))) (Differs (cell_area (place_of d at size)))
-begin_synced {T} {E} result d at size a b c moves call = moves_again (cell_area (place_of d at size)) a b c moves (moves_same (cell_area (place_of d at size)) b c (sync_steps {T = T} {E = E} result b c d call))
+begin_synced {T} {E} result d at size a b c moves call = moves_again (cell_area (place_of d at size)) a b c moves
+    (moves_same (cell_area (place_of d at size)) b c (sync_steps {T = T} {E = E} result b c d call))
 
 -- a cell that was begun: its first value is stable
 pub begin_done : {T E : Type 0} (v1 v2 v3 v4 : T) (d at turn : ℕ) (value : List ℕ) (a b1 b2 b3 b4 : View) → turn < 3
@@ -112,11 +116,13 @@ pub begin_done : {T E : Type 0} (v1 v2 v3 v4 : T) (d at turn : ℕ) (value : Lis
     → Writes {T = T} {E = E} d (at + (2 + length value)) (0 ∷ []) (Ok v3) b2 b3
     → Syncs {T = T} {E = E} d (Ok v4) b3 b4
     → Moves a b4 (Differs (cell_area (place_of d at (length value)))) (IsFirst b4 (begun_with turn (place_of d at (length value))) value)
-begin_done {T} {E} v1 v2 v3 v4 d at turn value a b1 b2 b3 b4 few w1 w2 w3 sync = moves_then a b3 b4 (Differs area) (Differs area) Same _ (Differs area) (IsFirst b4 (begun_with turn (place_of d at (length value))) value) writes (synced_steps {T = T} {E = E} v4 b3 b4 d sync)
+begin_done {T} {E} v1 v2 v3 v4 d at turn value a b1 b2 b3 b4 few w1 w2 w3 sync = moves_then a b3 b4 (Differs area) (Differs area) Same _ (Differs area)
+    (IsFirst b4 (begun_with turn (place_of d at (length value))) value) writes (synced_steps {T = T} {E = E} v4 b3 b4 d sync)
     (λ x y was torn. torn)
     (λ x y z was torn mid same. subst (Differs area x.disks) (sym same) torn)
     (λ x y z was torn mid at_rest.
-    let both = first_written d at turn value b1.now.disks b2.now.disks b3.now.disks few (w1.written was.told) (w2.torn (told1 was.told)).disks (w2.written (told1 was.told)) (w3.torn (told2 was.told)).disks (w3.written (told2 was.told)) in
+    let both = first_written d at turn value b1.now.disks b2.now.disks b3.now.disks few (w1.written was.told) (w2.torn (told1 was.told)).disks
+    (w2.written (told1 was.told)) (w3.torn (told2 was.told)).disks (w3.written (told2 was.told)) in
     let read : z.disks d ≡ b3.now.disks d = at_rest.read ∙ ap (λ (n : Contents). n.disks d) (sync.same mid.told) in
     record {
       differs = subst (Differs area x.disks) (sym at_rest.same) torn;

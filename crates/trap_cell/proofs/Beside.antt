@@ -12,7 +12,7 @@ use Rattle.trap_cell.proofs.Keeping.{slot_within}
 abbrev pub Apart : Area → Place → Type 0
 Apart area p = (i : ℕ) → p.at ≤ i → i < p.at + cell_len p → area p.disk i → ⊥
 
--- a range before or behind the cell
+-- a range before or after the cell
 pub range_apart : (p : Place) (at n : ℕ) → (at + n ≤ p.at) ⊎ (p.at + cell_len p ≤ at) → Apart (Within p.disk at n) p
 range_apart p at n beside i low high within = ⊎_elim (λ (before : at + n ≤ p.at). omega (arith, within.to)) (λ (behind : p.at + cell_len p ≤ at). omega (arith, within.from)) beside
 
@@ -30,7 +30,8 @@ turn_beside p area x y differs apart b = let within = slot_within p b in differs
 
 -- a slot's value,
 slot_beside : (p : Place) (area : Area) (x y : Disks) → Differs area x y → Apart area p → (b : Bool) → value_in p b y ≡ value_in p b x
-slot_beside p area x y differs apart b = let within = slot_within p b in region_apart area x y p.disk (slot_at p b + 2) p.size differs (λ i low high. apart i (omega (arith, within.0)) (omega (arith, within.1)))
+slot_beside p area x y differs apart b = let within = slot_within p b in region_apart area x y p.disk (slot_at p b + 2) p.size differs
+    (λ i low high. apart i (omega (arith, within.0)) (omega (arith, within.1)))
 
 -- and which slot is current
 pub current_beside : (p : Place) (area : Area) (x y : Disks) → Differs area x y → Apart area p → current_slot p y ≡ current_slot p x
@@ -60,7 +61,8 @@ pub stands_after : (s : Slots) (area : Area) (a b : View) (during : Disks → Di
 stands_after s area a b during apart moves stands = always_after a b during (Differs area) (Stands s) (Stands s) moves stands (λ x y was torn. stands_beside s area x y torn apart was)
 
 -- the same where the run worked on another disk
-pub stands_elsewhere : (s : Slots) (d at n : ℕ) (a b : View) (during : Disks → Disks → Type 0) → (s.place.disk ≡ d → ⊥) → Moves a b during (Differs (Within d at n)) → Always a (Stands s) → Always b (Stands s)
+pub stands_elsewhere : (s : Slots) (d at n : ℕ) (a b : View) (during : Disks → Disks → Type 0) → (s.place.disk ≡ d → ⊥) → Moves a b during (Differs (Within d at n))
+    → Always a (Stands s) → Always b (Stands s)
 stands_elsewhere s d at n a b during other moves stands = stands_after s (Within d at n) a b during (disk_apart_from s.place d at n other) moves stands
 
 -- the slot that isn't current is within the cell

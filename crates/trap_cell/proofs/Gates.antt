@@ -90,8 +90,10 @@ alone true gate turn gate' turn' on off = second_alone (is_on gate' turn') (is_o
 
 -- a slot with the next turn is current once its gate is open
 pub overtaken : (b : Bool) (gate turn gate' turn' : ℕ) → is_on gate turn ≡ true → (gate' == 165) ≡ true → turn' ≡ next_turn turn → seen b gate turn gate' turn' ≡ Some (not b)
-overtaken false gate turn gate' turn' on open_ next = both_on (is_on gate turn) (is_on gate' turn') (turn' == next_turn turn) true on (on_both gate' turn' open_ (subst (λ (t : ℕ). t < 3) (sym next) (next_few turn))) (follows turn turn' next)
-overtaken true gate turn gate' turn' on open_ next = both_on (is_on gate' turn') (is_on gate turn) (turn == next_turn turn') false (on_both gate' turn' open_ (subst (λ (t : ℕ). t < 3) (sym next) (next_few turn))) on (precedes turn turn' (on_turn gate turn on) next)
+overtaken false gate turn gate' turn' on open_ next = both_on (is_on gate turn) (is_on gate' turn') (turn' == next_turn turn) true on
+    (on_both gate' turn' open_ (subst (λ (t : ℕ). t < 3) (sym next) (next_few turn))) (follows turn turn' next)
+overtaken true gate turn gate' turn' on open_ next = both_on (is_on gate' turn') (is_on gate turn) (turn == next_turn turn') false
+    (on_both gate' turn' open_ (subst (λ (t : ℕ). t < 3) (sym next) (next_few turn))) on (precedes turn turn' (on_turn gate turn on) next)
 
 -- a slot that is current stays so while the other's gate, which was open, is any byte
 pub not_overtaken : (b : Bool) (gate turn gate' turn' torn : ℕ) → seen b gate turn gate' turn' ≡ Some b → (gate' == 165) ≡ true → seen b gate turn torn turn' ≡ Some b

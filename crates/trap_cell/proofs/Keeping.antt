@@ -6,7 +6,7 @@ use Rattle.trap_cell.specs.Slots.{is_on, next_turn, Place, Slots, Stands, slot_a
 use Rattle.trap_cell.specs.Steps.{PutsIn, Keeps, Shuts, StaysShut, FillsSlot, IsSlotReady}
 use Rattle.trap_cell.proofs.Gates.{seen, is_seen, current_on, alone, overtaken, not_overtaken, on_gate, off_gate, value_of, not_not}
 
--- a slot lies before the other or behind it
+-- a slot lies before the other or after it
 pub slots_apart : (p : Place) (b : Bool) → (slot_at p b + (2 + p.size) ≤ slot_at p (not b)) ⊎ (slot_at p (not b) + (2 + p.size) ≤ slot_at p b)
 slots_apart p false = inl (omega arith)
 slots_apart p true = inr (omega arith)
@@ -16,17 +16,20 @@ pub slot_within : (p : Place) (b : Bool) → (p.at ≤ slot_at p b) × (slot_at 
 slot_within p false = (omega arith, omega arith)
 slot_within p true = (omega arith, omega arith)
 
--- a byte of the current slot is before or behind the other slot
-outside : (s : Slots) (i : ℕ) → slot_at s.place s.second ≤ i → i < slot_at s.place s.second + (2 + s.place.size) → (i < slot_at s.place (not s.second)) ⊎ (slot_at s.place (not s.second) + (2 + s.place.size) ≤ i)
+-- a byte of the current slot is before or after the other slot
+outside : (s : Slots) (i : ℕ) → slot_at s.place s.second ≤ i → i < slot_at s.place s.second + (2 + s.place.size) → (i < slot_at s.place (not s.second))
+    ⊎ (slot_at s.place (not s.second) + (2 + s.place.size) ≤ i)
 outside s i low high = ⊎_elim (λ before. inl (omega (arith, before))) (λ behind. inr (omega (arith, behind))) (slots_apart s.place s.second)
 
 -- what changes in the other slot leaves the current slot's gate
 pub same_gate : (s : Slots) (x y : Disks) → Differs (other_slot s) x y → gate_of s.place s.second y ≡ gate_of s.place s.second x
-same_gate s x y differs = byte_beside s.place.disk (slot_at s.place (not s.second)) (2 + s.place.size) x y (slot_at s.place s.second) differs (outside s (slot_at s.place s.second) (omega arith) (omega arith))
+same_gate s x y differs = byte_beside s.place.disk (slot_at s.place (not s.second)) (2 + s.place.size) x y (slot_at s.place s.second) differs
+    (outside s (slot_at s.place s.second) (omega arith) (omega arith))
 
 -- and its turn
 pub same_turn : (s : Slots) (x y : Disks) → Differs (other_slot s) x y → turn_of s.place s.second y ≡ turn_of s.place s.second x
-same_turn s x y differs = byte_beside s.place.disk (slot_at s.place (not s.second)) (2 + s.place.size) x y (slot_at s.place s.second + 1) differs (outside s (slot_at s.place s.second + 1) (omega arith) (omega arith))
+same_turn s x y differs = byte_beside s.place.disk (slot_at s.place (not s.second)) (2 + s.place.size) x y (slot_at s.place s.second + 1) differs
+    (outside s (slot_at s.place s.second + 1) (omega arith) (omega arith))
 
 -- and its value
 pub same_value : (s : Slots) (x y : Disks) → Differs (other_slot s) x y → value_in s.place s.second y ≡ value_in s.place s.second x
@@ -34,7 +37,8 @@ same_value s x y differs = region_beside s.place.disk (slot_at s.place (not s.se
     (⊎_elim (λ before. inl (omega (arith, before))) (λ behind. inr (omega (arith, behind))) (slots_apart s.place s.second))
 
 -- the current slot of a cell that stands is on
-pub stands_on : (s : Slots) (w : Disks) → Stands s w → seen s.second (gate_of s.place s.second w) (turn_of s.place s.second w) (gate_of s.place (not s.second) w) (turn_of s.place (not s.second) w) ≡ Some s.second
+pub stands_on : (s : Slots) (w : Disks) → Stands s w → seen s.second (gate_of s.place s.second w) (turn_of s.place s.second w) (gate_of s.place (not s.second) w)
+    (turn_of s.place (not s.second) w) ≡ Some s.second
 stands_on s w stands = sym (is_seen s.place s.second w) ∙ stands.current
 
 -- nothing changed
@@ -69,15 +73,18 @@ value_beyond s x y torn = region_beside s.place.disk (slot_at s.place (not s.sec
 
 -- an open gate that is torn
 pub keeps_torn : (s : Slots) (x y : Disks) → s.other_open ≡ true → Stands s x → Differs (Within s.place.disk (slot_at s.place (not s.second)) 1) x y → Keeps s x y
-keeps_torn s x y open_ stands torn = keeps_seen s x y stands (gate_part s x y torn) (subst (λ (t : ℕ). seen s.second (gate_of s.place s.second x) (turn_of s.place s.second x) (gate_of s.place (not s.second) y) t ≡ Some s.second) (sym (beyond_gate s x y torn))
-    (not_overtaken s.second (gate_of s.place s.second x) (turn_of s.place s.second x) (gate_of s.place (not s.second) x) (turn_of s.place (not s.second) x) (gate_of s.place (not s.second) y) (stands_on s x stands) (stands.gate ∙ open_)))
+keeps_torn s x y open_ stands torn = keeps_seen s x y stands (gate_part s x y torn) (subst
+    (λ (t : ℕ). seen s.second (gate_of s.place s.second x) (turn_of s.place s.second x) (gate_of s.place (not s.second) y) t ≡ Some s.second) (sym (beyond_gate s x y torn))
+    (not_overtaken s.second (gate_of s.place s.second x) (turn_of s.place s.second x) (gate_of s.place (not s.second) x) (turn_of s.place (not s.second) x)
+    (gate_of s.place (not s.second) y) (stands_on s x stands) (stands.gate ∙ open_)))
 
 -- a gate byte that was written
 gate_written : (s : Slots) (y : Disks) (b : ℕ) → region y s.place.disk (slot_at s.place (not s.second)) 1 ≡ b ∷ [] → gate_of s.place (not s.second) y ≡ b
 gate_written s y b there = byte_in_region y s.place.disk (slot_at s.place (not s.second)) 1 0 (slot_at s.place (not s.second)) (b ∷ []) (omega arith) there (omega arith)
 
 -- an open gate that was shut
-pub shuts_written : (s : Slots) (x y : Disks) → s.other_open ≡ true → Stands s x → Differs (Within s.place.disk (slot_at s.place (not s.second)) 1) x y → region y s.place.disk (slot_at s.place (not s.second)) 1 ≡ 0 ∷ [] → Shuts s x y
+pub shuts_written : (s : Slots) (x y : Disks) → s.other_open ≡ true → Stands s x → Differs (Within s.place.disk (slot_at s.place (not s.second)) 1) x y
+    → region y s.place.disk (slot_at s.place (not s.second)) 1 ≡ 0 ∷ [] → Shuts s x y
 shuts_written s x y open_ stands torn there = record {
   keeps = keeps_torn s x y open_ stands torn;
   shut = ap (λ (g : ℕ). g == 165) (gate_written s y 0 there);
@@ -104,9 +111,9 @@ shuts_none s x shut stands = record {
 pub shuts_stands : (s : Slots) (x y : Disks) → Shuts s x y → Stands (shut_of s) y
 shuts_stands s x y shuts = record { current = shuts.keeps.current; turn = shuts.keeps.turn; gate = shuts.shut }
 
--- what is behind the gate, within the other slot
-pub behind_gate : (s : Slots) (x y : Disks) → Differs (Within s.place.disk (slot_at s.place (not s.second) + 1) (1 + s.place.size)) x y → Differs (other_slot s) x y
-behind_gate s x y torn = differs_wider s.place.disk (slot_at s.place (not s.second) + 1) (1 + s.place.size) (slot_at s.place (not s.second)) (2 + s.place.size) x y (omega arith) (omega arith) torn
+-- what is after the gate, within the other slot
+pub after_gate : (s : Slots) (x y : Disks) → Differs (Within s.place.disk (slot_at s.place (not s.second) + 1) (1 + s.place.size)) x y → Differs (other_slot s) x y
+after_gate s x y torn = differs_wider s.place.disk (slot_at s.place (not s.second) + 1) (1 + s.place.size) (slot_at s.place (not s.second)) (2 + s.place.size) x y (omega arith) (omega arith) torn
 
 -- any bytes after a gate that is shut
 pub shuts_torn : (s : Slots) (x y : Disks) → Stands (shut_of s) x → Differs (Within s.place.disk (slot_at s.place (not s.second) + 1) (1 + s.place.size)) x y → StaysShut s x y
@@ -119,7 +126,7 @@ shuts_torn s x y stands torn = record { keeps = record { differs = keeps.differs
     shut = ap (λ (g : ℕ). g == 165) same ∙ stands.gate
 
     keeps : Keeps (shut_of s) x y
-    keeps = keeps_seen (shut_of s) x y stands (behind_gate s x y torn)
+    keeps = keeps_seen (shut_of s) x y stands (after_gate s x y torn)
         (alone s.second (gate_of s.place s.second x) (turn_of s.place s.second x) (gate_of s.place (not s.second) y) (turn_of s.place (not s.second) y)
         (current_on s.second (gate_of s.place s.second x) (turn_of s.place s.second x) (gate_of s.place (not s.second) x) (turn_of s.place (not s.second) x) (stands_on (shut_of s) x stands))
         (off_gate (gate_of s.place (not s.second) y) (turn_of s.place (not s.second) y) shut))
@@ -138,18 +145,24 @@ keeps_puts s fresh x y stands keeps = record { differs = keeps.differs; either =
 
 -- a step that keeps the current slot, and then a part of a put
 pub keeps_puts_then : (s : Slots) (fresh : List ℕ) (x y z : Disks) → Stands s x → Keeps s x y → PutsIn s fresh y z → PutsIn s fresh x z
-keeps_puts_then s fresh x y z stands keeps puts = record { differs = differs_again (other_slot s) x y z keeps.differs puts.differs; either = ⊎_elim (λ old. inl (old ∙ keeps_value s x y stands keeps)) inr puts.either }
+keeps_puts_then s fresh x y z stands keeps puts = record {
+  differs = differs_again (other_slot s) x y z keeps.differs puts.differs;
+  either =
+      ⊎_elim (λ old. inl (old ∙ keeps_value s x y stands keeps)) inr puts.either;
+}
 
 -- a slot that was filled is ready
 pub fills_ready : (s : Slots) (fresh : List ℕ) (x y : Disks) → FillsSlot s fresh x y → IsSlotReady s fresh y
 fills_ready s fresh x y fills = record { stands = record { current = fills.shuts.keeps.current; turn = fills.shuts.keeps.turn; gate = fills.shuts.shut }; turn = fills.turn; value = fills.value }
 
 -- the current slot of a cell that is ready is on
-ready_on : (s : Slots) (fresh : List ℕ) (x : Disks) → IsSlotReady s fresh x → seen s.second (gate_of s.place s.second x) (turn_of s.place s.second x) (gate_of s.place (not s.second) x) (turn_of s.place (not s.second) x) ≡ Some s.second
+ready_on : (s : Slots) (fresh : List ℕ) (x : Disks) → IsSlotReady s fresh x → seen s.second (gate_of s.place s.second x) (turn_of s.place s.second x)
+    (gate_of s.place (not s.second) x) (turn_of s.place (not s.second) x) ≡ Some s.second
 ready_on s fresh x ready = stands_on (shut_of s) x ready.stands
 
 -- the other slot is current once its gate is open
-opened : (s : Slots) (fresh : List ℕ) (x y : Disks) → IsSlotReady s fresh x → Differs (Within s.place.disk (slot_at s.place (not s.second)) 1) x y → (gate_of s.place (not s.second) y == 165) ≡ true → current_slot s.place y ≡ Some (not s.second)
+opened : (s : Slots) (fresh : List ℕ) (x y : Disks) → IsSlotReady s fresh x → Differs (Within s.place.disk (slot_at s.place (not s.second)) 1) x y
+    → (gate_of s.place (not s.second) y == 165) ≡ true → current_slot s.place y ≡ Some (not s.second)
 opened s fresh x y ready torn open_ = is_seen s.place s.second y
     ∙ overtaken s.second (gate_of s.place s.second y) (turn_of s.place s.second y) (gate_of s.place (not s.second) y) (turn_of s.place (not s.second) y) on open_ next
   where
@@ -173,7 +186,8 @@ puts_torn s fresh x y ready torn = record { differs = gate_part s x y torn; eith
         (off_gate (gate_of s.place (not s.second) y) (turn_of s.place (not s.second) y) shut))))
 
 -- the other slot's gate is open and stays so
-pub put_written : (s : Slots) (fresh : List ℕ) (x y : Disks) → IsSlotReady s fresh x → Differs (Within s.place.disk (slot_at s.place (not s.second)) 1) x y → region y s.place.disk (slot_at s.place (not s.second)) 1 ≡ 165 ∷ []
+pub put_written : (s : Slots) (fresh : List ℕ) (x y : Disks) → IsSlotReady s fresh x → Differs (Within s.place.disk (slot_at s.place (not s.second)) 1) x y
+    → region y s.place.disk (slot_at s.place (not s.second)) 1 ≡ 165 ∷ []
     → (cell_value s.place y ≡ Some fresh) × Stands (turned s) y
 put_written s fresh x y ready torn there = (
   value_of s.place (not s.second) y now ∙ ap {B = Option (List ℕ)} Some (value_beyond s x y torn ∙ ready.value),
@@ -182,7 +196,8 @@ put_written s fresh x y ready torn there = (
     turn = beyond_gate s x y torn ∙ ready.turn;
     gate = subst (λ (b : Bool). (gate_of s.place b y == 165) ≡ true) (sym (not_not s.second))
         (ap (λ (g : ℕ). g == 165) (same_gate s x y (gate_part s x y torn))
-        ∙ on_gate (gate_of s.place s.second x) (turn_of s.place s.second x) (current_on s.second (gate_of s.place s.second x) (turn_of s.place s.second x) (gate_of s.place (not s.second) x) (turn_of s.place (not s.second) x) (ready_on s fresh x ready)));
+        ∙ on_gate (gate_of s.place s.second x) (turn_of s.place s.second x) (current_on s.second (gate_of s.place s.second x) (turn_of s.place s.second x)
+        (gate_of s.place (not s.second) x) (turn_of s.place (not s.second) x) (ready_on s fresh x ready)));
   },
 )
   where

@@ -9,11 +9,13 @@ use Rattle.trap_cell.specs.Steps.{PutsIn, IsPut, Keeps, Shuts, StaysShut, FillsS
 use Rattle.trap_cell.proofs.Keeping.{keeps_torn, shuts_written, shuts_none, keeps_none, shuts_stands, keeps_then, keeps_puts, keeps_puts_then, fills_ready, puts_torn, put_written, shuts_torn}
 
 -- a change of the other slot's gate byte, where disk and start have names of their own
-pub at_gate : (s : Slots) (d start : ℕ) (x y : Disks) → d ≡ s.place.disk → start ≡ slot_at s.place (not s.second) → Differs (Within d start 1) x y → Differs (Within s.place.disk (slot_at s.place (not s.second)) 1) x y
+pub at_gate : (s : Slots) (d start : ℕ) (x y : Disks) → d ≡ s.place.disk → start ≡ slot_at s.place (not s.second) → Differs (Within d start 1) x y
+    → Differs (Within s.place.disk (slot_at s.place (not s.second)) 1) x y
 at_gate s d start x y same place torn = differs_at d start 1 s.place.disk (slot_at s.place (not s.second)) 1 x y same place refl torn
 
 -- and the byte that stands there
-gate_there : (s : Slots) (d start b : ℕ) (y : Disks) → d ≡ s.place.disk → start ≡ slot_at s.place (not s.second) → region y d start 1 ≡ b ∷ [] → region y s.place.disk (slot_at s.place (not s.second)) 1 ≡ b ∷ []
+gate_there : (s : Slots) (d start b : ℕ) (y : Disks) → d ≡ s.place.disk → start ≡ slot_at s.place (not s.second) → region y d start 1 ≡ b ∷ []
+    → region y s.place.disk (slot_at s.place (not s.second)) 1 ≡ b ∷ []
 gate_there s d start b y same place there = ap₂ (λ (e i : ℕ). region y e i 1) (sym same) (sym place) ∙ there
 
 -- the gate is being shut
@@ -30,7 +32,8 @@ pub shut_done : (s : Slots) (d start : ℕ) (a b : View) → s.other_open ≡ tr
     → Moves a b (Keeps s) (Shuts s)
 shut_done s d start a b open_ stands same place moves = moves_weaken a b _ _ (Keeps s) (Shuts s) moves
     (λ x y was torn. keeps_torn s x.disks y.disks open_ (stands x was) (at_gate s d start x.disks y.disks same place torn))
-    (λ x y was left put. shuts_written s x.disks y.disks open_ (stands x was) (at_gate s d start x.disks y.disks same place put.placed.differs) (gate_there s d start 0 y.disks same place put.placed.there))
+    (λ x y was left put. shuts_written s x.disks y.disks open_ (stands x was) (at_gate s d start x.disks y.disks same place put.placed.differs)
+    (gate_there s d start 0 y.disks same place put.placed.there))
 
 -- the gate was shut before
 pub shut_before : (s : Slots) (a : View) → s.other_open ≡ false → Always a (Stands s) → Moves a a (Keeps s) (Shuts s)
@@ -40,12 +43,15 @@ shut_before s a shut stands = no_moves a (Keeps s) (Shuts s) (λ x was. shuts_no
 pub shuts_keep : (s : Slots) (a b : View) → Moves a b (Keeps s) (Shuts s) → Moves a b (Keeps s) (Keeps s)
 shuts_keep s a b moves = moves_weaken a b (Keeps s) (Shuts s) (Keeps s) (Keeps s) moves (λ x y was keeps. keeps) (λ x y was left shuts. shuts.keeps)
 
--- a range behind the gate of the other slot
-behind : (s : Slots) (d at n : ℕ) (x y : Disks) → d ≡ s.place.disk → slot_at s.place (not s.second) + 1 ≤ at → at + n ≤ slot_at s.place (not s.second) + (2 + s.place.size) → Differs (Within d at n) x y → Differs (Within s.place.disk (slot_at s.place (not s.second) + 1) (1 + s.place.size)) x y
-behind s d at n x y same low high torn = differs_mono (Within d at n) (Within s.place.disk (slot_at s.place (not s.second) + 1) (1 + s.place.size)) x y (λ e i within. record { disk = within.disk ∙ same; from = omega (arith, within.from); to = omega (arith, within.to) }) torn
+-- a range after the gate of the other slot
+behind : (s : Slots) (d at n : ℕ) (x y : Disks) → d ≡ s.place.disk → slot_at s.place (not s.second) + 1 ≤ at
+    → at + n ≤ slot_at s.place (not s.second) + (2 + s.place.size) → Differs (Within d at n) x y → Differs (Within s.place.disk (slot_at s.place (not s.second) + 1) (1 + s.place.size)) x y
+behind s d at n x y same low high torn = differs_mono (Within d at n) (Within s.place.disk (slot_at s.place (not s.second) + 1) (1 + s.place.size)) x y
+    (λ e i within. record { disk = within.disk ∙ same; from = omega (arith, within.from); to = omega (arith, within.to) }) torn
 
--- some bytes behind a gate that is shut are torn
-pub fill_torn : (s : Slots) (d at n : ℕ) (a b : View) → Always a (Stands (shut_of s)) → d ≡ s.place.disk → slot_at s.place (not s.second) + 1 ≤ at → at + n ≤ slot_at s.place (not s.second) + (2 + s.place.size)
+-- some bytes after a gate that is shut are torn
+pub fill_torn : (s : Slots) (d at n : ℕ) (a b : View) → Always a (Stands (shut_of s)) → d ≡ s.place.disk → slot_at s.place (not s.second) + 1 ≤ at
+    → at + n ≤ slot_at s.place (not s.second) + (2 + s.place.size)
     → Moves a b (Differs (Within d at n)) (Differs (Within d at n))
     → Moves a b (StaysShut s) (StaysShut s)
 fill_torn s d at n a b stands same low high moves = moves_weaken a b _ _ (StaysShut s) (StaysShut s) moves
@@ -68,8 +74,9 @@ fill_both s d start n a b c stands same place len first second = moves_then a b 
     two : (x y : Disks) → Differs (Within d (start + 2) n) x y → Differs (Within s.place.disk (slot_at s.place (not s.second) + 1) (1 + s.place.size)) x y
     two x y torn = behind s d (start + 2) n x y same (omega arith) (omega arith) torn
 
--- turn and value are stable behind the gate
-pub fill_done : (s : Slots) (fresh : List ℕ) (d start turn : ℕ) (a b c : View) → Always a (Stands (shut_of s)) → d ≡ s.place.disk → start ≡ slot_at s.place (not s.second) → length fresh ≡ s.place.size → turn ≡ next_turn s.turn
+-- turn and value are stable after the gate
+pub fill_done : (s : Slots) (fresh : List ℕ) (d start turn : ℕ) (a b c : View) → Always a (Stands (shut_of s)) → d ≡ s.place.disk → start ≡ slot_at s.place (not s.second)
+    → length fresh ≡ s.place.size → turn ≡ next_turn s.turn
     → Moves a b (Differs (Within d (start + 1) 1)) (Differs (Within d (start + 1) 1))
     → (IsTrue a.tells → region b.now.disks d (start + 1) 1 ≡ turn ∷ [])
     → Moves b c (Differs (Within d (start + 2) (length fresh))) (PlacedThrough c d (start + 2) fresh)
@@ -90,7 +97,8 @@ fill_done s fresh d start turn a b c stands same place len next first written se
     two : (x y : Disks) → Differs (Within d (start + 2) (length fresh)) x y → Differs (Within s.place.disk (slot_at s.place (not s.second) + 1) (1 + s.place.size)) x y
     two x y torn = behind s d (start + 2) (length fresh) x y same (omega arith) (omega arith) torn
 
-    turn_there : (z : Disks) → region b.now.disks d (start + 1) 1 ≡ turn ∷ [] → Torn (Within d (start + 2) (length fresh)) b.now c.now → z d ≡ c.now.disks d → turn_of s.place (not s.second) z ≡ next_turn s.turn
+    turn_there : (z : Disks) → region b.now.disks d (start + 1) 1 ≡ turn ∷ [] → Torn (Within d (start + 2) (length fresh)) b.now c.now → z d ≡ c.now.disks d
+        → turn_of s.place (not s.second) z ≡ next_turn s.turn
     turn_there z there torn read = ap₂ (λ (e i : ℕ). byte z e i) (sym same) (ap (λ (i : ℕ). i + 1) (sym place))
         ∙ byte_of_disk c.now.disks z d (start + 1) read
         ∙ byte_beside d (start + 2) (length fresh) b.now.disks c.now.disks (start + 1) torn.disks (inl (omega arith))
@@ -151,8 +159,10 @@ put_ready s fresh a b c stands first second = moves_then a b c (Keeps s) (Shuts 
     (λ x y z was one mid two. keeps_then s x.disks y.disks z.disks one.keeps two.shuts.keeps)
 
 -- a put that stopped while the gate opened
-pub put_open : (s : Slots) (fresh : List ℕ) (a b c d : View) → Always a (Stands s) → Moves a b (Keeps s) (Shuts s) → Moves b c (StaysShut s) (FillsSlot s fresh) → Moves c d (PutsIn s fresh) (PutsIn s fresh) → Moves a d (PutsIn s fresh) (PutsIn s fresh)
-put_open s fresh a b c d stands first second third = moves_then a c d (Keeps s) (Keeps s) (PutsIn s fresh) (PutsIn s fresh) (PutsIn s fresh) (PutsIn s fresh) (put_ready s fresh a b c stands first second) third
+pub put_open : (s : Slots) (fresh : List ℕ) (a b c d : View) → Always a (Stands s) → Moves a b (Keeps s) (Shuts s) → Moves b c (StaysShut s) (FillsSlot s fresh)
+    → Moves c d (PutsIn s fresh) (PutsIn s fresh) → Moves a d (PutsIn s fresh) (PutsIn s fresh)
+put_open s fresh a b c d stands first second third = moves_then a c d (Keeps s) (Keeps s) (PutsIn s fresh) (PutsIn s fresh) (PutsIn s fresh) (PutsIn s fresh)
+    (put_ready s fresh a b c stands first second) third
     (λ x y was keeps. keeps_puts s fresh x.disks y.disks (stands x was) keeps)
     (λ x y z was keeps mid puts. keeps_puts_then s fresh x.disks y.disks z.disks (stands x was) keeps puts)
     (λ x y z was keeps mid puts. keeps_puts_then s fresh x.disks y.disks z.disks (stands x was) keeps puts)
@@ -162,8 +172,10 @@ pub put_part : (s t : Slots) (fresh : List ℕ) (v : View) (x y : Disks) → IsP
 put_part s t fresh v x y put = record { differs = put.differs; either = inr put.value }
 
 -- a put that is done, where the program knows of the cell what it is turned to
-pub put_done : (s t : Slots) (fresh : List ℕ) (a b c d : View) → t ≡ turned s → Always a (Stands s) → Moves a b (Keeps s) (Shuts s) → Moves b c (StaysShut s) (FillsSlot s fresh) → Moves c d (PutsIn s fresh) (IsPut d s (turned s) fresh) → Moves a d (PutsIn s fresh) (IsPut d s t fresh)
-put_done s t fresh a b c d known stands first second third = moves_then a c d (Keeps s) (Keeps s) (PutsIn s fresh) (IsPut d s (turned s) fresh) (PutsIn s fresh) (IsPut d s t fresh) (put_ready s fresh a b c stands first second) third
+pub put_done : (s t : Slots) (fresh : List ℕ) (a b c d : View) → t ≡ turned s → Always a (Stands s) → Moves a b (Keeps s) (Shuts s)
+    → Moves b c (StaysShut s) (FillsSlot s fresh) → Moves c d (PutsIn s fresh) (IsPut d s (turned s) fresh) → Moves a d (PutsIn s fresh) (IsPut d s t fresh)
+put_done s t fresh a b c d known stands first second third = moves_then a c d (Keeps s) (Keeps s) (PutsIn s fresh) (IsPut d s (turned s) fresh) (PutsIn s fresh)
+    (IsPut d s t fresh) (put_ready s fresh a b c stands first second) third
     (λ x y was keeps. keeps_puts s fresh x.disks y.disks (stands x was) keeps)
     (λ x y z was keeps mid puts. keeps_puts_then s fresh x.disks y.disks z.disks (stands x was) keeps puts)
     (λ x y z was keeps mid put. record {
@@ -184,8 +196,9 @@ shut_contents s d start a b open_ stands same place contents told =
 pub shut_nothing : (s : Slots) (a : View) → Always a (Stands s) → IsTrue a.tells → Quiet (Keeps s) a.now a.now
 shut_nothing s a stands told = record { disks = keeps_none s a.now.disks (stands a.now (read_is_left a told)); said = refl }
 
--- what a read gives after a write behind the gate
-pub fill_part : (s : Slots) (d at n : ℕ) (a b : View) → Always a (Stands (shut_of s)) → d ≡ s.place.disk → slot_at s.place (not s.second) + 1 ≤ at → at + n ≤ slot_at s.place (not s.second) + (2 + s.place.size)
+-- what a read gives after a write after the gate
+pub fill_part : (s : Slots) (d at n : ℕ) (a b : View) → Always a (Stands (shut_of s)) → d ≡ s.place.disk → slot_at s.place (not s.second) + 1 ≤ at
+    → at + n ≤ slot_at s.place (not s.second) + (2 + s.place.size)
     → (IsTrue a.tells → Torn (Within d at n) a.now b.now) → IsTrue a.tells → Quiet (StaysShut s) a.now b.now
 fill_part s d at n a b stands same low high contents told =
     let torn = contents told in
@@ -199,7 +212,8 @@ fill_contents s d start n a b c stands same place len tells first second told =
     let two = second (subst IsTrue (sym tells) told) in
     record {
       disks = shuts_torn s a.now.disks c.now.disks (stands a.now (read_is_left a told))
-          (differs_again _ a.now.disks b.now.disks c.now.disks (behind s d (start + 1) 1 a.now.disks b.now.disks same (omega arith) (omega arith) one.disks) (behind s d (start + 2) n b.now.disks c.now.disks same (omega arith) (omega arith) two.disks));
+          (differs_again _ a.now.disks b.now.disks c.now.disks (behind s d (start + 1) 1 a.now.disks b.now.disks same (omega arith) (omega arith) one.disks)
+          (behind s d (start + 2) n b.now.disks c.now.disks same (omega arith) (omega arith) two.disks));
       said = two.said ∙ one.said;
     }
 
@@ -217,15 +231,21 @@ put_shut_contents s fresh a b stands contents told =
     record { disks = keeps_puts s fresh a.now.disks b.now.disks (stands a.now (read_is_left a told)) keeps.disks; said = keeps.said }
 
 -- and while the slot was filled
-pub put_fill_contents : (s : Slots) (fresh : List ℕ) (a b c : View) → Always a (Stands s) → b.tells ≡ a.tells → (IsTrue a.tells → Quiet (Keeps s) a.now b.now) → (IsTrue b.tells → Quiet (StaysShut s) b.now c.now) → IsTrue a.tells → Quiet (PutsIn s fresh) a.now c.now
+pub put_fill_contents : (s : Slots) (fresh : List ℕ) (a b c : View) → Always a (Stands s) → b.tells ≡ a.tells → (IsTrue a.tells → Quiet (Keeps s) a.now b.now)
+    → (IsTrue b.tells → Quiet (StaysShut s) b.now c.now) → IsTrue a.tells → Quiet (PutsIn s fresh) a.now c.now
 put_fill_contents s fresh a b c stands tells first second told =
     let one = first told in
     let two = second (subst IsTrue (sym tells) told) in
-    record { disks = keeps_puts s fresh a.now.disks c.now.disks (stands a.now (read_is_left a told)) (keeps_then s a.now.disks b.now.disks c.now.disks one.disks two.disks.keeps); said = two.said ∙ one.said }
+    record {
+      disks = keeps_puts s fresh a.now.disks c.now.disks (stands a.now (read_is_left a told))
+          (keeps_then s a.now.disks b.now.disks c.now.disks one.disks two.disks.keeps);
+      said = two.said ∙ one.said;
+    }
 
 -- and while the gate opened, or after
 pub put_open_contents : (s : Slots) (fresh : List ℕ) (a b c d : View) → Always a (Stands s) → b.tells ≡ a.tells → c.tells ≡ b.tells
-    → (IsTrue a.tells → Quiet (Keeps s) a.now b.now) → (IsTrue b.tells → Quiet (StaysShut s) b.now c.now) → (IsTrue c.tells → Quiet (PutsIn s fresh) c.now d.now) → IsTrue a.tells → Quiet (PutsIn s fresh) a.now d.now
+    → (IsTrue a.tells → Quiet (Keeps s) a.now b.now) → (IsTrue b.tells → Quiet (StaysShut s) b.now c.now) → (IsTrue c.tells → Quiet (PutsIn s fresh) c.now d.now)
+    → IsTrue a.tells → Quiet (PutsIn s fresh) a.now d.now
 put_open_contents s fresh a b c d stands tells tells' first second third told =
     let one = first told in
     let told' : IsTrue b.tells = subst IsTrue (sym tells) told in

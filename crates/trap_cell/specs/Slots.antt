@@ -1,10 +1,11 @@
 -- The gated cell: two slots, each a gate byte, a turn byte and a value.
 use Rattle.std.specs.Prelude.{◌≡◌, ℕ, ◌+◌, ◌*◌, ◌%◌, List, Bool, true, false, not, ◌&&◌, ◌==◌, nat_lt, if◌then◌else◌, Option, Some, None}
 use Rattle.trap_bank.specs.Disks.{Disks, Area, Within, byte, region}
+use Rattle.trap_model.specs.Limits.{open_gate}
 
 -- a slot is on exactly where its gate byte is a5 and its turn is 0, 1 or 2
 abbrev pub is_on : ℕ → ℕ → Bool
-is_on gate turn = (gate == 165) && nat_lt turn 3
+is_on gate turn = (gate == open_gate) && nat_lt turn 3
 
 -- the turn of the next put
 abbrev pub next_turn : ℕ → ℕ
@@ -77,7 +78,7 @@ pub record Slots : Type 0 where
 pub record Stands (s : Slots) (disks : Disks) : Type 0 where
   pub current : current_slot s.place disks ≡ Some s.second
   pub turn : turn_of s.place s.second disks ≡ s.turn
-  pub gate : (gate_of s.place (not s.second) disks == 165) ≡ s.other_open
+  pub gate : (gate_of s.place (not s.second) disks == open_gate) ≡ s.other_open
 
 -- the positions of the slot that isn't current
 abbrev pub other_slot : Slots → Area

@@ -3,6 +3,7 @@ use Rattle.std.specs.Prelude.{◌≡◌, ◌⊎◌, ℕ, ◌+◌, List, not, ◌
 use Rattle.trap_bank.specs.Disks.{Disks, View, Differs, byte}
 use Rattle.trap_bank.specs.Called.{CalledTimes, CalledAtMost, TakesCalls}
 use Rattle.trap_bank.specs.Steps.{Always}
+use Rattle.trap_model.specs.Limits.{open_gate}
 use Rattle.trap_cell.specs.declared.fault.CellFault.{CellFault}
 use Rattle.trap_cell.specs.declared.fault.CellFault.TheVariants.{NoValue}
 use Rattle.trap_cell.specs.Slots.{Place, Slots, Stands, cell_area, other_slot, other_gate, shut_of, turned, next_turn, gate_of, turn_of, value_in, current_slot, cell_value}
@@ -39,7 +40,7 @@ pub record Keeps (s : Slots) (old new : Disks) : Type 0 where
 -- and the other gate is off: its byte is 0 where it was a5, and else what it was
 pub record Shuts (s : Slots) (old new : Disks) : Type 0 where
   pub keeps : Keeps s old new
-  pub shut : (gate_of s.place (not s.second) new == 165) ≡ false
+  pub shut : (gate_of s.place (not s.second) new == open_gate) ≡ false
   pub zero : IsTrue s.other_open → gate_of s.place (not s.second) new ≡ 0
   pub still : s.other_open ≡ false → gate_of s.place (not s.second) new
       ≡ gate_of s.place (not s.second) old
@@ -47,7 +48,7 @@ pub record Shuts (s : Slots) (old new : Disks) : Type 0 where
 -- the current slot and its value are as they were, and so is the other gate, which is off
 pub record StaysShut (s : Slots) (old new : Disks) : Type 0 where
   pub keeps : Keeps s old new
-  pub shut : (gate_of s.place (not s.second) new == 165) ≡ false
+  pub shut : (gate_of s.place (not s.second) new == open_gate) ≡ false
   pub gate : gate_of s.place (not s.second) new ≡ gate_of s.place (not s.second) old
 
 -- and after it come the next turn and this value
@@ -66,7 +67,7 @@ pub record IsSlotReady (s : Slots) (fresh : List ℕ) (disks : Disks) : Type 0 w
 -- after it may be anything.
 pub record IsFilling (s : Slots) (old new : Disks) : Type 0 where
   pub differs : Differs (other_slot s) old new
-  pub off : (gate_of s.place (not s.second) new == 165) ≡ false
+  pub off : (gate_of s.place (not s.second) new == open_gate) ≡ false
   pub zero : IsTrue s.other_open → gate_of s.place (not s.second) new ≡ 0
   pub still : s.other_open ≡ false → gate_of s.place (not s.second) new
       ≡ gate_of s.place (not s.second) old

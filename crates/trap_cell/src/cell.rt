@@ -13,9 +13,10 @@ ghost use Rattle.trap_cell.specs.Steps.{PutsIn, IsPut, IsFirst, IsMounted, Keeps
 ghost use Rattle.trap_cell.specs.Steps.{PutStage, AfterPut, MountCalls};
 
 use crate::fault::CellFault;
-use crate::heads::{HEAD_BYTES, Heads, ON, slot_start};
+use crate::heads::{HEAD_BYTES, Heads, slot_start};
 use std::marker::Model;
 use trap_bank::{Bank, DiskFault, write_through};
+use trap_model::OPEN_GATE;
 
 /// The gate byte of a slot that is off.
 const OFF: u8 = 0;
@@ -74,7 +75,7 @@ impl Cell {
             (Differs (cell_area (place_of disk at (length value.now)))) }
     {
         let size = value.len() as u64;
-        bank.write(disk, at, &[ON, 0])?;
+        bank.write(disk, at, &[OPEN_GATE, 0])?;
         bank.write(disk, at + HEAD_BYTES, value)?;
         bank.write(disk, at + (HEAD_BYTES + size), &[OFF])?;
         // The value is stable before the caller's own gate says that the cell is there.
@@ -263,7 +264,7 @@ impl Cell {
         let disk = self.disk();
         let start = self.other_start();
         // The one byte that makes the slot current is stable before the put returns.
-        write_through(bank, disk, start, &[ON])?;
+        write_through(bank, disk, start, &[OPEN_GATE])?;
         Ok(())
     }
 

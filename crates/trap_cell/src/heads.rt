@@ -6,13 +6,12 @@ ghost use Rattle.trap_bank.specs.Faults.{Rose};
 ghost use Rattle.trap_bank.specs.Called.{TakesCalls};
 ghost use Rattle.trap_bank.specs.Calls.{Fits};
 ghost use Rattle.trap_bank.specs.Steps.{Moves, Same};
+ghost use Rattle.trap_model.specs.Limits.{open_gate};
 ghost use Rattle.trap_cell.specs.Slots.{is_on, current, slot_at, place_of, cell_len};
 ghost use Rattle.trap_cell.specs.Heads.{AreAt};
 
 use trap_bank::{Bank, Failed};
-
-/// The gate byte of a slot that may be on.
-pub const ON: u8 = 0xa5;
+use trap_model::OPEN_GATE;
 
 /// The bytes of a gate and a turn.
 pub const HEAD_BYTES: u64 = 2;
@@ -36,7 +35,7 @@ impl Head {
     fn is_on(self) -> bool
         ensures { result ≡ is_on self.gate self.turn }
     {
-        self.gate == ON && self.turn < 3
+        self.gate == OPEN_GATE && self.turn < 3
     }
 }
 
@@ -108,12 +107,13 @@ impl Heads {
 
     /// Whether the other slot's gate byte is that of a slot that may be on.
     pub fn is_other_open(&self, second: bool) -> bool
-        ensures { result ≡ ((if second then self.now.first.gate else self.now.second.gate) == 165) }
+        ensures { result
+            ≡ ((if second then self.now.first.gate else self.now.second.gate) == open_gate) }
     {
         if second {
-            self.first.gate == ON
+            self.first.gate == OPEN_GATE
         } else {
-            self.second.gate == ON
+            self.second.gate == OPEN_GATE
         }
     }
 }

@@ -4,7 +4,7 @@ use Rattle.std.specs.List.{slice_range}
 use Rattle.std.proofs.lemmas.List.{drop_more, take-append-drop}
 use Rattle.std.proofs.lemmas.List.Folds.{drop_split}
 
--- what stands from a place on is a piece, and what stands behind it
+-- what stands from a place on is a piece, and what stands after it
 pub piece : (xs p rest : List ℕ) (at end : ℕ) → at ≤ end → p ≡ slice_range xs at end → drop end xs ≡ rest → drop at xs ≡ p ++ rest
 piece xs p rest at end low is behind =
     drop_split xs at end low ∙ ap (λ (q : List ℕ). q ++ drop end xs) (sym is) ∙ ap (λ (r : List ℕ). p ++ r) behind

@@ -14,7 +14,8 @@ use Rattle.trap_format.proofs.Cuts.{piece, byte_is}
 use Rattle.trap_format.proofs.BigEndian.{same_of_4, same_of_8}
 
 -- the first half
-pub first_written : (h : Head) (a b c d e f : List ℕ) → length a ≡ 62 → b ≡ put_over 0 (h.version ∷ []) a → c ≡ put_over 1 (lost_byte h.lost ∷ []) b → d ≡ put_over 2 (to_be_bytes w32 h.rebuilt) c → e ≡ put_over 6 (to_be_bytes w64 h.first) d → f ≡ put_over 14 (to_be_bytes w64 h.base_time) e
+pub first_written : (h : Head) (a b c d e f : List ℕ) → length a ≡ 62 → b ≡ put_over 0 (h.version ∷ []) a → c ≡ put_over 1 (lost_byte h.lost ∷ []) b
+    → d ≡ put_over 2 (to_be_bytes w32 h.rebuilt) c → e ≡ put_over 6 (to_be_bytes w64 h.first) d → f ≡ put_over 14 (to_be_bytes w64 h.base_time) e
     → Written 62 22 (h.version ∷ lost_byte h.lost ∷ to_be_bytes w32 h.rebuilt ++ to_be_bytes w64 h.first ++ to_be_bytes w64 h.base_time) f
 first_written h a b c d e f len version lost rebuilt first base_time =
     let none = written_none 62 a len in
@@ -25,7 +26,9 @@ first_written h a b c d e f len version lost rebuilt first base_time =
     written_more 62 14 _ (to_be_bytes w64 h.base_time) e f four (omega arith) base_time
 
 -- and the rest
-pub head_written : (h : Head) (f a b c d e : List ℕ) → Written 62 22 (h.version ∷ lost_byte h.lost ∷ to_be_bytes w32 h.rebuilt ++ to_be_bytes w64 h.first ++ to_be_bytes w64 h.base_time) f → a ≡ put_over 22 (to_be_bytes w64 h.first_off) f → b ≡ put_over 30 (to_be_bytes w64 h.last) a → c ≡ put_over 38 (to_be_bytes w64 h.end_off) b → d ≡ put_over 46 (to_be_bytes w64 h.drained) c → e ≡ put_over 54 (to_be_bytes w64 h.last_time) d → e ≡ head_value h
+pub head_written : (h : Head) (f a b c d e : List ℕ) → Written 62 22 (h.version ∷ lost_byte h.lost ∷ to_be_bytes w32 h.rebuilt ++ to_be_bytes w64 h.first ++ to_be_bytes
+    w64 h.base_time) f → a ≡ put_over 22 (to_be_bytes w64 h.first_off) f → b ≡ put_over 30 (to_be_bytes w64 h.last) a → c ≡ put_over 38 (to_be_bytes w64 h.end_off) b
+    → d ≡ put_over 46 (to_be_bytes w64 h.drained) c → e ≡ put_over 54 (to_be_bytes w64 h.last_time) d → e ≡ head_value h
 head_written h f a b c d e written first_off last end_off drained last_time =
     let six = written_more 62 22 _ (to_be_bytes w64 h.first_off) f a written (omega arith) first_off in
     let seven = written_more 62 30 _ (to_be_bytes w64 h.last) a b six (omega arith) last in
@@ -75,8 +78,33 @@ lost_same None (Some b) e = let none : 0 ≡ b + 1 = e in absurd (omega arith)
 lost_same (Some a) None e = let none : a + 1 ≡ 0 = e in absurd (omega arith)
 lost_same (Some a) (Some b) e = let both : a + 1 ≡ b + 1 = e in let same : a ≡ b = omega arith in ap Some same
 
-same_fields : (version v : ℕ) (lost o : Option ℕ) (rebuilt r first f base_time b first_off fo last l end_off eo drained d last_time lt : ℕ) → version ≡ v → lost ≡ o → rebuilt ≡ r → first ≡ f → base_time ≡ b → first_off ≡ fo → last ≡ l → end_off ≡ eo → drained ≡ d → last_time ≡ lt
-    → ◌≡◌ {A = Head} (record { version = version; lost = lost; rebuilt = rebuilt; first = first; base_time = base_time; first_off = first_off; last = last; end_off = end_off; drained = drained; last_time = last_time }) (record { version = v; lost = o; rebuilt = r; first = f; base_time = b; first_off = fo; last = l; end_off = eo; drained = d; last_time = lt })
+same_fields : (version v : ℕ) (lost o : Option ℕ) (rebuilt r first f base_time b first_off fo last l end_off eo drained d last_time lt : ℕ) → version ≡ v → lost ≡ o
+    → rebuilt ≡ r → first ≡ f → base_time ≡ b → first_off ≡ fo → last ≡ l → end_off ≡ eo → drained ≡ d → last_time ≡ lt
+    → ◌≡◌ {A = Head} (record {
+      version = version;
+      lost = lost;
+      rebuilt = rebuilt;
+      first = first;
+      base_time = base_time;
+      first_off = first_off;
+      last = last;
+      end_off =
+          end_off;
+      drained = drained;
+      last_time = last_time;
+    }) (record {
+      version = v;
+      lost = o;
+      rebuilt = r;
+      first = f;
+      base_time = b;
+      first_off = fo;
+      last = l;
+      end_off =
+          eo;
+      drained = d;
+      last_time = lt;
+    })
 same_fields version v lost o rebuilt r first f base_time b first_off fo last l end_off eo drained d last_time lt p1 p2 p3 p4 p5 p6 p7 p8 p9 p10 = cc
 
 -- heads with one value are one

@@ -13,7 +13,8 @@ use Rattle.trap_format.proofs.Written.{Written, written_none, written_more, writ
 use Rattle.trap_format.proofs.Cuts.{piece, byte_is, front}
 
 -- the first half of the header
-pub first_written : (g : Geometry) (a b c d e f : List ℕ) → length a ≡ 64 → b ≡ put_over 0 log_start a → c ≡ put_over 5 (to_be_bytes w64 g.id) b → d ≡ put_over 13 (g.members ∷ []) c → e ≡ put_over 14 (g.chunk ∷ []) d → f ≡ put_over 15 (to_be_bytes w16 g.block) e
+pub first_written : (g : Geometry) (a b c d e f : List ℕ) → length a ≡ 64 → b ≡ put_over 0 log_start a → c ≡ put_over 5 (to_be_bytes w64 g.id) b
+    → d ≡ put_over 13 (g.members ∷ []) c → e ≡ put_over 14 (g.chunk ∷ []) d → f ≡ put_over 15 (to_be_bytes w16 g.block) e
     → Written 64 17 (log_start ++ to_be_bytes w64 g.id ++ (g.members ∷ g.chunk ∷ to_be_bytes w16 g.block)) f
 first_written g a b c d e f len start id members chunk block =
     let none = written_none 64 a len in
@@ -24,7 +25,9 @@ first_written g a b c d e f len start id members chunk block =
     written_more 64 15 _ (to_be_bytes w16 g.block) e f fourth (omega arith) block
 
 -- and the rest
-pub log_written : (g : Geometry) (f a b c d e h : List ℕ) → Written 64 17 (log_start ++ to_be_bytes w64 g.id ++ (g.members ∷ g.chunk ∷ to_be_bytes w16 g.block)) f → a ≡ put_over 17 (to_be_bytes w32 g.rows) f → b ≡ put_over 21 (g.slots ∷ []) a → c ≡ put_over 22 (g.gap ∷ []) b → d ≡ put_over 23 (to_be_bytes w32 g.entries) c → e ≡ put_over 27 (to_be_bytes w64 g.ring) d → h ≡ put_over 35 (replicate 29 0) e → h ≡ log_header g
+pub log_written : (g : Geometry) (f a b c d e h : List ℕ) → Written 64 17 (log_start ++ to_be_bytes w64 g.id ++ (g.members ∷ g.chunk ∷ to_be_bytes w16 g.block)) f
+    → a ≡ put_over 17 (to_be_bytes w32 g.rows) f → b ≡ put_over 21 (g.slots ∷ []) a → c ≡ put_over 22 (g.gap ∷ []) b → d ≡ put_over 23 (to_be_bytes w32 g.entries) c
+    → e ≡ put_over 27 (to_be_bytes w64 g.ring) d → h ≡ put_over 35 (replicate 29 0) e → h ≡ log_header g
 log_written g f a b c d e h written rows slots gap entries ring zeros =
     let sixth = written_more 64 17 _ (to_be_bytes w32 g.rows) f a written (omega arith) rows in
     let seventh = written_more 64 21 _ (g.slots ∷ []) a b sixth (omega arith) slots in
@@ -34,7 +37,8 @@ log_written g f a b c d e h written rows slots gap entries ring zeros =
     written_all 64 _ h (written_more 64 35 _ (replicate 29 0) e h tenth (omega arith) zeros)
 
 -- the header that was read is that of the numbers at its places
-pub log_read : (bytes : List ℕ) (g : Geometry) (asked : Asked) → length bytes ≡ 64 → take 5 bytes ≡ log_start → drop 35 bytes ≡ replicate (length bytes - 35) 0 → StandsIn bytes asked → HasNumbers g asked → bytes ≡ log_header g
+pub log_read : (bytes : List ℕ) (g : Geometry) (asked : Asked) → length bytes ≡ 64 → take 5 bytes ≡ log_start → drop 35 bytes ≡ replicate (length bytes - 35) 0
+    → StandsIn bytes asked → HasNumbers g asked → bytes ≡ log_header g
 log_read bytes g asked len start zeros at same =
     let last : drop 35 bytes ≡ replicate 29 0 = zeros ∙ ap (λ (n : ℕ). replicate (n - 35) 0) len in
     let ring = piece bytes (to_be_bytes w64 g.ring) _ 27 35 (omega arith) (ap (to_be_bytes w64) same.ring ∙ at.ring) last in
@@ -52,8 +56,10 @@ log_read bytes g asked len start zeros at same =
 abbrev numbers_of : Geometry → ℕ → Asked
 numbers_of g id = record { id = id; members = g.members; chunk = g.chunk; block = g.block; rows = g.rows; slots = g.slots; gap = g.gap; entries = g.entries; ring = g.ring }
 
-same_asked : (id : ℕ) (members me : ℕ) (chunk ch : ℕ) (block bl : ℕ) (rows ro : ℕ) (slots sl : ℕ) (gap ga : ℕ) (entries en : ℕ) (ring ri : ℕ) → members ≡ me → chunk ≡ ch → block ≡ bl → rows ≡ ro → slots ≡ sl → gap ≡ ga → entries ≡ en → ring ≡ ri
-    → ◌≡◌ {A = Asked} (record { id = id; members = members; chunk = chunk; block = block; rows = rows; slots = slots; gap = gap; entries = entries; ring = ring }) (record { id = id; members = me; chunk = ch; block = bl; rows = ro; slots = sl; gap = ga; entries = en; ring = ri })
+same_asked : (id : ℕ) (members me : ℕ) (chunk ch : ℕ) (block bl : ℕ) (rows ro : ℕ) (slots sl : ℕ) (gap ga : ℕ) (entries en : ℕ) (ring ri : ℕ) → members ≡ me → chunk ≡ ch
+    → block ≡ bl → rows ≡ ro → slots ≡ sl → gap ≡ ga → entries ≡ en → ring ≡ ri
+    → ◌≡◌ {A = Asked} (record { id = id; members = members; chunk = chunk; block = block; rows = rows; slots = slots; gap = gap; entries = entries; ring = ring })
+    (record { id = id; members = me; chunk = ch; block = bl; rows = ro; slots = sl; gap = ga; entries = en; ring = ri })
 same_asked id members me chunk ch block bl rows ro slots sl gap ga entries en ring ri members_is chunk_is block_is rows_is slots_is gap_is entries_is ring_is = cc
 
 -- where the bytes are the header of an array, the numbers at its places break no limit

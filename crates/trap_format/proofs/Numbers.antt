@@ -72,7 +72,8 @@ none_broken asked is one =
     not_found (keeps asked Members) Members _ (between_from 3 16 asked.members is.members_least is.members_most)
     (not_found (keeps asked Chunk) Chunk _ (between_from 1 128 asked.chunk is.chunk_least is.chunk_most)
     (not_found (keeps asked Block) Block _ is.block_size
-    (not_found (keeps asked Rows) Rows _ (and_from (is_between asked.chunk (2 ^ 20) asked.rows) (asked.rows % asked.chunk == 0) (between_from asked.chunk (2 ^ 20) asked.rows is.rows_least is.rows_most) (eq-eqb (asked.rows % asked.chunk) 0 is.whole_chunks))
+    (not_found (keeps asked Rows) Rows _ (and_from (is_between asked.chunk (2 ^ 20) asked.rows) (asked.rows % asked.chunk == 0)
+    (between_from asked.chunk (2 ^ 20) asked.rows is.rows_least is.rows_most) (eq-eqb (asked.rows % asked.chunk) 0 is.whole_chunks))
     (not_found (keeps asked Volume) Volume _ (le-leb (asked.rows * (asked.members - 1)) (2 ^ 20) is.volume_most)
     (not_found (keeps asked Slots) Slots _ (eq-eqb asked.slots 1 one)
     (not_found (keeps asked Gap) Gap _ (between_from 2 255 asked.gap is.gap_least is.gap_most)

@@ -18,24 +18,46 @@ limits_prop : (members chunk block rows slots gap entries ring : ℕ) → IsProp
 limits_prop members chunk block rows slots gap entries ring = hlevel (le_prop, ℕ_set, Bool-set)
 
 abbrev geometry : (id members chunk block rows slots gap entries ring : ℕ) → AreWithinLimits members chunk block rows slots gap entries ring → Geometry
-geometry id members chunk block rows slots gap entries ring within = record { id = id; members = members; chunk = chunk; block = block; rows = rows; slots = slots; gap = gap; entries = entries; ring = ring; within = within }
+geometry id members chunk block rows slots gap entries ring within = record {
+  id = id;
+  members = members;
+  chunk = chunk;
+  block = block;
+  rows = rows;
+  slots = slots;
+  gap =
+      gap;
+  entries = entries;
+  ring = ring;
+  within = within;
+}
 
 -- so an array's numbers are all that it is
-same_numbers : (id i members m chunk c block b rows r slots s gap ga entries e ring ri : ℕ) → id ≡ i → members ≡ m → chunk ≡ c → block ≡ b → rows ≡ r → slots ≡ s → gap ≡ ga → entries ≡ e → ring ≡ ri → (w : AreWithinLimits members chunk block rows slots gap entries ring) (v : AreWithinLimits m c b r s ga e ri) → geometry id members chunk block rows slots gap entries ring w ≡ geometry i m c b r s ga e ri v
+same_numbers : (id i members m chunk c block b rows r slots s gap ga entries e ring ri : ℕ) → id ≡ i → members ≡ m → chunk ≡ c → block ≡ b → rows ≡ r → slots ≡ s
+    → gap ≡ ga → entries ≡ e → ring ≡ ri → (w : AreWithinLimits members chunk block rows slots gap entries ring) (v : AreWithinLimits m c b r s ga e ri)
+    → geometry id members chunk block rows slots gap entries ring w ≡ geometry i m c b r s ga e ri v
 same_numbers id i members m chunk c block b rows r slots s gap ga entries e ring ri p1 p2 p3 p4 p5 p6 p7 p8 p9 w =
-    let from0 : (v : AreWithinLimits members chunk block rows slots gap entries ring) → geometry id members chunk block rows slots gap entries ring w ≡ geometry id members chunk block rows slots gap entries ring v =
+    let from0 : (v : AreWithinLimits members chunk block rows slots gap entries ring) → geometry id members chunk block rows slots gap entries ring w ≡ geometry id
+    members chunk block rows slots gap entries ring v =
     λ v. ap (geometry id members chunk block rows slots gap entries ring) (limits_prop members chunk block rows slots gap entries ring w v) in
-    let from1 = subst (λ (x : ℕ). (v : AreWithinLimits members chunk block rows slots gap entries ring) → geometry id members chunk block rows slots gap entries ring w ≡ geometry x members chunk block rows slots gap entries ring v) p1 from0 in
-    let from2 = subst (λ (x : ℕ). (v : AreWithinLimits x chunk block rows slots gap entries ring) → geometry id members chunk block rows slots gap entries ring w ≡ geometry i x chunk block rows slots gap entries ring v) p2 from1 in
-    let from3 = subst (λ (x : ℕ). (v : AreWithinLimits m x block rows slots gap entries ring) → geometry id members chunk block rows slots gap entries ring w ≡ geometry i m x block rows slots gap entries ring v) p3 from2 in
-    let from4 = subst (λ (x : ℕ). (v : AreWithinLimits m c x rows slots gap entries ring) → geometry id members chunk block rows slots gap entries ring w ≡ geometry i m c x rows slots gap entries ring v) p4 from3 in
-    let from5 = subst (λ (x : ℕ). (v : AreWithinLimits m c b x slots gap entries ring) → geometry id members chunk block rows slots gap entries ring w ≡ geometry i m c b x slots gap entries ring v) p5 from4 in
-    let from6 = subst (λ (x : ℕ). (v : AreWithinLimits m c b r x gap entries ring) → geometry id members chunk block rows slots gap entries ring w ≡ geometry i m c b r x gap entries ring v) p6 from5 in
+    let from1 = subst (λ (x : ℕ). (v : AreWithinLimits members chunk block rows slots gap entries ring)
+    → geometry id members chunk block rows slots gap entries ring w ≡ geometry x members chunk block rows slots gap entries ring v) p1 from0 in
+    let from2 = subst (λ (x : ℕ). (v : AreWithinLimits x chunk block rows slots gap entries ring)
+    → geometry id members chunk block rows slots gap entries ring w ≡ geometry i x chunk block rows slots gap entries ring v) p2 from1 in
+    let from3 = subst (λ (x : ℕ). (v : AreWithinLimits m x block rows slots gap entries ring)
+    → geometry id members chunk block rows slots gap entries ring w ≡ geometry i m x block rows slots gap entries ring v) p3 from2 in
+    let from4 = subst (λ (x : ℕ). (v : AreWithinLimits m c x rows slots gap entries ring) → geometry id members chunk block rows slots gap entries ring w ≡ geometry i m c
+    x rows slots gap entries ring v) p4 from3 in
+    let from5 = subst (λ (x : ℕ). (v : AreWithinLimits m c b x slots gap entries ring) → geometry id members chunk block rows slots gap entries ring w ≡ geometry i m c b
+    x slots gap entries ring v) p5 from4 in
+    let from6 = subst (λ (x : ℕ). (v : AreWithinLimits m c b r x gap entries ring) → geometry id members chunk block rows slots gap entries ring w ≡ geometry i m c b r x
+    gap entries ring v) p6 from5 in
     let from7 = subst (λ (x : ℕ). (v : AreWithinLimits m c b r s x entries ring) → geometry id members chunk block rows slots gap entries ring w ≡ geometry i m c b r s x entries ring v) p7 from6 in
     let from8 = subst (λ (x : ℕ). (v : AreWithinLimits m c b r s ga x ring) → geometry id members chunk block rows slots gap entries ring w ≡ geometry i m c b r s ga x ring v) p8 from7 in
     subst (λ (x : ℕ). (v : AreWithinLimits m c b r s ga e x) → geometry id members chunk block rows slots gap entries ring w ≡ geometry i m c b r s ga e x v) p9 from8
 
-pub same_geometry : (g h : Geometry) → g.id ≡ h.id → g.members ≡ h.members → g.chunk ≡ h.chunk → g.block ≡ h.block → g.rows ≡ h.rows → g.slots ≡ h.slots → g.gap ≡ h.gap → g.entries ≡ h.entries → g.ring ≡ h.ring → g ≡ h
+pub same_geometry : (g h : Geometry) → g.id ≡ h.id → g.members ≡ h.members → g.chunk ≡ h.chunk → g.block ≡ h.block → g.rows ≡ h.rows → g.slots ≡ h.slots → g.gap ≡ h.gap
+    → g.entries ≡ h.entries → g.ring ≡ h.ring → g ≡ h
 same_geometry g h p1 p2 p3 p4 p5 p6 p7 p8 p9 = same_numbers _ _ _ _ _ _ _ _ _ _ _ _ _ _ _ _ _ _ p1 p2 p3 p4 p5 p6 p7 p8 p9 g.within h.within
 
 pub logs_same : (g h : Geometry) (bytes : List ℕ) → g.id < 2 ^ 64 → h.id < 2 ^ 64 → IsLogHeader g bytes → IsLogHeader h bytes → g ≡ h

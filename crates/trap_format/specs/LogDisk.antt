@@ -1,6 +1,7 @@
 -- The log's disk: its size, and its header.
 use Rattle.std.specs.Prelude.{◌≡◌, ℕ, ◌+◌, ◌*◌, ◌^◌, ◌<◌, List, ◌∷◌, ◌++◌, replicate, codes, slice_index, slice_range}
 use Rattle.std.specs.Int.{w16, w32, w64, to_be_bytes}
+use Rattle.trap_model.specs.Limits.{open_gate}
 use Rattle.trap_model.specs.declared.asked.Asked.{Asked}
 use Rattle.trap_model.specs.declared.numbers.Geometry.{Geometry}
 
@@ -25,7 +26,7 @@ log_size g = ring_at g + g.ring
 
 -- an open gate and the magic bytes
 abbrev pub log_start : List ℕ
-log_start = 165 ∷ codes "TRPL"
+log_start = open_gate ∷ codes "TRPL"
 
 -- the 64 bytes of the header
 abbrev pub log_header : Geometry → List ℕ

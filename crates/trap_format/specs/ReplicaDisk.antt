@@ -1,7 +1,7 @@
 -- The replica's disk: its size, and its header.
 use Rattle.std.specs.Prelude.{◌≡◌, ℕ, ◌+◌, ◌*◌, ◌^◌, List, ◌∷◌, ◌++◌, replicate, codes, Option, Some, None, not, nat_le, if◌then◌else◌}
 use Rattle.std.specs.Int.{w16, w32, w64, to_be_bytes}
-use Rattle.trap_model.specs.Limits.{is_block_size}
+use Rattle.trap_model.specs.Limits.{open_gate, is_block_size}
 use Rattle.trap_format.specs.Checked.{is_between}
 use Rattle.trap_format.specs.declared.limits.Field.{Field}
 use Rattle.trap_format.specs.declared.limits.Field.TheVariants.{Block, Volume, Seq}
@@ -38,7 +38,7 @@ replica_size s = home_at s s.volume
 
 -- an open gate and the magic bytes
 abbrev pub replica_start : List ℕ
-replica_start = 165 ∷ codes "TRPR"
+replica_start = open_gate ∷ codes "TRPR"
 
 -- the 32 bytes of the header, of version 1
 abbrev pub replica_header : Shape → List ℕ

@@ -1,7 +1,7 @@
 //! Where things stand on an array's disks: byte offsets, and lengths in bytes.
 
 /// The first byte of what is whole: a header, or a slot of a cell.
-pub const OPEN_GATE: u8 = 0xa5;
+pub use trap_model::OPEN_GATE;
 
 /// The log's header, at the front of its disk.
 pub const LOG_HEADER_BYTES: u64 = 64;

@@ -11,7 +11,7 @@ use Rattle.trap_model.specs.Frame.{frame_magic, frame_header, SpellsFrame}
 use Rattle.trap_model.proofs.ZeroRuns.{ZeroRun-length}
 use Rattle.trap_frame.specs.Headers.{HasFrameFields}
 
--- a piece written behind what is done
+-- a piece written after what is done
 put-next : (done piece out : List ℕ) (at n : ℕ) → length done ≡ at → length piece ≡ n → put_over at piece (done ++ drop at out) ≡ (done ++ piece) ++ drop (at + n) out
 put-next done piece out at n len size =
     ap (λ (l : List ℕ). l ++ piece ++ drop (at + length piece) (done ++ drop at out)) (take_at done (drop at out) at len)
@@ -33,7 +33,7 @@ frame_header-put f out a b c d e g magic id seq time block len =
     let fourth = block ∙ ap (λ (l : List ℕ). put_over 28 (to_be_bytes w32 f.block) l) third ∙ put-next z (to_be_bytes w32 f.block) out 28 4 refl refl in
     len ∙ ap (λ (l : List ℕ). put_over 32 (to_be_bytes w16 f.length) l) fourth ∙ put-next u (to_be_bytes w16 f.length) out 32 2 refl refl
 
--- what stands from a place on is a piece, and what stands behind it
+-- what stands from a place on is a piece, and what stands after it
 piece : (xs p rest : List ℕ) (at end : ℕ) → at ≤ end → p ≡ slice_range xs at end → drop end xs ≡ rest → drop at xs ≡ p ++ rest
 piece xs p rest at end low is behind =
     drop_split xs at end low ∙ ap (λ (q : List ℕ). q ++ drop end xs) (sym is) ∙ ap (λ (r : List ℕ). p ++ r) behind
@@ -48,7 +48,7 @@ frame_header-read bytes f magic at =
     let id = piece bytes (to_be_bytes w64 f.id) _ 4 12 (omega arith) at.id seq in
     sym (take-append-drop 4 bytes) ∙ ap (λ (q : List ℕ). q ++ drop 4 bytes) magic ∙ ap (λ (r : List ℕ). frame_magic ++ r) id
 
--- the code behind the header
+-- the code after the header
 pub code-put : (out head rest code : List ℕ) (k : ℕ) → out ≡ head ++ rest → length head ≡ 34 → 34 + length code ≤ length out → take (34 + length code) (put_mid 34 k out code) ≡ head ++ code
 code-put out head rest code k is len room =
     take-put_mid 34 k out code (34 + length code) refl (omega arith) ∙ ap (λ (l : List ℕ). take 34 l ++ code) is ∙ ap (λ (l : List ℕ). l ++ code) (take_at head rest 34 len)

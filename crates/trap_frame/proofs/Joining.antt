@@ -47,7 +47,8 @@ pub record TakenFrame (size : ℕ) (f : Frame) (head code : List ℕ) (u w : ℕ
   pub took : TakesBytes (head ++ code) u w s r
   pub earlier : s.faults ≤ t.faults
 
-pub taken_frame : (size : ℕ) (f : Frame) (buf head code : List ℕ) (u v w : ℕ) (s t r : Stream) → length head ≡ 34 → take (length head) buf ≡ head → BeginsFrame size f buf → TakesBytes head u v s t → TakesBytes code v w t r
+pub taken_frame : (size : ℕ) (f : Frame) (buf head code : List ℕ) (u v w : ℕ) (s t r : Stream) → length head ≡ 34 → take (length head) buf ≡ head → BeginsFrame size f buf
+    → TakesBytes head u v s t → TakesBytes code v w t r
     → TakenFrame size f head code u w s t r
 taken_frame size f buf head code u v w s t r len there begins first second =
     let both = begins_front size f buf head code begins (subst (λ n. take n buf ≡ head) len there) in
@@ -59,13 +60,14 @@ taken_frame size f buf head code u v w s t r len there begins first second =
       earlier = first.faults;
     }
 
--- the code stands behind the header
+-- the code stands after the header
 code_of_parts : (f : Frame) (head code : List ℕ) → head ≡ frame_header f → length code ≡ f.length → code_in f (head ++ code) ≡ code
 code_of_parts f head code is len =
     ap (λ (l : List ℕ). take (34 + f.length - 34) (drop 34 (l ++ code))) is ∙ take_all (34 + f.length - 34) code (omega arith)
 
 -- no more bytes of the frame came
-pub finds_stop : (size : ℕ) (fault : FrameFault) (stop : Stop) (bytes : List ℕ) (u w : ℕ) (s r : Stream) (before : ℕ) → IsFaultAtStop fault stop → IsPart size bytes → TakesBytes bytes u w s r → s.faults ≤ before
+pub finds_stop : (size : ℕ) (fault : FrameFault) (stop : Stop) (bytes : List ℕ) (u w : ℕ) (s r : Stream) (before : ℕ) → IsFaultAtStop fault stop → IsPart size bytes
+    → TakesBytes bytes u w s r → s.faults ≤ before
     → Stops stop w (record s { faults = before }) r → FindsNoFrame size fault u w s r
 finds_stop size fault Source bytes u w s r before is part took earlier stops =
     subst (λ x. FindsNoFrame size x u w s r) (sym is) (bytes, part, took, omega (arith, stops))
@@ -111,7 +113,8 @@ code_whole size f head code parity bytes len u w s t r taken same long is sized 
   spelled = ap (λ (l : List ℕ). l ++ code) taken.head_is;
 }
 
-pub code_bad : (size : ℕ) (f : Frame) (head code bytes : List ℕ) (len at u w : ℕ) (s t r : Stream) → size < 2 ^ 15 → TakenFrame size f head code u w s t r → len ≡ f.length → length code ≡ len → bytes ≡ code
+pub code_bad : (size : ℕ) (f : Frame) (head code bytes : List ℕ) (len at u w : ℕ) (s t r : Stream) → size < 2 ^ 15 → TakenFrame size f head code u w s t r
+    → len ≡ f.length → length code ≡ len → bytes ≡ code
     → IsRefused size bytes at → IsBadFrame size (head ++ code)
 code_bad size f head code bytes len at u w s t r small taken same long is refused =
     let all = taken.len in
@@ -127,7 +130,8 @@ code_bad size f head code bytes len at u w s t r small taken same long is refuse
     )
 
 -- no more was taken than the longest frame has
-pub frame_most : (size : ℕ) (f : Frame) (head code : List ℕ) (len u w : ℕ) (s t r : Stream) → TakenFrame size f head code u w s t r → len ≡ f.length → length code ≡ len → length (head ++ code) ≤ size + 41
+pub frame_most : (size : ℕ) (f : Frame) (head code : List ℕ) (len u w : ℕ) (s t r : Stream) → TakenFrame size f head code u w s t r → len ≡ f.length → length code ≡ len
+    → length (head ++ code) ≤ size + 41
 frame_most size f head code len u w s t r taken same long =
     let all = taken.len in
     let most = taken.begins.ranges.most in

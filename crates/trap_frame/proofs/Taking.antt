@@ -64,7 +64,8 @@ fill_stops front room u v s t r TooLong took few none faults most = record {
 }
 
 -- the input ended
-pub fill_ends : (front : List ℕ) (room have u v count : ℕ) (bytes : List ℕ) (s t r : Stream) → TakesBytes front u v s t → length front ≤ room → have ≡ length front → Gave (take count bytes) count t r → count ≡ 0
+pub fill_ends : (front : List ℕ) (room have u v count : ℕ) (bytes : List ℕ) (s t r : Stream) → TakesBytes front u v s t → length front ≤ room → have ≡ length front
+    → Gave (take count bytes) count t r → count ≡ 0
     → t.faults ≤ r.faults → v < 2 ^ 40 → FillsBuffer front room (Ok have) u v s r
 fill_ends front room have u v count bytes s t r took within is gave none faults most =
     let empty : Gave [] 0 t r = subst (λ n. Gave (take n bytes) n t r) none gave in
@@ -82,7 +83,7 @@ fill_ends front room have u v count bytes s t r took within is gave none faults 
       ended = (is, λ few. record { left = empty.at_end refl; ended = empty.ended; more = most });
     }
 
--- one more piece in the buffer, behind the front
+-- one more piece in the buffer, after the front
 pub piece_there : (front old new : List ℕ) (start at count : ℕ) → take (length front) (drop start old) ≡ front → start + length front ≡ at → take at new ≡ take at old → at + count ≤ length new
     → (length (take count (drop at new)) ≡ count) × (take (length (front ++ take count (drop at new))) (drop start new) ≡ front ++ take count (drop at new))
 piece_there front old new start at count there place same inside =

@@ -17,7 +17,7 @@ use Rattle.trap_model.specs.Size.{size_over}
 use Rattle.trap_model.specs.State as state
 use Rattle.trap_model.specs.State.{fresh, image, image_at, image_by, kept, last, up_to}
 use Rattle.trap_model.proofs.Records.{length-record_of, length-records_from, records_from-append}
-use Rattle.trap_index.specs.Indexed.{Indexed, nothing_indexed, with_record, dropped_to, time_behind, last_seq, last_time, recs_len, rec_len, of_block, newest, no_rec, rec_at, item_at, IsLastBy, path_to}
+use Rattle.trap_index.specs.Indexed.{Indexed, nothing_indexed, with_record, dropped_to, time_of_last, last_seq, last_time, recs_len, rec_len, of_block, newest, no_rec, rec_at, item_at, IsLastBy, path_to}
 use Rattle.trap_index.specs.Describes.{headers_from, headers, Describes, IsLastOf, block_before, IsItemOf}
 use Rattle.trap_index.proofs.Numbered.{numbered-take}
 use Rattle.trap_index.proofs.Chains.{IsNewest, HasNone, newest_cases, of_block_parts, none_of_block}
@@ -43,7 +43,7 @@ describes-dropped i s q is low high =
     ap (λ (n : ℕ). take n i.recs) at ∙ ap (take d) is.recs ∙ headers-take s.base s.first d s.entries in
     record {
       first = refl;
-      base_time = ap (λ (t : ℕ). time_behind t (take (q - i.first) i.recs)) is.base_time ∙ ap (time_behind s.base_time) fronts
+      base_time = ap (λ (t : ℕ). time_of_last t (take (q - i.first) i.recs)) is.base_time ∙ ap (time_of_last s.base_time) fronts
           ∙ headers-time s.base s.first s.base_time (take d s.entries);
       recs = ap (λ (n : ℕ). drop n i.recs) at ∙ ap (drop d) is.recs ∙ headers-drop s.base s.first d s.entries (omega arith)
           ∙ ap (λ (n : ℕ). headers_from (image_at s q) n (drop d s.entries)) (let same : s.first + d ≡ q = omega arith in same);
@@ -56,7 +56,7 @@ last_told i s is =
     omega arith
 
 pub time_told : (i : Indexed) (s : State) → Describes i s → last_time i ≡ state.last_time s
-time_told i s is = ap (λ (t : ℕ). time_behind t i.recs) is.base_time ∙ ap (time_behind s.base_time) is.recs ∙ headers-time s.base s.first s.base_time s.entries
+time_told i s is = ap (λ (t : ℕ). time_of_last t i.recs) is.base_time ∙ ap (time_of_last s.base_time) is.recs ∙ headers-time s.base s.first s.base_time s.entries
 
 pub bytes_told : (i : Indexed) (s : State) → Describes i s → recs_len i.recs ≡ kept s
 bytes_told i s is = ap recs_len is.recs ∙ headers-len s.base s.first s.entries
@@ -153,8 +153,9 @@ item_told i s q is low high =
           (newest_told s (entry_at s q).block k (omega arith)));
     }
 
--- the record of a number stands behind those of the entries before it
-pub record_told : (i : Indexed) (s : State) (q : ℕ) → Describes i s → s.first < q → q ≤ last s → take (rec_len (rec_at i q)) (drop ((item_at i q).off - i.first_off) (records s)) ≡ record_of q (block_before s q) (entry_at s q)
+-- the record of a number stands after those of the entries before it
+pub record_told : (i : Indexed) (s : State) (q : ℕ) → Describes i s → s.first < q → q ≤ last s
+    → take (rec_len (rec_at i q)) (drop ((item_at i q).off - i.first_off) (records s)) ≡ record_of q (block_before s q) (entry_at s q)
 record_told i s q is low high =
     let k = q - (s.first + 1) in
     let before : q - 1 - s.first ≡ k = omega arith in
@@ -183,16 +184,19 @@ record_told i s q is low high =
     ∙ take_at (record_of q old entry) rest (rec_len (rec_at i q)) one
 
 -- the first so many entries are those by a time
-by_time : (xs : List Entry) (t k : ℕ) → k ≤ length xs → ((j : ℕ) → j < k → (get_or xs j no_entry).time ≤ t) → ((j : ℕ) → k ≤ j → j < length xs → t < (get_or xs j no_entry).time) → filter (λ (entry : Entry). nat_le entry.time t) xs ≡ take k xs
+by_time : (xs : List Entry) (t k : ℕ) → k ≤ length xs → ((j : ℕ) → j < k → (get_or xs j no_entry).time ≤ t)
+    → ((j : ℕ) → k ≤ j → j < length xs → t < (get_or xs j no_entry).time) → filter (λ (entry : Entry). nat_le entry.time t) xs ≡ take k xs
 by_time [] t zero within by later = refl
 by_time [] t (suc k) within by later = refl
 by_time (x ∷ xs) t zero within by later =
     let late : nat_le x.time t ≡ false = lt-leb x.time t (later 0 (omega arith) (omega arith)) in
-    let rest : filter (λ (entry : Entry). nat_le entry.time t) xs ≡ [] = by_time xs t zero (omega arith) (λ j below. absurd (omega arith)) (λ j above inside. later (suc j) (omega arith) (omega arith)) in
+    let rest : filter (λ (entry : Entry). nat_le entry.time t) xs ≡ [] = by_time xs t zero (omega arith) (λ j below. absurd (omega arith))
+    (λ j above inside. later (suc j) (omega arith) (omega arith)) in
     rw late rest
 by_time (x ∷ xs) t (suc k) within by later =
     let early : nat_le x.time t ≡ true = le-leb x.time t (by 0 (omega arith)) in
-    let rest : filter (λ (entry : Entry). nat_le entry.time t) xs ≡ take k xs = by_time xs t k (omega arith) (λ j below. by (suc j) (omega arith)) (λ j above inside. later (suc j) (omega arith) (omega arith)) in
+    let rest : filter (λ (entry : Entry). nat_le entry.time t) xs ≡ take k xs = by_time xs t k (omega arith) (λ j below. by (suc j) (omega arith))
+    (λ j above inside. later (suc j) (omega arith) (omega arith)) in
     rw early (ap (λ (l : List Entry). x ∷ l) rest)
 
 -- the image by a time is the one after the last number by that time

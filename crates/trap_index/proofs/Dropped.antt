@@ -4,9 +4,9 @@ use Rattle.std.proofs.lemmas.List.{get_or-drop, drop-take, take_all, take-take, 
 use Rattle.circular_buffer.specs.Buffer.{Buffer, buffer, keep_last}
 use Rattle.trap_model.specs.declared.log_record.LogRec.{LogRec}
 use Rattle.trap_index.specs.declared.item.Item.{Item}
-use Rattle.trap_index.specs.Indexed.{Indexed, dropped_to, last_seq, last_time, time_behind, recs_len, newest, no_rec, recs_up_to, recs_above, item_behind, item_at}
+use Rattle.trap_index.specs.Indexed.{Indexed, dropped_to, last_seq, last_time, time_of_last, recs_len, newest, no_rec, recs_up_to, recs_above, item_after, item_at}
 use Rattle.trap_index.specs.Keeping.{IsIndexed, KeepsItems, AreNumbered, recs_of, no_item, link, told}
-use Rattle.trap_index.proofs.Numbered.{length-recs_of, numbered-take, numbered-drop, times-drop, time_behind-parts, time_behind-at, recs_len-parts, recs_of-drop}
+use Rattle.trap_index.proofs.Numbered.{length-recs_of, numbered-take, numbered-drop, times-drop, time_of_last-parts, time_of_last-at, recs_len-parts, recs_of-drop}
 use Rattle.trap_index.proofs.Links.{link-twice, newest-drop}
 use Rattle.trap_index.proofs.Added.{item_made}
 
@@ -14,7 +14,8 @@ same_item : (rec rec' : LogRec) (off off' prev prev' : ℕ) → rec ≡ rec' →
 same_item rec rec' off off' prev prev' p q r = cc
 
 -- the item of a record that stays, with its link as it is read then
-item_stays : (first first_off : ℕ) (recs : List LogRec) (d k : ℕ) → AreNumbered first recs → d + k < length recs → told (first + d) (item_behind first_off (take (d + k) recs) (get_or recs (d + k) no_rec)) ≡ item_behind (first_off + recs_len (take d recs)) (take k (drop d recs)) (get_or (drop d recs) k no_rec)
+item_stays : (first first_off : ℕ) (recs : List LogRec) (d k : ℕ) → AreNumbered first recs → d + k < length recs
+    → told (first + d) (item_after first_off (take (d + k) recs) (get_or recs (d + k) no_rec)) ≡ item_after (first_off + recs_len (take d recs)) (take k (drop d recs)) (get_or (drop d recs) k no_rec)
 item_stays first first_off recs d k is inside =
     let rec = get_or recs (d + k) no_rec in
     let rec' = get_or (drop d recs) k no_rec in
@@ -32,12 +33,20 @@ item_stays first first_off recs d k is inside =
     ∙ ap (λ (r : LogRec). newest r.block (take k (drop d recs))) recs_are)
 
 -- what is kept of the records that stay
-pub kept_dropped : (i : Indexed) (items : List Item) (capacity : ℕ) (heads : List ℕ) (end_off last d : ℕ) → KeepsItems i items capacity heads end_off last → d ≤ length i.recs → KeepsItems (dropped_to i (i.first + d)) (drop d items) capacity heads end_off last
+pub kept_dropped : (i : Indexed) (items : List Item) (capacity : ℕ) (heads : List ℕ) (end_off last d : ℕ) → KeepsItems i items capacity heads end_off last
+    → d ≤ length i.recs → KeepsItems (dropped_to i (i.first + d)) (drop d items) capacity heads end_off last
 kept_dropped i items capacity heads end_off last d kept within =
     let was = kept.indexed in
     let q = i.first + d in
     let at : i.first + d - i.first ≡ d = omega arith in
-    let made : KeepsItems (record { g = i.g; first = q; base_time = time_behind i.base_time (take d i.recs); first_off = i.first_off + recs_len (take d i.recs); recs = drop d i.recs }) (drop d items) capacity heads end_off last = record {
+    let made : KeepsItems (record {
+      g = i.g;
+      first = q;
+      base_time = time_of_last i.base_time (take d i.recs);
+      first_off = i.first_off + recs_len (take d i.recs);
+      recs =
+          drop d i.recs;
+    }) (drop d items) capacity heads end_off last = record {
       indexed = record {
         few = (let few = was.few in let rest = length-drop d i.recs in omega arith);
         last_most = (let most = was.last_most in let rest = length-drop d i.recs in omega arith);
@@ -57,9 +66,15 @@ kept_dropped i items capacity heads end_off last d kept within =
           ∙ sym (newest-drop i.first block i.recs d was.numbers within);
       end = (let was_end = kept.end in let parts = recs_len-parts i.recs d in omega arith);
       end_most = (let was_most = kept.end_most in let rest = length-drop d i.recs in omega arith);
-      time = kept.time ∙ sym (time_behind-parts i.base_time i.recs d);
+      time = kept.time ∙ sym (time_of_last-parts i.base_time i.recs d);
     } in
-    subst (λ (n : ℕ). KeepsItems (record { g = i.g; first = q; base_time = time_behind i.base_time (take n i.recs); first_off = i.first_off + recs_len (take n i.recs); recs = drop n i.recs }) (drop d items) capacity heads end_off last) (sym at) made
+    subst (λ (n : ℕ). KeepsItems (record {
+      g = i.g;
+      first = q;
+      base_time = time_of_last i.base_time (take n i.recs);
+      first_off = i.first_off + recs_len (take n i.recs);
+      recs = drop n i.recs;
+    }) (drop d items) capacity heads end_off last) (sym at) made
   where
     told_twice : (first q : ℕ) (item : Item) → first ≤ q → told q item ≡ told q (told first item)
     told_twice first q item h = ap (λ (n : ℕ). record item { prev = n }) (sym (link-twice first q item.prev h))
@@ -69,7 +84,9 @@ pub record IsDroppedTo (i : Indexed) (q : ℕ) (new : Buffer Item) (heads : List
   pub recs : recs_of q new.items ≡ recs_above i q
   pub kept : KeepsItems (record (dropped_to i q) { recs = recs_of q new.items }) new.items new.capacity heads end_off last
 
-pub dropped : (i : Indexed) (items : Buffer Item) (heads : List ℕ) (end_off last q count : ℕ) (new : Buffer Item) → KeepsItems i items.items items.capacity heads end_off last → i.recs ≡ recs_of i.first items.items → i.first ≤ q → q ≤ last_seq i → count + q ≡ last_seq i → new ≡ buffer (keep_last count items.items) items.capacity → IsDroppedTo i q new heads end_off last
+pub dropped : (i : Indexed) (items : Buffer Item) (heads : List ℕ) (end_off last q count : ℕ) (new : Buffer Item)
+    → KeepsItems i items.items items.capacity heads end_off last → i.recs ≡ recs_of i.first items.items → i.first ≤ q → q ≤ last_seq i → count + q ≡ last_seq i
+    → new ≡ buffer (keep_last count items.items) items.capacity → IsDroppedTo i q new heads end_off last
 dropped i items heads end_off last q count new kept of low high counts new_is =
     let d = q - i.first in
     let long : length i.recs ≡ length items.items = ap (λ (l : List LogRec). length l) of ∙ length-recs_of i.first items.items in
@@ -88,14 +105,14 @@ dropped i items heads end_off last q count new kept of low high counts new_is =
           (subst (λ (l : List Item). KeepsItems (dropped_to i q) l items.capacity heads end_off last) (sym items_are) whole));
     }
 
--- ---- the numbers at the instant behind a record
-pub time_told_at : (i : Indexed) (q : ℕ) → i.first < q → q ≤ last_seq i → time_behind i.base_time (recs_up_to i q) ≡ (item_at i q).time
+-- ---- the numbers at the instant after a record
+pub time_told_at : (i : Indexed) (q : ℕ) → i.first < q → q ≤ last_seq i → time_of_last i.base_time (recs_up_to i q) ≡ (item_at i q).time
 time_told_at i q low high =
     let k = q - (i.first + 1) in
-    ap (λ (n : ℕ). time_behind i.base_time (take n i.recs)) (let one : q - i.first ≡ suc k = omega arith in one) ∙ time_behind-at i.base_time i.recs k (omega arith)
+    ap (λ (n : ℕ). time_of_last i.base_time (take n i.recs)) (let one : q - i.first ≡ suc k = omega arith in one) ∙ time_of_last-at i.base_time i.recs k (omega arith)
 
-pub time_at_first : (i : Indexed) (q : ℕ) → q ≡ i.first → time_behind i.base_time (recs_up_to i q) ≡ i.base_time
-time_at_first i q is = ap (λ (n : ℕ). time_behind i.base_time (take n i.recs)) (let none : q - i.first ≡ 0 = omega arith in none)
+pub time_at_first : (i : Indexed) (q : ℕ) → q ≡ i.first → time_of_last i.base_time (recs_up_to i q) ≡ i.base_time
+time_at_first i q is = ap (λ (n : ℕ). time_of_last i.base_time (take n i.recs)) (let none : q - i.first ≡ 0 = omega arith in none)
 
 pub off_told_at : (i : Indexed) (q : ℕ) → i.first ≤ q → (item_at i (q + 1)).off ≡ i.first_off + recs_len (recs_up_to i q)
 off_told_at i q low = ap (λ (n : ℕ). i.first_off + recs_len (take n i.recs)) (let same : q + 1 - (i.first + 1) ≡ q - i.first = omega arith in same)
@@ -108,7 +125,7 @@ pub last-dropped : (i : Indexed) (q : ℕ) → i.first ≤ q → q ≤ last_seq 
 last-dropped i q low high = let rest = length-drop (q - i.first) i.recs in omega arith
 
 pub last_time-dropped : (i : Indexed) (q : ℕ) → last_time (dropped_to i q) ≡ last_time i
-last_time-dropped i q = time_behind-parts i.base_time i.recs (q - i.first)
+last_time-dropped i q = time_of_last-parts i.base_time i.recs (q - i.first)
 
 pub bytes-dropped : (i : Indexed) (q : ℕ) → (dropped_to i q).first_off + recs_len (dropped_to i q).recs ≡ i.first_off + recs_len i.recs
 bytes-dropped i q = let parts = recs_len-parts i.recs (q - i.first) in omega arith
@@ -125,5 +142,5 @@ item-dropped i q n is low above high =
     let is_q : i.first + d ≡ q = omega arith in
     let at : d + k ≡ n - (i.first + 1) = omega arith in
     sym (item_stays i.first i.first_off i.recs d k is.numbers (omega arith))
-    ∙ ap (λ (m : ℕ). told m (item_behind i.first_off (take (d + k) i.recs) (get_or i.recs (d + k) no_rec))) is_q
-    ∙ ap (λ (m : ℕ). told q (item_behind i.first_off (take m i.recs) (get_or i.recs m no_rec))) at
+    ∙ ap (λ (m : ℕ). told m (item_after i.first_off (take (d + k) i.recs) (get_or i.recs (d + k) no_rec))) is_q
+    ∙ ap (λ (m : ℕ). told q (item_after i.first_off (take m i.recs) (get_or i.recs m no_rec))) at

@@ -22,7 +22,8 @@ last_time_least : (before : ℕ) (xs : List Entry) (e : Entry) → NeverFall bef
 last_time_least before [] e h = h.0
 last_time_least before (x ∷ xs) e h = last_time_least x.time xs e h.1
 
-pub next_told : (g : Geometry) (i : Indexed) (s : State) (e : Entry) → Describes i s → i.g ≡ g → IsValid g s → IsValid g (added s e) → e.time < 2 ^ 64 → IsNext i (rec_of (last s + 1) (block_of (image s) e.block) e)
+pub next_told : (g : Geometry) (i : Indexed) (s : State) (e : Entry) → Describes i s → i.g ≡ g → IsValid g s → IsValid g (added s e) → e.time < 2 ^ 64
+    → IsNext i (rec_of (last s + 1) (block_of (image s) e.block) e)
 next_told g i s e is same was valid time =
     let ends = last_told i s is in
     let times = time_told i s is in

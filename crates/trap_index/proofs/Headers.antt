@@ -7,7 +7,7 @@ use Rattle.trap_model.specs.Path as entries
 use Rattle.trap_model.specs.Records.{rec_of, no_entry}
 use Rattle.trap_model.specs.Size.{code_of, entry_size, size_over}
 use Rattle.trap_model.specs.State.{time_after}
-use Rattle.trap_index.specs.Indexed.{time_behind, rec_len, recs_len, of_block, no_rec}
+use Rattle.trap_index.specs.Indexed.{time_of_last, rec_len, recs_len, of_block, no_rec}
 use Rattle.trap_index.specs.Keeping.{AreNumbered}
 use Rattle.trap_index.specs.Describes.{headers_from}
 
@@ -20,12 +20,14 @@ headers-take image q zero xs = refl
 headers-take image q (suc k) [] = refl
 headers-take image q (suc k) (x ∷ xs) = ap (λ (l : List LogRec). rec_of (q + 1) (block_of image x.block) x ∷ l) (headers-take (written image x) (q + 1) k xs)
 
-pub headers-push : (image : List (List ℕ)) (q n : ℕ) (xs : List Entry) (x : Entry) → n ≡ q + length xs + 1 → headers_from image q (xs ++ x ∷ []) ≡ headers_from image q xs ++ rec_of n (block_of (image_after image xs) x.block) x ∷ []
+pub headers-push : (image : List (List ℕ)) (q n : ℕ) (xs : List Entry) (x : Entry) → n ≡ q + length xs + 1
+    → headers_from image q (xs ++ x ∷ []) ≡ headers_from image q xs ++ rec_of n (block_of (image_after image xs) x.block) x ∷ []
 headers-push image q n [] x is = ap (λ (k : ℕ). rec_of k (block_of image x.block) x ∷ []) (let same : q + 1 ≡ n = omega arith in same)
 headers-push image q n (y ∷ xs) x is = ap (λ (l : List LogRec). rec_of (q + 1) (block_of image y.block) y ∷ l) (headers-push (written image y) (q + 1) n xs x (omega arith))
 
 -- the header with so many before it
-pub headers-at : (image : List (List ℕ)) (q n k : ℕ) (xs : List Entry) → k < length xs → n ≡ q + 1 + k → get_or (headers_from image q xs) k no_rec ≡ rec_of n (block_of (image_after image (take k xs)) (get_or xs k no_entry).block) (get_or xs k no_entry)
+pub headers-at : (image : List (List ℕ)) (q n k : ℕ) (xs : List Entry) → k < length xs → n ≡ q + 1 + k
+    → get_or (headers_from image q xs) k no_rec ≡ rec_of n (block_of (image_after image (take k xs)) (get_or xs k no_entry).block) (get_or xs k no_entry)
 headers-at image q n k [] inside is = absurd (omega arith)
 headers-at image q n zero (x ∷ xs) inside is = ap (λ (m : ℕ). rec_of m (block_of image x.block) x) (let same : q + 1 ≡ n = omega arith in same)
 headers-at image q n (suc k) (x ∷ xs) inside is = headers-at (written image x) (q + 1) n k xs (omega arith) (omega arith)
@@ -34,7 +36,7 @@ pub headers-numbered : (image : List (List ℕ)) (q : ℕ) (xs : List Entry) →
 headers-numbered image q [] = tt
 headers-numbered image q (x ∷ xs) = (refl, headers-numbered (written image x) (q + 1) xs)
 
-pub headers-time : (image : List (List ℕ)) (q before : ℕ) (xs : List Entry) → time_behind before (headers_from image q xs) ≡ time_after before xs
+pub headers-time : (image : List (List ℕ)) (q before : ℕ) (xs : List Entry) → time_of_last before (headers_from image q xs) ≡ time_after before xs
 headers-time image q before [] = refl
 headers-time image q before (x ∷ xs) = headers-time (written image x) (q + 1) x.time xs
 
@@ -66,7 +68,7 @@ headers-of_block image q block zero (x ∷ xs) =
     (headers-of_block (written image x) (q + 1) block zero xs)
 headers-of_block image q block (suc k) (x ∷ xs) = headers-of_block (written image x) (q + 1) block k xs
 
--- those behind so many are of the entries behind so many
+-- those after so many are of the entries after so many
 pub headers-drop : (image : List (List ℕ)) (q d : ℕ) (xs : List Entry) → d ≤ length xs → drop d (headers_from image q xs) ≡ headers_from (image_after image (take d xs)) (q + d) (drop d xs)
 headers-drop image q zero xs within = ap (λ (n : ℕ). headers_from image n xs) (let same : q ≡ q + 0 = omega arith in same)
 headers-drop image q (suc d) [] within = absurd (omega arith)

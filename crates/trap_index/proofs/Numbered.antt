@@ -2,7 +2,7 @@
 use Rattle.std.proofs.Common.{◌≡◌, ℕ, zero, suc, ◌+◌, ◌<◌, ◌≤◌, List, [], ◌∷◌, ◌++◌, length, get_or, take, drop, refl, ap, ◌∙◌, subst, arith}
 use Rattle.trap_model.specs.declared.log_record.LogRec.{LogRec}
 use Rattle.trap_index.specs.declared.item.Item.{Item}
-use Rattle.trap_index.specs.Indexed.{time_behind, rec_len, recs_len, no_rec}
+use Rattle.trap_index.specs.Indexed.{time_of_last, rec_len, recs_len, no_rec}
 use Rattle.trap_index.specs.Keeping.{AreNumbered, TimesNeverFall, rec_of, recs_of}
 
 pub length-recs_of : (before : ℕ) (items : List Item) → length (recs_of before items) ≡ length items
@@ -31,13 +31,13 @@ seq_at before [] k is inside = absurd (omega arith)
 seq_at before (rec ∷ later) zero is inside = let first = is.0 in omega arith
 seq_at before (rec ∷ later) (suc k) is inside = let rest = seq_at (before + 1) later k is.1 (omega arith) in omega arith
 
-pub times-push : (before : ℕ) (recs : List LogRec) (rec : LogRec) → TimesNeverFall before recs → time_behind before recs ≤ rec.time → TimesNeverFall before (recs ++ rec ∷ [])
+pub times-push : (before : ℕ) (recs : List LogRec) (rec : LogRec) → TimesNeverFall before recs → time_of_last before recs ≤ rec.time → TimesNeverFall before (recs ++ rec ∷ [])
 times-push before [] rec h later = (later, tt)
 times-push before (x ∷ recs) rec h later = (h.0, times-push x.time recs rec h.1 later)
 
-pub time_behind-push : (before : ℕ) (recs : List LogRec) (rec : LogRec) → time_behind before (recs ++ rec ∷ []) ≡ rec.time
-time_behind-push before [] rec = refl
-time_behind-push before (x ∷ recs) rec = time_behind-push x.time recs rec
+pub time_of_last-push : (before : ℕ) (recs : List LogRec) (rec : LogRec) → time_of_last before (recs ++ rec ∷ []) ≡ rec.time
+time_of_last-push before [] rec = refl
+time_of_last-push before (x ∷ recs) rec = time_of_last-push x.time recs rec
 
 -- no time is below the one before all
 pub time_least : (before : ℕ) (recs : List LogRec) (k : ℕ) → TimesNeverFall before recs → k < length recs → before ≤ (get_or recs k no_rec).time
@@ -60,33 +60,33 @@ pub recs_len-push : (recs : List LogRec) (rec : LogRec) → recs_len (recs ++ re
 recs_len-push [] rec = omega arith
 recs_len-push (x ∷ recs) rec = let rest = recs_len-push recs rec in omega arith
 
--- ---- the first so many records, and those behind them
+-- ---- the first so many records, and those after them
 pub numbered-drop : (before : ℕ) (recs : List LogRec) (d : ℕ) → AreNumbered before recs → d ≤ length recs → AreNumbered (before + d) (drop d recs)
 numbered-drop before recs zero is within = subst (λ (n : ℕ). AreNumbered n recs) (let same : before ≡ before + 0 = omega arith in same) is
 numbered-drop before [] (suc d) is within = absurd (omega arith)
 numbered-drop before (rec ∷ later) (suc d) is within =
     subst (λ (n : ℕ). AreNumbered n (drop d later)) (let same : before + 1 + d ≡ before + suc d = omega arith in same) (numbered-drop (before + 1) later d is.1 (omega arith))
 
-pub times-drop : (before : ℕ) (recs : List LogRec) (d : ℕ) → TimesNeverFall before recs → TimesNeverFall (time_behind before (take d recs)) (drop d recs)
+pub times-drop : (before : ℕ) (recs : List LogRec) (d : ℕ) → TimesNeverFall before recs → TimesNeverFall (time_of_last before (take d recs)) (drop d recs)
 times-drop before recs zero h = h
 times-drop before [] (suc d) h = tt
 times-drop before (rec ∷ later) (suc d) h = times-drop rec.time later d h.1
 
-pub time_behind-parts : (before : ℕ) (recs : List LogRec) (d : ℕ) → time_behind (time_behind before (take d recs)) (drop d recs) ≡ time_behind before recs
-time_behind-parts before recs zero = refl
-time_behind-parts before [] (suc d) = refl
-time_behind-parts before (rec ∷ later) (suc d) = time_behind-parts rec.time later d
+pub time_of_last-parts : (before : ℕ) (recs : List LogRec) (d : ℕ) → time_of_last (time_of_last before (take d recs)) (drop d recs) ≡ time_of_last before recs
+time_of_last-parts before recs zero = refl
+time_of_last-parts before [] (suc d) = refl
+time_of_last-parts before (rec ∷ later) (suc d) = time_of_last-parts rec.time later d
 
 pub recs_len-parts : (recs : List LogRec) (d : ℕ) → recs_len (take d recs) + recs_len (drop d recs) ≡ recs_len recs
 recs_len-parts recs zero = omega arith
 recs_len-parts [] (suc d) = omega arith
 recs_len-parts (rec ∷ later) (suc d) = let rest = recs_len-parts later d in omega arith
 
--- the time behind so many records is the last one's
-pub time_behind-at : (before : ℕ) (recs : List LogRec) (k : ℕ) → k < length recs → time_behind before (take (suc k) recs) ≡ (get_or recs k no_rec).time
-time_behind-at before [] k inside = absurd (omega arith)
-time_behind-at before (rec ∷ later) zero inside = refl
-time_behind-at before (rec ∷ later) (suc k) inside = time_behind-at rec.time later k (omega arith)
+-- the time after so many records is the last one's
+pub time_of_last-at : (before : ℕ) (recs : List LogRec) (k : ℕ) → k < length recs → time_of_last before (take (suc k) recs) ≡ (get_or recs k no_rec).time
+time_of_last-at before [] k inside = absurd (omega arith)
+time_of_last-at before (rec ∷ later) zero inside = refl
+time_of_last-at before (rec ∷ later) (suc k) inside = time_of_last-at rec.time later k (omega arith)
 
 pub recs_of-drop : (before : ℕ) (items : List Item) (d : ℕ) → d ≤ length items → recs_of (before + d) (drop d items) ≡ drop d (recs_of before items)
 recs_of-drop before items zero within = ap (λ (n : ℕ). recs_of n items) (let same : before + 0 ≡ before = omega arith in same)

@@ -41,7 +41,7 @@ module _ (items : List Item) (t low high left less middle : ℕ) (was : Halves i
         gap = omega arith;
       }
 
-  -- the middle one is later, and so is any behind it
+  -- the middle one is later, and so is any after it
   pub halves_down : AreInOrder items → t < (get_or items middle no_item).time → Halves items t low middle less
   halves_down order here =
       let twice = halved left less one in

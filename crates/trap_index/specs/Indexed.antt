@@ -30,12 +30,12 @@ abbrev pub last_seq : Indexed → ℕ
 last_seq i = i.first + length i.recs
 
 -- the time of the last of the records, or the time before them where there is none
-abbrev pub time_behind : ℕ → List LogRec → ℕ
-time_behind before [] = before
-time_behind before (rec ∷ later) = time_behind rec.time later
+abbrev pub time_of_last : ℕ → List LogRec → ℕ
+time_of_last before [] = before
+time_of_last before (rec ∷ later) = time_of_last rec.time later
 
 abbrev pub last_time : Indexed → ℕ
-last_time i = time_behind i.base_time i.recs
+last_time i = time_of_last i.base_time i.recs
 
 -- a record's bytes: those of its header, and its codes
 abbrev pub rec_len : LogRec → ℕ
@@ -51,13 +51,13 @@ abbrev pub of_block : ℕ → List LogRec → List LogRec
 of_block block recs = filter (λ rec. rec.block == block) recs
 
 -- the number of the last of the records, or the number before them where there is none
-abbrev pub seq_behind : ℕ → List LogRec → ℕ
-seq_behind before [] = before
-seq_behind before (rec ∷ later) = seq_behind rec.seq later
+abbrev pub seq_after : ℕ → List LogRec → ℕ
+seq_after before [] = before
+seq_after before (rec ∷ later) = seq_after rec.seq later
 
 -- the number of a block's last record among these, or 0 where it has none
 abbrev pub newest : ℕ → List LogRec → ℕ
-newest block recs = seq_behind 0 (of_block block recs)
+newest block recs = seq_after 0 (of_block block recs)
 
 -- what stands for a record where there is none
 abbrev pub no_rec : LogRec
@@ -79,14 +79,14 @@ abbrev pub dropped_to : Indexed → ℕ → Indexed
 dropped_to i q = record {
   g = i.g;
   first = q;
-  base_time = time_behind i.base_time (recs_up_to i q);
+  base_time = time_of_last i.base_time (recs_up_to i q);
   first_off = i.first_off + recs_len (recs_up_to i q);
   recs = recs_above i q;
 }
 
 -- what a record's header tells, where the first record begins at an offset and these lie between
-abbrev pub item_behind : ℕ → List LogRec → LogRec → Item
-item_behind first_off before rec = record {
+abbrev pub item_after : ℕ → List LogRec → LogRec → Item
+item_after first_off before rec = record {
   time = rec.time;
   block = rec.block;
   off = first_off + recs_len before;
@@ -98,7 +98,7 @@ item_behind first_off before rec = record {
 
 -- the item of record number q, for first < q ≤ last
 abbrev pub item_at : Indexed → ℕ → Item
-item_at i q = item_behind i.first_off (take (q - (i.first + 1)) i.recs) (rec_at i q)
+item_at i q = item_after i.first_off (take (q - (i.first + 1)) i.recs) (rec_at i q)
 
 -- the number is the last one whose time is at most t, or `first` where there is none: times never
 -- fall

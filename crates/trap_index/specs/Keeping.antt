@@ -3,7 +3,7 @@ use Rattle.std.specs.Prelude.{◌≡◌, ℕ, ◌+◌, ◌*◌, ◌^◌, ◌<◌
 use Rattle.trap_model.specs.declared.log_record.LogRec.{LogRec}
 use Rattle.trap_model.specs.Image.{volume}
 use Rattle.trap_index.specs.declared.item.Item.{Item}
-use Rattle.trap_index.specs.Indexed.{Indexed, last_seq, last_time, recs_len, newest, no_rec, item_behind}
+use Rattle.trap_index.specs.Indexed.{Indexed, last_seq, last_time, recs_len, newest, no_rec, item_after}
 
 -- the records have the numbers that follow this one
 abbrev pub AreNumbered : ℕ → List LogRec → Type 0
@@ -58,7 +58,7 @@ pub record KeepsItems (i : Indexed) (items : List Item) (capacity : ℕ) (heads 
   pub room : capacity ≡ i.g.entries
   pub item : (k : ℕ) → k < length i.recs
       → told i.first (get_or items k no_item)
-      ≡ item_behind i.first_off (take k i.recs) (get_or i.recs k no_rec)
+      ≡ item_after i.first_off (take k i.recs) (get_or i.recs k no_rec)
   pub blocks : length heads ≡ volume i.g
   pub head : (block : ℕ) → block < volume i.g → link i.first (get_or heads block 0)
       ≡ newest block i.recs

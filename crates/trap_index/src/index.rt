@@ -3,7 +3,7 @@
 ghost use Rattle.std.specs.Prelude.{◌≡◌, ◌↔◌, ◌+◌, ◌^◌, ◌<◌, ◌≤◌, length, IfOk, IfSome, IsSome};
 ghost use Rattle.trap_model.specs.Image.{volume};
 ghost use Rattle.trap_model.specs.LogRecord.{IsRecordInRange};
-ghost use Rattle.trap_index.specs.Indexed.{nothing_indexed, with_record, dropped_to, time_behind, recs_up_to, last_seq, last_time, recs_len, newest, item_at, IsLastBy, path_to};
+ghost use Rattle.trap_index.specs.Indexed.{nothing_indexed, with_record, dropped_to, time_of_last, recs_up_to, last_seq, last_time, recs_len, newest, item_at, IsLastBy, path_to};
 ghost use Rattle.trap_index.specs.Keeping.{IsIndexed, link};
 
 use crate::Item;
@@ -11,10 +11,7 @@ use crate::times::{count_by, item_in};
 use circular_buffer::HeapCircularBuffer;
 use std::alloc::{AllocError as OutOfMemory, Global};
 use std::marker::Model;
-use trap_model::{Geometry, Known, LogRec, Path, Way};
-
-/// The bytes of a record's header.
-const HEADER_BYTES: u64 = 26;
+use trap_model::{Geometry, Known, LogRec, Path, RECORD_HEADER_BYTES, Way};
 
 /// The retained records. A contract sees the list of their headers, the oldest first. It holds 40
 /// bytes for each entry that the array can retain and 8 bytes for each block: 48 MiB where both are
@@ -106,7 +103,7 @@ impl Index {
             prev,
         };
         self.items.push_back(item);
-        self.end_off += HEADER_BYTES + u64::from(rec.plen) + u64::from(rec.slen);
+        self.end_off += RECORD_HEADER_BYTES + u64::from(rec.plen) + u64::from(rec.slen);
         self.last_time = rec.time;
     }
 
@@ -130,7 +127,7 @@ impl Index {
     fn time_at(&self, seq: u64) -> u64
         requires low { self.now.first ≤ seq }
         requires high { seq ≤ last_seq self.now }
-        ensures { result ≡ time_behind self.now.base_time (recs_up_to self.now seq) }
+        ensures { result ≡ time_of_last self.now.base_time (recs_up_to self.now seq) }
     {
         if seq == self.first {
             return self.base_time;

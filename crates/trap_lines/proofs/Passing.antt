@@ -11,7 +11,8 @@ use Rattle.std.proofs.lemmas.Bool.{false_from_ne_true}
 use Rattle.memchr.specs.Find.{IsFirstByte, is_byte}
 use Rattle.trap_bank.specs.Stream.{Stream}
 use Rattle.trap_lines.specs.declared.reader.LineReader.{LineReader}
-use Rattle.trap_lines.specs.Reader.{pending, to_come, taken, room, HasNoFeed, IsLine, Advances, Passes}
+use Rattle.trap_script.specs.Lines.{HasNoFeed}
+use Rattle.trap_lines.specs.Reader.{pending, to_come, taken, room, IsLine, Advances, Passes}
 
 pub passes_nothing : (r : LineReader) (s : Stream) → Passes [] r r s s
 passes_nothing r s = record {

@@ -1,8 +1,9 @@
 -- What a reader of lines has before it, and what one call passes over.
-use Rattle.std.specs.Prelude.{◌≡◌, ℕ, ◌+◌, ◌-◌, ◌^◌, ◌<◌, ◌≤◌, ◌==◌, List, [], ◌∷◌, ◌++◌, length, take, drop, All, Option, None, Bool, true, false}
+use Rattle.std.specs.Prelude.{◌≡◌, ℕ, ◌+◌, ◌-◌, ◌^◌, ◌<◌, ◌≤◌, List, [], ◌∷◌, ◌++◌, length, take, drop, Option, None, Bool, true, false}
 use Rattle.std.specs.Io.KnownBytes.{Consumes, IsAtEnd, prepend_known}
 use Rattle.trap_bank.specs.Faults.{Rose}
 use Rattle.trap_bank.specs.Stream.{Stream}
+use Rattle.trap_script.specs.Lines.{HasNoFeed}
 use Rattle.trap_lines.specs.declared.reader.LineReader.{LineReader}
 use Rattle.trap_lines.specs.declared.found.Found.{Found}
 use Rattle.trap_lines.specs.declared.found.Found.TheVariants.{Line, Last, End}
@@ -24,10 +25,6 @@ taken r = r.used + (r.end - r.at)
 -- how many bytes of a line the reader keeps
 abbrev pub room : LineReader → ℕ
 room r = length r.line.items
-
--- no byte is a line feed
-abbrev pub HasNoFeed : List ℕ → Type 0
-HasNoFeed line = All (λ byte. (byte == 10) ≡ false) line
 
 -- from one moment to another these bytes were passed over
 pub record Passes (passed : List ℕ) (r r' : LineReader) (s s' : Stream) : Type 0 where

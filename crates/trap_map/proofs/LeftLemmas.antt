@@ -38,7 +38,8 @@ stripe_below x w c rows block whole some several below =
     let number : block / c < w * x = div_below block c (w * x) some (omega arith) in
     div_below (block / c) w x several (omega arith)
 
-pub at_below_volume : (members chunk rows row before : ℕ) → 0 < chunk → rows % chunk ≡ 0 → row < rows → before + 1 < members → (row / chunk * (members - 1) + before) * chunk + row % chunk < rows * (members - 1)
+pub at_below_volume : (members chunk rows row before : ℕ) → 0 < chunk → rows % chunk ≡ 0 → row < rows → before + 1 < members
+    → (row / chunk * (members - 1) + before) * chunk + row % chunk < rows * (members - 1)
 at_below_volume members chunk rows row before some whole within inside =
     block_below (row / chunk) (rows / chunk) before (members - 1) chunk (row % chunk) rows (grind arith) (grind arith) (omega arith) (mod-lt row some)
 
@@ -61,7 +62,8 @@ pub before-lt : (members chunk block : ℕ) → 1 < members → chunks_before me
 before-lt members chunk block several = let h : 0 < members - 1 = omega arith in let b = mod-lt (block / chunk) h in omega arith
 
 -- the block at a block's place
-pub block_again : (members chunk block : ℕ) → 0 < chunk → 1 < members → (stripe row : ℕ) → stripe ≡ block_stripe members chunk block → row ≡ block % chunk → (stripe * (members - 1) + before_in members stripe (member_in members stripe (chunks_before members chunk block))) * chunk + row ≡ block
+pub block_again : (members chunk block : ℕ) → 0 < chunk → 1 < members → (stripe row : ℕ) → stripe ≡ block_stripe members chunk block → row ≡ block % chunk
+    → (stripe * (members - 1) + before_in members stripe (member_in members stripe (chunks_before members chunk block))) * chunk + row ≡ block
 block_again members chunk block some several stripe row is_stripe is_row =
     let back : before_in members stripe (member_in members stripe (chunks_before members chunk block)) ≡ chunks_before members chunk block =
     round_and_back (parity_in members stripe) (chunks_before members chunk block) members (parity_in-lt members stripe (omega arith)) (before-lt members chunk block several) in
@@ -88,7 +90,8 @@ at_before members chunk row before some inside =
     ap (λ q. q % (members - 1)) (at_number members chunk row before some) ∙ mod-mul-add (row / chunk) (members - 1) before (omega arith)
 
 -- what the search for a block computes fits, with the numbers as the code has them
-pub at_fits : (members chunk rows row before m c : ℕ) → m ≡ members → c ≡ chunk → 0 < chunk → rows % chunk ≡ 0 → rows * (members - 1) ≤ 2 ^ 20 → row < rows → before + 1 < members → (row / c * (m - 1) + before) * c + row % c < 2 ^ 20
+pub at_fits : (members chunk rows row before m c : ℕ) → m ≡ members → c ≡ chunk → 0 < chunk → rows % chunk ≡ 0 → rows * (members - 1) ≤ 2 ^ 20 → row < rows
+    → before + 1 < members → (row / c * (m - 1) + before) * c + row % c < 2 ^ 20
 at_fits members chunk rows row before m c is_members is_chunk some whole most within inside =
     let below : (row / chunk * (members - 1) + before) * chunk + row % chunk < rows * (members - 1) = at_below_volume members chunk rows row before some whole within inside in
     let same : (row / c * (m - 1) + before) * c + row % c ≡ (row / chunk * (members - 1) + before) * chunk + row % chunk =

@@ -59,7 +59,8 @@ block_at-within g member row inside below apart =
     at_below_volume g.members g.chunk g.rows row (before_in g.members (row / g.chunk) member) (omega arith) g.within.whole_chunks below
     (back_is_inside (parity_member g row) member g.members (parity_in-lt g.members (row / g.chunk) (omega arith)) inside apart)
 
-pub block_place-block_at : (g : Geometry) → (member row : ℕ) → member < g.members → row < g.rows → member ≢ parity_member g row → block_place g (block_at g member row) ≡ record { member = member; row = row }
+pub block_place-block_at : (g : Geometry) → (member row : ℕ) → member < g.members → row < g.rows → member ≢ parity_member g row
+    → block_place g (block_at g member row) ≡ record { member = member; row = row }
 block_place-block_at g member row inside below apart =
     let before = before_in g.members (row / g.chunk) member in
     let fewer : before + 1 < g.members =
@@ -77,7 +78,8 @@ block_place-block_at g member row inside below apart =
     same_place (block_place g (block_at g member row)).member (block_place g (block_at g member row)).row member row at_member at_row
 
 -- whose a place is, the other way round
-pub place_from_owner : (g : Geometry) (member row block : ℕ) → member < g.members → row < g.rows → owner_of g member row ≡ Block block → (block < volume g) × (block_place g block ≡ record { member = member; row = row })
+pub place_from_owner : (g : Geometry) (member row block : ℕ) → member < g.members → row < g.rows → owner_of g member row ≡ Block block → (block < volume g)
+    × (block_place g block ≡ record { member = member; row = row })
 place_from_owner g member row block inside below owned =
     elim (cases_eq member (parity_member g row)) [
       | inl e ↦ let parity = owner_at_parity g member row e in cc

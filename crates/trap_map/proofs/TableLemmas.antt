@@ -44,7 +44,8 @@ table_row_is_zero g image is_image row below =
     (table_at_parity g image row (parity_member g row) refl
     ∙ xor_but_same g.block (parity_member g row) g.members (data_place g image row) (table g image row) (λ m inside apart. sym (table_elsewhere g image row m apart)))
 
-pub table_from_others : (g : Geometry) (image : List (List ℕ)) → IsImage g image → (row member : ℕ) → row < g.rows → member < g.members → table g image row member ≡ xor_but g.block member (table g image row) g.members
+pub table_from_others : (g : Geometry) (image : List (List ℕ)) → IsImage g image → (row member : ℕ) → row < g.rows → member < g.members
+    → table g image row member ≡ xor_but g.block member (table g image row) g.members
 table_from_others g image is_image row member below inside =
     one_from_others g.block member g.members (table g image row) (table_sized g image is_image row below) inside (table_row_is_zero g image is_image row below)
 
@@ -61,7 +62,8 @@ written_is_image g image is_image block fresh size = record {
 }
 
 -- a place that isn't the block's nor its row's parity
-pub data_unchanged : (g : Geometry) (image : List (List ℕ)) (block : ℕ) (fresh : List ℕ) (row member : ℕ) → row < g.rows → member < g.members → member ≢ parity_member g row → ((row ≡ (block_place g block).row) → (member ≡ (block_place g block).member) → ⊥) → data_place g (set image block fresh) row member ≡ data_place g image row member
+pub data_unchanged : (g : Geometry) (image : List (List ℕ)) (block : ℕ) (fresh : List ℕ) (row member : ℕ) → row < g.rows → member < g.members
+    → member ≢ parity_member g row → ((row ≡ (block_place g block).row) → (member ≡ (block_place g block).member) → ⊥) → data_place g (set image block fresh) row member ≡ data_place g image row member
 data_unchanged g image block fresh row member below inside apart elsewhere =
     let other : block_at g member row ≢ block = λ e.
     let there = block_place-block_at g member row inside below apart in
@@ -69,7 +71,8 @@ data_unchanged g image block fresh row member below inside apart elsewhere =
     elsewhere (ap (λ p. p.row) (sym there ∙ same)) (ap (λ p. p.member) (sym there ∙ same)) in
     get_or-set_other image block (block_at g member row) fresh [] other
 
-pub parity_after_write : (g : Geometry) (image : List (List ℕ)) → IsImage g image → (block : ℕ) → block < volume g → (fresh : List ℕ) → length fresh ≡ g.block → row_parity g (set image block fresh) (block_place g block).row ≡ xor (row_parity g image (block_place g block).row) (xor (get_or image block []) fresh)
+pub parity_after_write : (g : Geometry) (image : List (List ℕ)) → IsImage g image → (block : ℕ) → block < volume g → (fresh : List ℕ) → length fresh ≡ g.block
+    → row_parity g (set image block fresh) (block_place g block).row ≡ xor (row_parity g image (block_place g block).row) (xor (get_or image block []) fresh)
 parity_after_write g image is_image block below fresh size =
     let row = (block_place g block).row in
     let member = (block_place g block).member in
@@ -84,7 +87,8 @@ parity_after_write g image is_image block below fresh size =
     ∙ ap (λ b. xor (row_parity g image row) (xor b (data_place g (set image block fresh) row member))) old
     ∙ ap (λ b. xor (row_parity g image row) (xor (get_or image block []) b)) new
 
-pub others_after_write : (g : Geometry) (image : List (List ℕ)) (block : ℕ) (fresh : List ℕ) (row member : ℕ) → row < g.rows → member < g.members → (row ≡ (block_place g block).row → (member ≢ (block_place g block).member) × (member ≢ parity_member g row)) → table g (set image block fresh) row member ≡ table g image row member
+pub others_after_write : (g : Geometry) (image : List (List ℕ)) (block : ℕ) (fresh : List ℕ) (row member : ℕ) → row < g.rows → member < g.members
+    → (row ≡ (block_place g block).row → (member ≢ (block_place g block).member) × (member ≢ parity_member g row)) → table g (set image block fresh) row member ≡ table g image row member
 others_after_write g image block fresh row member below inside apart =
     elim (cases_eq member (parity_member g row)) [
       | inl e ↦

@@ -24,7 +24,8 @@ pub records_apart : (n m : ℕ) (r q : LogRec) (p u s v x y a b : List ℕ) → 
 records_apart n m r q p u s v x y a b small small' is_r is_q e =
     let whole : header r ++ ((p ++ s) ++ a) ≡ header q ++ ((u ++ v) ++ b) =
     sym (append_assoc (header r) (p ++ s) a) ∙ ap (λ (l : List ℕ). l ++ a) (sym is_r.spelled) ∙ e ∙ ap (λ (l : List ℕ). l ++ b) is_q.spelled ∙ append_assoc (header q) (u ++ v) b in
-    let same = header-same (max n m) r q ((p ++ s) ++ a) ((u ++ v) ++ b) (omega arith) (ranges_wider n (max n m) r (omega arith) is_r.ranges) (ranges_wider m (max n m) q (omega arith) is_q.ranges) whole in
+    let same = header-same (max n m) r q ((p ++ s) ++ a) ((u ++ v) ++ b) (omega arith) (ranges_wider n (max n m) r (omega arith) is_r.ranges)
+    (ranges_wider m (max n m) q (omega arith) is_q.ranges) whole in
     let first = front-same p u (s ++ a) (v ++ b) (sym is_r.parity_len ∙ ap (λ (k : LogRec). k.plen) same.0 ∙ is_q.parity_len)
     (sym (append_assoc p s a) ∙ same.1 ∙ append_assoc u v b) in
     let second = front-same s v a b (sym is_r.snapshot_len ∙ ap (λ (k : LogRec). k.slen) same.0 ∙ is_q.snapshot_len) first.1 in (

@@ -36,7 +36,7 @@ follows_apart owed s (inl has) stops = ⊎_elim
     absurd (omega arith))
     (and_cases (nat_lt s.zeros 4) (nat_lt 0 (length s.literal)) stops)
 
--- and one over which it goes on has a literal behind fewer
+-- and one over which it goes on has a literal after fewer
 follows_on : (owed : ℕ) (s : Segment) → KeepsRules 0 owed s → goes_on s ≡ true → (s.zeros < 4) × HasLiteral 0 owed s
 follows_on owed s (inl has) on = (ltb-true s.zeros 4 (and_parts (nat_lt s.zeros 4) (nat_lt 0 (length s.literal)) on).0, has)
 follows_on owed s (inr rest) on =

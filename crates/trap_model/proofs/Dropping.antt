@@ -26,7 +26,8 @@ never_fall-append : (before : ℕ) (xs ys : List Entry) → NeverFall before (xs
 never_fall-append before [] ys h = h
 never_fall-append before (x ∷ xs) ys h = never_fall-append x.time xs ys h.1
 
-same_state : (first time : ℕ) (a b : List (List ℕ)) (t : ℕ) (xs ys : List Entry) → a ≡ b → time ≡ t → xs ≡ ys → ◌≡◌ {A = State} (record { first = first; base_time = time; base = a; entries = xs }) (record { first = first; base_time = t; base = b; entries = ys })
+same_state : (first time : ℕ) (a b : List (List ℕ)) (t : ℕ) (xs ys : List Entry) → a ≡ b → time ≡ t → xs ≡ ys
+    → ◌≡◌ {A = State} (record { first = first; base_time = time; base = a; entries = xs }) (record { first = first; base_time = t; base = b; entries = ys })
 same_state first time a b t xs ys p q r = cc
 
 -- dropped up to one number, and then up to a later one

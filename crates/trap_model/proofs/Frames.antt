@@ -1,4 +1,4 @@
--- The laws of frames: the header tells its fields, and so where the code behind it ends.
+-- The laws of frames: the header tells its fields, and so where the code after it ends.
 use Rattle.std.proofs.Common.{◌≡◌, ℕ, ◌+◌, ◌-◌, ◌^◌, ◌<◌, ◌≤◌, List, [], ◌∷◌, ◌++◌, length, take, drop, refl, sym, ◌∙◌, ap, subst, inl, inr, arith, w16, w32, w64, append_assoc, length-append, length-drop, take_at}
 use Rattle.std.proofs.lemmas.List.{take-append-drop, take-append-le, drop-append-le}
 use Rattle.std.specs.Int.{from_be_bytes}
@@ -82,7 +82,7 @@ length-spelled size f p x is =
     let code = is.code_len in
     omega arith
 
--- where a frame begins the bytes, its code stands behind the header
+-- where a frame begins the bytes, its code stands after the header
 spelled-code : (size : ℕ) (f : Frame) (p x more : List ℕ) (is : SpellsFrame size f p x) → code_in f (x ++ more) ≡ is.code
 spelled-code size f p x more is =
     let len : length is.code ≡ 34 + f.length - 34 = (let e = is.code_len in omega arith) in
@@ -142,7 +142,8 @@ same_sent : (x y : Sent) → x.frame ≡ y.frame → x.parity ≡ y.parity → x
 same_sent x y frame parity = ap (λ (f : Frame). sent_of f x.parity) frame ∙ ap (sent_of y.frame) parity
 
 -- a stream is one list of frames and a rest in which it ends
-frames-one : (size m n : ℕ) (a b : List Sent) (r s stream : List ℕ) (e d : Ending) → size < 2 ^ 15 → BeginsWithFrames size a r stream → BeginsWithFrames size b s stream → EndsStream size m r e → EndsStream size n s d → (a ≡ b) × (r ≡ s)
+frames-one : (size m n : ℕ) (a b : List Sent) (r s stream : List ℕ) (e d : Ending) → size < 2 ^ 15 → BeginsWithFrames size a r stream → BeginsWithFrames size b s stream
+    → EndsStream size m r e → EndsStream size n s d → (a ≡ b) × (r ≡ s)
 frames-one size m n [] [] r s stream e d small x y end_r end_s = (refl, sym x ∙ y)
 frames-one size m n [] (sent ∷ b) r s stream e d small x (bytes, more, is, parts, later) end_r end_s =
     absurd (frame-no_end size sent.frame sent.parity bytes more m e small is (subst (λ (l : List ℕ). EndsStream size m l e) (sym x ∙ parts) end_r))

@@ -19,7 +19,8 @@ pub size_over-push : (base : List (List ℕ)) (xs : List Entry) (entry : Entry) 
 size_over-push base [] entry = omega arith
 size_over-push base (x ∷ xs) entry = omega (arith, size_over-push (written base x) xs entry)
 
-pub size_over_more : (base : List (List ℕ)) (xs : List Entry) (i : ℕ) (x : Entry) → i < length xs → x ≡ get_or xs i x → size_over base (take (i + 1) xs) ≡ size_over base (take i xs) + entry_size (block_of (image_after base (take i xs)) x.block) x
+pub size_over_more : (base : List (List ℕ)) (xs : List Entry) (i : ℕ) (x : Entry) → i < length xs → x ≡ get_or xs i x
+    → size_over base (take (i + 1) xs) ≡ size_over base (take i xs) + entry_size (block_of (image_after base (take i xs)) x.block) x
 size_over_more base xs i x inside is = ap (size_over base) (take_more_read xs i x inside is) ∙ size_over-push base (take i xs) x
 
 -- some first entries take no more than all
@@ -40,10 +41,12 @@ either false = inr refl
 
 -- a block by a time, with one more entry, which counts and writes it or doesn't
 module _ (base : List (List ℕ)) (xs : List Entry) (time i : ℕ) (x : Entry) (number : ℕ) (inside : i < length xs) (is : x ≡ get_or xs i x) where
-  kept_more : filter (λ (entry : Entry). nat_le entry.time time) (take (i + 1) xs) ≡ filter (λ (entry : Entry). nat_le entry.time time) (take i xs) ++ filter (λ (entry : Entry). nat_le entry.time time) (x ∷ [])
+  kept_more : filter (λ (entry : Entry). nat_le entry.time time) (take (i + 1) xs) ≡ filter (λ (entry : Entry). nat_le entry.time time) (take i xs) ++ filter
+      (λ (entry : Entry). nat_le entry.time time) (x ∷ [])
   kept_more = ap (filter (λ (entry : Entry). nat_le entry.time time)) (take_more_read xs i x inside is) ∙ filter-append (λ (entry : Entry). nat_le entry.time time) (take i xs) (x ∷ [])
 
-  pub block_by_same : nat_le x.time time ≡ true → x.block ≡ number → number < length base → x.bytes ≡ block_of (image_after base (filter (λ (entry : Entry). nat_le entry.time time) (take (i + 1) xs))) number
+  pub block_by_same : nat_le x.time time ≡ true → x.block ≡ number → number < length base → x.bytes ≡ block_of
+      (image_after base (filter (λ (entry : Entry). nat_le entry.time time) (take (i + 1) xs))) number
   block_by_same counts same within =
       let front = filter (λ (entry : Entry). nat_le entry.time time) (take i xs) in
       let one : filter (λ (entry : Entry). nat_le entry.time time) (x ∷ []) ≡ x ∷ [] = rw counts refl in
@@ -52,13 +55,15 @@ module _ (base : List (List ℕ)) (xs : List Entry) (time i : ℕ) (x : Entry) (
       ∙ ap (λ (im : List (List ℕ)). block_of im number) (image_after-push base front x)
       ∙ block_written_same (image_after base front) x number same (omega arith))
 
-  pub block_by_later : nat_le x.time time ≡ false → block_of (image_after base (filter (λ (entry : Entry). nat_le entry.time time) (take i xs))) number ≡ block_of (image_after base (filter (λ (entry : Entry). nat_le entry.time time) (take (i + 1) xs))) number
+  pub block_by_later : nat_le x.time time ≡ false → block_of (image_after base (filter (λ (entry : Entry). nat_le entry.time time) (take i xs))) number ≡ block_of
+      (image_after base (filter (λ (entry : Entry). nat_le entry.time time) (take (i + 1) xs))) number
   block_by_later later =
       let front = filter (λ (entry : Entry). nat_le entry.time time) (take i xs) in
       let none : filter (λ (entry : Entry). nat_le entry.time time) (x ∷ []) ≡ [] = rw later refl in
       sym (ap (λ (es : List Entry). block_of (image_after base es) number) (kept_more ∙ ap (λ (es : List Entry). front ++ es) none ∙ append-nil front))
 
-  pub block_by_other : x.block ≢ number → block_of (image_after base (filter (λ (entry : Entry). nat_le entry.time time) (take i xs))) number ≡ block_of (image_after base (filter (λ (entry : Entry). nat_le entry.time time) (take (i + 1) xs))) number
+  pub block_by_other : x.block ≢ number → block_of (image_after base (filter (λ (entry : Entry). nat_le entry.time time) (take i xs))) number ≡ block_of
+      (image_after base (filter (λ (entry : Entry). nat_le entry.time time) (take (i + 1) xs))) number
   block_by_other other =
       ⊎_elim
       (λ (counts : nat_le x.time time ≡ true).

@@ -33,7 +33,8 @@ pub take_more_read : (xs : List Entry) (i : ℕ) (x : Entry) → i < length xs �
 take_more_read xs i x inside is = take_more xs i x inside ∙ ap (λ (e : Entry). take i xs ++ e ∷ []) (sym is)
 
 -- a block after one more entry, which writes it or doesn't
-pub block_more_same : (base : List (List ℕ)) (xs : List Entry) (i : ℕ) (x : Entry) (number : ℕ) → i < length xs → x ≡ get_or xs i x → x.block ≡ number → number < length base → x.bytes ≡ block_of (image_after base (take (i + 1) xs)) number
+pub block_more_same : (base : List (List ℕ)) (xs : List Entry) (i : ℕ) (x : Entry) (number : ℕ) → i < length xs → x ≡ get_or xs i x → x.block ≡ number
+    → number < length base → x.bytes ≡ block_of (image_after base (take (i + 1) xs)) number
 block_more_same base xs i x number inside is same within =
     let image = image_after base (take i xs) in
     let long : length image ≡ length base = length-image_after base (take i xs) in
@@ -41,7 +42,8 @@ block_more_same base xs i x number inside is same within =
     ∙ ap (λ (im : List (List ℕ)). block_of im number) (image_after-push base (take i xs) x)
     ∙ block_written_same image x number same (omega arith))
 
-pub block_more_other : (base : List (List ℕ)) (xs : List Entry) (i : ℕ) (x : Entry) (number : ℕ) → i < length xs → x ≡ get_or xs i x → x.block ≢ number → block_of (image_after base (take i xs)) number ≡ block_of (image_after base (take (i + 1) xs)) number
+pub block_more_other : (base : List (List ℕ)) (xs : List Entry) (i : ℕ) (x : Entry) (number : ℕ) → i < length xs → x ≡ get_or xs i x → x.block ≢ number
+    → block_of (image_after base (take i xs)) number ≡ block_of (image_after base (take (i + 1) xs)) number
 block_more_other base xs i x number inside is other =
     sym (ap (λ (es : List Entry). block_of (image_after base es) number) (take_more_read xs i x inside is)
     ∙ ap (λ (im : List (List ℕ)). block_of im number) (image_after-push base (take i xs) x)

@@ -1,4 +1,4 @@
--- The laws of log records: the header tells its fields, and so where the codes behind it end.
+-- The laws of log records: the header tells its fields, and so where the codes after it end.
 use Rattle.std.proofs.Common.{◌≡◌, ℕ, ◌^◌, ◌<◌, Bool, true, false, List, ◌++◌, length, take, drop, get_or, refl, sym, ◌∙◌, ap, arith, w16, w32, w64, append_assoc, take_at, drop_at}
 use Rattle.std.specs.Int.{from_be_bytes}
 use Rattle.std.proofs.lemmas.Nat.{from_be_bytes-to_be_bytes_2, from_be_bytes-to_be_bytes_4, from_be_bytes-to_be_bytes_8}

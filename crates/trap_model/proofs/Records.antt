@@ -45,7 +45,8 @@ length-change : (g : Geometry) (old : List ℕ) (entry : Entry) → IsEntry g en
 length-change g old entry is long = length-xor old entry.bytes (is.size ∙ sym long) ∙ long
 
 -- the record of an entry is a log record
-pub record_is_log_record : (g : Geometry) (q : ℕ) (old : List ℕ) (entry : Entry) → IsEntry g entry → length old ≡ g.block → 1 ≤ q → q ≤ 2 ^ 40 → entry.time < 2 ^ 64 → LogRecord g.block (rec_of q old entry) (change_code old entry) (snapshot_code entry) (record_of q old entry)
+pub record_is_log_record : (g : Geometry) (q : ℕ) (old : List ℕ) (entry : Entry) → IsEntry g entry → length old ≡ g.block → 1 ≤ q → q ≤ 2 ^ 40 → entry.time < 2 ^ 64
+    → LogRecord g.block (rec_of q old entry) (change_code old entry) (snapshot_code entry) (record_of q old entry)
 record_is_log_record g q old entry is long first last time =
     let some : 1 ≤ g.block = omega (arith, g.within.block_least) in
     let change = length-change g old entry is long in
@@ -74,7 +75,8 @@ length-record_of q old entry =
     omega arith
 
 -- and no longer than the greatest record
-pub record_short : (g : Geometry) (q : ℕ) (old : List ℕ) (entry : Entry) → IsEntry g entry → length old ≡ g.block → (30 ≤ length (record_of q old entry)) × (length (record_of q old entry) ≤ greatest_record g.block)
+pub record_short : (g : Geometry) (q : ℕ) (old : List ℕ) (entry : Entry) → IsEntry g entry → length old ≡ g.block → (30 ≤ length (record_of q old entry))
+    × (length (record_of q old entry) ≤ greatest_record g.block)
 record_short g q old entry is long =
     let some : 1 ≤ g.block = omega (arith, g.within.block_least) in
     let first = length-code_of g.block (xor old entry.bytes) some (length-change g old entry is long) in
@@ -102,7 +104,8 @@ pub length-records : (s : State) → length (records s) ≡ kept s
 length-records s = length-records_from s.base s.first s.entries
 
 -- the records of some entries and of further ones
-pub records_from-append : (image : List (List ℕ)) (q k : ℕ) (xs ys : List Entry) → k ≡ q + length xs → records_from image q (xs ++ ys) ≡ records_from image q xs ++ records_from (image_after image xs) k ys
+pub records_from-append : (image : List (List ℕ)) (q k : ℕ) (xs ys : List Entry) → k ≡ q + length xs
+    → records_from image q (xs ++ ys) ≡ records_from image q xs ++ records_from (image_after image xs) k ys
 records_from-append image q k [] ys is = ap (λ (n : ℕ). records_from image n ys) (let same : q ≡ k = omega arith in same)
 records_from-append image q k (x ∷ xs) ys is =
     let front = record_of (q + 1) (block_of image x.block) x in

@@ -50,7 +50,8 @@ module _ (g : Geometry) (s : State) (entry : Entry) where
   -- the record doesn't fit into the ring
   pub write_big : last_time s ≤ entry.time → last s ≢ 2 ^ 40 → g.ring < kept s + entry_size (block_of (image s) entry.block) entry → write_refusal g s entry ≡ Some Full
   write_big time number big = after_number time number ∙ refused (full g s entry) _ _
-      (or_right (length s.entries == g.entries) (nat_lt g.ring (kept s + entry_size (block_of (image s) entry.block) entry)) (lt-ltb g.ring (kept s + entry_size (block_of (image s) entry.block) entry) big))
+      (or_right (length s.entries == g.entries) (nat_lt g.ring (kept s + entry_size (block_of (image s) entry.block) entry))
+      (lt-ltb g.ring (kept s + entry_size (block_of (image s) entry.block) entry) big))
 
   -- nothing is against it
   pub write_goes : last_time s ≤ entry.time → last s ≢ 2 ^ 40 → length s.entries ≢ g.entries → kept s + entry_size (block_of (image s) entry.block) entry ≤ g.ring → write_refusal g s entry ≡ None

@@ -15,5 +15,6 @@ pub record Reached (run : Run) (block : List ℕ) (at : ℕ) : Type 0 where
 pub segments_zero : (block : List ℕ) (at : ℕ) → 0 < at → at ≤ length block → get_or block (at - 1) 0 ≡ 0 → segments_of (drop (at - 1) block) ≡ zero_before (segments_of (drop at block))
 segments_zero block at some within e = grind (arith, common_steps)
 
-pub segments_byte : (block : List ℕ) (at : ℕ) → 0 < at → at ≤ length block → get_or block (at - 1) 0 ≢ 0 → segments_of (drop (at - 1) block) ≡ byte_before (get_or block (at - 1) 0) (segments_of (drop at block))
+pub segments_byte : (block : List ℕ) (at : ℕ) → 0 < at → at ≤ length block → get_or block (at - 1) 0 ≢ 0
+    → segments_of (drop (at - 1) block) ≡ byte_before (get_or block (at - 1) 0) (segments_of (drop at block))
 segments_byte block at some within e = grind (arith, common_steps)

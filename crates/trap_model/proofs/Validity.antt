@@ -45,7 +45,8 @@ pub record Sized (g : Geometry) (s : State) (i : ℕ) (x : Entry) (old : List �
   pub more : size_over s.base (take (i + 1) s.entries) ≡ size_over s.base (take i s.entries) + entry_size old x
   pub most : size_over s.base (take (i + 1) s.entries) ≤ 2 ^ 32
 
-pub sized : (g : Geometry) (s : State) (i : ℕ) (x : Entry) (old : List ℕ) → IsValid g s → i < length s.entries → x ≡ get_or s.entries i x → old ≡ block_of (image_after s.base (take i s.entries)) x.block → Sized g s i x old
+pub sized : (g : Geometry) (s : State) (i : ℕ) (x : Entry) (old : List ℕ) → IsValid g s → i < length s.entries → x ≡ get_or s.entries i x
+    → old ≡ block_of (image_after s.base (take i s.entries)) x.block → Sized g s i x old
 sized g s i x old valid inside is at =
     let entry : IsEntry g x = entry_read g s.entries i x valid.entries inside is in
     let most = size_over-take s.base s.entries (i + 1) in

@@ -55,17 +55,20 @@ pub is_held-hold : (f : Arrival) (q : ℕ) (held : List Arrival) → is_held q (
 is_held-hold f q [] e = ⊎_elim (λ (here : (f.seq == q) ≡ true). inl (same_of f.seq q here)) (λ (none : false ≡ true). cc) (or_cases (f.seq == q) false e)
 is_held-hold f q (g ∷ held) e = at (nat_lt f.seq g.seq) e (is_held-hold f q held)
   where
-    at : (b : Bool) → is_held q (if b then f ∷ g ∷ held else g ∷ hold f held) ≡ true → (is_held q (hold f held) ≡ true → (f.seq ≡ q) ⊎ (is_held q held ≡ true)) → (f.seq ≡ q) ⊎ (is_held q (g ∷ held) ≡ true)
+    at : (b : Bool) → is_held q (if b then f ∷ g ∷ held else g ∷ hold f held) ≡ true → (is_held q (hold f held) ≡ true → (f.seq ≡ q) ⊎ (is_held q held ≡ true))
+        → (f.seq ≡ q) ⊎ (is_held q (g ∷ held) ≡ true)
     at true e rest = ⊎_elim (λ (here : (f.seq == q) ≡ true). inl (same_of f.seq q here)) (λ later. inr later) (or_cases (f.seq == q) (is_held q (g ∷ held)) e)
     at false e rest = ⊎_elim (λ (here : (g.seq == q) ≡ true). inr (or_left (g.seq == q) (is_held q held) here))
-        (λ (later : is_held q (hold f held) ≡ true). ⊎_elim (λ same. inl same) (λ among. inr (or_right (g.seq == q) (is_held q held) among)) (rest later)) (or_cases (g.seq == q) (is_held q (hold f held)) e)
+        (λ (later : is_held q (hold f held) ≡ true). ⊎_elim (λ same. inl same) (λ among. inr (or_right (g.seq == q) (is_held q held) among)) (rest later))
+        (or_cases (g.seq == q) (is_held q (hold f held)) e)
 
 hold-held : (f : Arrival) (q : ℕ) (held : List Arrival) → (f.seq ≡ q) ⊎ (is_held q held ≡ true) → is_held q (hold f held) ≡ true
 hold-held f q [] (inl same) = or_left (f.seq == q) false (eq-eqb f.seq q same)
 hold-held f q [] (inr none) = cc
 hold-held f q (g ∷ held) which = at (nat_lt f.seq g.seq) (hold-held f q held) which
   where
-    at : (b : Bool) → ((f.seq ≡ q) ⊎ (is_held q held ≡ true) → is_held q (hold f held) ≡ true) → (f.seq ≡ q) ⊎ (is_held q (g ∷ held) ≡ true) → is_held q (if b then f ∷ g ∷ held else g ∷ hold f held) ≡ true
+    at : (b : Bool) → ((f.seq ≡ q) ⊎ (is_held q held ≡ true) → is_held q (hold f held) ≡ true) → (f.seq ≡ q) ⊎ (is_held q (g ∷ held) ≡ true)
+        → is_held q (if b then f ∷ g ∷ held else g ∷ hold f held) ≡ true
     at true rest (inl same) = or_left (f.seq == q) (is_held q (g ∷ held)) (eq-eqb f.seq q same)
     at true rest (inr among) = or_right (f.seq == q) (is_held q (g ∷ held)) among
     at false rest (inl same) = or_right (g.seq == q) (is_held q (hold f held)) (rest (inl same))
@@ -80,7 +83,8 @@ Ascends-hold f low (g ∷ held) above none order = at (nat_lt f.seq g.seq) refl 
     parts : ((g.seq == f.seq) ≡ false) × (is_held f.seq held ≡ false)
     parts = or_none (g.seq == f.seq) (is_held f.seq held) none
 
-    at : (b : Bool) → nat_lt f.seq g.seq ≡ b → (g.seq < f.seq → is_held f.seq held ≡ false → Ascends g.seq held → Ascends g.seq (hold f held)) → Ascends low (if b then f ∷ g ∷ held else g ∷ hold f held)
+    at : (b : Bool) → nat_lt f.seq g.seq ≡ b → (g.seq < f.seq → is_held f.seq held ≡ false → Ascends g.seq held → Ascends g.seq (hold f held))
+        → Ascends low (if b then f ∷ g ∷ held else g ∷ hold f held)
     at true less rest = (above, (let below : f.seq < g.seq = grind arith in below, order.1))
     at false most rest =
         let other = other_of g.seq f.seq parts.0 in
@@ -93,7 +97,8 @@ settles : (n : ℕ) (before : List ℕ) (r : Receiver) (held : List Arrival) →
 settles n before r [] knows = record { least = knows.least; each = knows.each; came = knows.came; order = tt; known = knows.known }
 settles n before r (f ∷ held) knows = at (f.seq == r.number + 1) refl (settles n before (applied r f held) held)
   where
-    at : (b : Bool) → (f.seq == r.number + 1) ≡ b → (Knows n before (r.number + 1) (r.number + 1) held → Knows n before ((settled (applied r f held) held).number + 1) (settled (applied r f held) held).number (settled (applied r f held) held).held)
+    at : (b : Bool) → (f.seq == r.number + 1) ≡ b → (Knows n before (r.number + 1) (r.number + 1) held
+        → Knows n before ((settled (applied r f held) held).number + 1) (settled (applied r f held) held).number (settled (applied r f held) held).held)
         → (let s = (if b then settled (applied r f held) held else record r { held = f ∷ held }) in Knows n before (s.number + 1) s.number s.held)
     at true is rest =
         let same = same_of f.seq (r.number + 1) is in
@@ -180,7 +185,8 @@ takes n m before r is knows = at (is_known r (bare m)) (is_beyond r (bare m)) re
         settles n (before ++ m ∷ []) r (hold (bare m) r.held) (record {
           least = knows.least;
           each = λ q low most. came_more n m q before (knows.each q low most);
-          came = λ q is_in. ⊎_elim (λ (same : m ≡ q). subst (λ x. CameWithin n (before ++ m ∷ []) x) same here) (λ (among : is_held q r.held ≡ true). came_more n m q before (knows.came q among)) (is_held-hold (bare m) q r.held is_in);
+          came = λ q is_in. ⊎_elim (λ (same : m ≡ q). subst (λ x. CameWithin n (before ++ m ∷ []) x) same here)
+              (λ (among : is_held q r.held ≡ true). came_more n m q before (knows.came q among)) (is_held-hold (bare m) q r.held is_in);
           order = Ascends-hold (bare m) r.number r.held above none.1 (ascends_lower r.number (r.number + 1) r.held (omega arith) knows.order);
           known = λ q within. ⊎_elim (λ old. ⊎_elim (λ low. inl low) (λ among. inr (hold-held (bare m) q r.held (inr among))) (knows.known q old))
               (λ (new : (q ≡ m) × (q ≤ gapless n before + window)). inr (hold-held (bare m) q r.held (inl (sym new.0)))) (came_less n m q before within);
@@ -232,7 +238,8 @@ gapless-longest n numbers =
       least = knows.least;
       each = knows.each;
       no_more = λ c. ⊎_elim (λ (low : gapless n numbers + 1 ≤ gapless n numbers). omega arith)
-          (λ (among : is_held (gapless n numbers + 1) (after_numbers n numbers).held ≡ true). let above = held_above (gapless n numbers + 1) (gapless n numbers + 1) (after_numbers n numbers).held knows.order among in omega arith)
+          (λ (among : is_held (gapless n numbers + 1) (after_numbers n numbers).held ≡ true). let above = held_above (gapless n numbers + 1) (gapless n numbers + 1)
+          (after_numbers n numbers).held knows.order among in omega arith)
           (knows.known (gapless n numbers + 1) c);
     }
 
@@ -282,7 +289,8 @@ shadow-settled r [] = refl
 shadow-settled r (f ∷ held) = at (f.seq == r.number + 1) (shadow-settled (applied r f held) held)
   where
     at : (b : Bool) → shadow (settled (applied r f held) held) ≡ settled (shadow (applied r f held)) (map bared held)
-        → shadow (if b then settled (applied r f held) held else record r { held = f ∷ held }) ≡ (if b then settled (applied (shadow r) (bared f) (map bared held)) (map bared held) else record (shadow r) { held = bared f ∷ map bared held })
+        → shadow (if b then settled (applied r f held) held else record r { held = f ∷ held }) ≡
+        (if b then settled (applied (shadow r) (bared f) (map bared held)) (map bared held) else record (shadow r) { held = bared f ∷ map bared held })
     at true rest = rest
     at false rest = refl
 
@@ -290,7 +298,8 @@ shadow-hold : (f : Arrival) (held : List Arrival) → map bared (hold f held) �
 shadow-hold f [] = refl
 shadow-hold f (g ∷ held) = at (nat_lt f.seq g.seq) (shadow-hold f held)
   where
-    at : (b : Bool) → map bared (hold f held) ≡ hold (bared f) (map bared held) → map bared (if b then f ∷ g ∷ held else g ∷ hold f held) ≡ (if b then bared f ∷ bared g ∷ map bared held else bared g ∷ hold (bared f) (map bared held))
+    at : (b : Bool) → map bared (hold f held) ≡ hold (bared f) (map bared held) → map bared (if b then f ∷ g ∷ held else g ∷ hold f held) ≡
+        (if b then bared f ∷ bared g ∷ map bared held else bared g ∷ hold (bared f) (map bared held))
     at true rest = refl
     at false rest = ap (λ (l : List Arrival). bared g ∷ l) rest
 
@@ -299,7 +308,8 @@ shadow-is_held q [] = refl
 shadow-is_held q (f ∷ held) = ap (λ (b : Bool). (f.seq == q) || b) (shadow-is_held q held)
 
 shadow-taken : (r : Receiver) (f : Arrival) → shadow (taken r f) ≡ taken (shadow r) (bared f)
-shadow-taken r f = at (is_known r f || is_beyond r f) ∙ ap (λ (b : Bool). if (nat_le f.seq r.number || b) || is_beyond r f then shadow r else with_frame (shadow r) (bared f)) (sym (shadow-is_held f.seq r.held))
+shadow-taken r f = at (is_known r f || is_beyond r f) ∙ ap (λ (b : Bool). if (nat_le f.seq r.number || b) || is_beyond r f then shadow r else with_frame (shadow r)
+    (bared f)) (sym (shadow-is_held f.seq r.held))
   where
     at : (b : Bool) → shadow (if b then r else with_frame r f) ≡ (if b then shadow r else with_frame (shadow r) (bared f))
     at true = refl

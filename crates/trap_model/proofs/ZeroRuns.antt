@@ -4,7 +4,7 @@ use Rattle.std.specs.Int.{from_be_bytes}
 use Rattle.std.proofs.lemmas.Nat.{from_be_bytes-to_be_bytes_2}
 use Rattle.std.proofs.lemmas.Bool.{cases_lt}
 use Rattle.std.proofs.lemmas.List.{length-replicate, get_or-replicate, get_or_append_left, get_or_past}
-use Rattle.trap_model.specs.ZeroRun.{Segment, spelling, contents, size_of, IsLiteral, KeepsRules, Walks, ZeroRun, least_behind, NoneFollows, IsRefused}
+use Rattle.trap_model.specs.ZeroRun.{Segment, spelling, contents, size_of, IsLiteral, KeepsRules, Walks, ZeroRun, least_after, NoneFollows, IsRefused}
 
 -- a literal isn't empty
 pub literal_some : (l : List ℕ) → IsLiteral l → 1 ≤ length l
@@ -39,7 +39,8 @@ spelling-same s t x y small_s small_t e =
     let zeros : s.zeros ≡ t.zeros =
     sym (from_be_bytes-to_be_bytes_2 s.zeros (omega arith)) ∙ ap (λ (bytes : List ℕ). from_be_bytes w16 (take 2 bytes)) e ∙ from_be_bytes-to_be_bytes_2 t.zeros (omega arith) in
     let len : length s.literal ≡ length t.literal =
-    sym (from_be_bytes-to_be_bytes_2 (length s.literal) (omega arith)) ∙ ap (λ (bytes : List ℕ). from_be_bytes w16 (take 2 (drop 2 bytes))) e ∙ from_be_bytes-to_be_bytes_2 (length t.literal) (omega arith) in
+    sym (from_be_bytes-to_be_bytes_2 (length s.literal) (omega arith)) ∙ ap (λ (bytes : List ℕ). from_be_bytes w16 (take 2 (drop 2 bytes))) e
+    ∙ from_be_bytes-to_be_bytes_2 (length t.literal) (omega arith) in
     let rest : s.literal ++ x ≡ t.literal ++ y = ap (λ (bytes : List ℕ). drop 4 bytes) e in
     let literal : s.literal ≡ t.literal =
     sym (take_at s.literal x (length t.literal) len) ∙ ap (λ (bytes : List ℕ). take (length t.literal) bytes) rest ∙ take_at t.literal y (length t.literal) refl in
@@ -50,19 +51,19 @@ spelling-same s t x y small_s small_t e =
 cons-same : (s t : Segment) (a b : List Segment) → s ≡ t → a ≡ b → s ∷ a ≡ t ∷ b
 cons-same s t a b p q = cc
 
--- behind a segment the next literal wants four zero bytes
-pub least_behind_four : (a : List Segment) → least_behind 4 a ≡ 4
-least_behind_four [] = refl
-least_behind_four (s ∷ a) = refl
+-- after a segment the next literal wants four zero bytes
+pub least_after_four : (a : List Segment) → least_after 4 a ≡ 4
+least_after_four [] = refl
+least_after_four (s ∷ a) = refl
 
--- what ends a walk ends the walk behind its first segment
-stops_behind : (a : List Segment) (left : ℕ) (x : List ℕ) → NoneFollows 4 left x → NoneFollows (least_behind 4 a) left x
-stops_behind a left x stops = subst (λ (n : ℕ). NoneFollows n left x) (sym (least_behind_four a)) stops
+-- what ends a walk ends the walk after its first segment
+stops_after : (a : List Segment) (left : ℕ) (x : List ℕ) → NoneFollows 4 left x → NoneFollows (least_after 4 a) left x
+stops_after a left x stops = subst (λ (n : ℕ). NoneFollows n left x) (sym (least_after_four a)) stops
 
 -- Two walks over the same bytes, each as far as segments go, are one.
 pub walk-same : (least owed left_a left_b : ℕ) (a b : List Segment) (x y : List ℕ) → owed < 2 ^ 16
     → Walks least owed a left_a → Walks least owed b left_b
-    → NoneFollows (least_behind least a) left_a x → NoneFollows (least_behind least b) left_b y
+    → NoneFollows (least_after least a) left_a x → NoneFollows (least_after least b) left_b y
     → flat_map spelling a ++ x ≡ flat_map spelling b ++ y → (a ≡ b) × (left_a ≡ left_b) × (x ≡ y)
 walk-same least owed left_a left_b [] [] x y small walk_a walk_b stop_a stop_b e = (refl, walk_a ∙ sym walk_b, e)
 walk-same least owed left_a left_b [] (t ∷ b) x y small walk_a walk_b stop_a stop_b e =
@@ -76,7 +77,7 @@ walk-same least owed left_a left_b (s ∷ a) (t ∷ b) x y small walk_a walk_b s
     (sym (append_assoc (spelling s) (flat_map spelling a) x) ∙ e ∙ append_assoc (spelling t) (flat_map spelling b) y) in
     let rest = walk-same 4 (owed - size_of s) left_a left_b a b x y (omega arith) walk_a.1
     (subst (λ (u : Segment). Walks 4 (owed - size_of u) b left_b) (sym same.0) walk_b.1)
-    (stops_behind a left_a x stop_a) (stops_behind b left_b y stop_b) same.1 in
+    (stops_after a left_a x stop_a) (stops_after b left_b y stop_b) same.1 in
     (cons-same s t a b same.0 rest.0, rest.1, rest.2)
 
 -- a walk to the end of a block that has nothing left has no segments
@@ -135,11 +136,11 @@ contents-literal s more k =
     ∙ ap (λ (n : ℕ). get_or (replicate {A = ℕ} s.zeros 0 ++ (s.literal ++ more)) (n + k) 0) (sym len)
     ∙ get_or-append-add (replicate {A = ℕ} s.zeros 0) (s.literal ++ more) k 0
 
--- behind a literal the block begins with four zero bytes, or is zero to its end
-behind_zero : (owed : ℕ) (a : List Segment) → Walks 4 owed a 0 → (k : ℕ) → k < 4 → get_or (flat_map contents a) k 0 ≡ 0
-behind_zero owed [] walk k below = refl
-behind_zero owed (s ∷ a) (inl has, walk) k below = let zeros = has.zeros in contents-zero s (flat_map contents a) k (omega arith)
-behind_zero owed (s ∷ a) (inr rest, walk) k below = ⊎_elim
+-- after a literal the block begins with four zero bytes, or is zero to its end
+after_zero : (owed : ℕ) (a : List Segment) → Walks 4 owed a 0 → (k : ℕ) → k < 4 → get_or (flat_map contents a) k 0 ≡ 0
+after_zero owed [] walk k below = refl
+after_zero owed (s ∷ a) (inl has, walk) k below = let zeros = has.zeros in contents-zero s (flat_map contents a) k (omega arith)
+after_zero owed (s ∷ a) (inr rest, walk) k below = ⊎_elim
     (λ (inside : k < s.zeros). contents-zero s (flat_map contents a) k inside)
     (λ (past : s.zeros ≤ k).
     let none : length s.literal ≡ 0 = ap length rest.empty in
@@ -209,22 +210,25 @@ contents-same least owed (s ∷ a) (t ∷ b) walk_a walk_b e =
     let more_t = zeros-le least owed s t (flat_map contents a) (flat_map contents b) walk_a.0 walk_b.0 e in
     let more_s = zeros-le least owed t s (flat_map contents b) (flat_map contents a) walk_b.0 walk_a.0 (sym e) in
     let zeros : s.zeros ≡ t.zeros = omega arith in
-    let behind : s.literal ++ flat_map contents a ≡ t.literal ++ flat_map contents b = behind_zeros zeros in
-    let le_t = literal-le s.literal t.literal (flat_map contents a) (flat_map contents b) (behind_zero (owed - size_of s) a walk_a.1) (literal_or_none least owed t walk_b.0) behind in
-    let le_s = literal-le t.literal s.literal (flat_map contents b) (flat_map contents a) (behind_zero (owed - size_of t) b walk_b.1) (literal_or_none least owed s walk_a.0) (sym behind) in
+    let behind : s.literal ++ flat_map contents a ≡ t.literal ++ flat_map contents b = after_zeros zeros in
+    let le_t = literal-le s.literal t.literal (flat_map contents a) (flat_map contents b) (after_zero (owed - size_of s) a walk_a.1) (literal_or_none least owed t walk_b.0) behind in
+    let le_s = literal-le t.literal s.literal (flat_map contents b) (flat_map contents a) (after_zero (owed - size_of t) b walk_b.1) (literal_or_none least owed s walk_a.0) (sym behind) in
     let len : length s.literal ≡ length t.literal = omega arith in
     let literal : s.literal ≡ t.literal =
-    sym (take_at s.literal (flat_map contents a) (length t.literal) len) ∙ ap (λ (bytes : List ℕ). take (length t.literal) bytes) behind ∙ take_at t.literal (flat_map contents b) (length t.literal) refl in
+    sym (take_at s.literal (flat_map contents a) (length t.literal) len) ∙ ap (λ (bytes : List ℕ). take (length t.literal) bytes) behind
+    ∙ take_at t.literal (flat_map contents b) (length t.literal) refl in
     let rest : flat_map contents a ≡ flat_map contents b =
-    sym (drop_at s.literal (flat_map contents a) (length t.literal) len) ∙ ap (λ (bytes : List ℕ). drop (length t.literal) bytes) behind ∙ drop_at t.literal (flat_map contents b) (length t.literal) refl in
+    sym (drop_at s.literal (flat_map contents a) (length t.literal) len) ∙ ap (λ (bytes : List ℕ). drop (length t.literal) bytes) behind
+    ∙ drop_at t.literal (flat_map contents b) (length t.literal) refl in
     let same = same_segment s t zeros literal in
     cons-same s t a b same
     (contents-same 4 (owed - size_of s) a b walk_a.1 (subst (λ (u : Segment). Walks 4 (owed - size_of u) b 0) (sym same) walk_b.1) rest)
   where
-    behind_zeros : s.zeros ≡ t.zeros → s.literal ++ flat_map contents a ≡ t.literal ++ flat_map contents b
-    behind_zeros zeros =
+    after_zeros : s.zeros ≡ t.zeros → s.literal ++ flat_map contents a ≡ t.literal ++ flat_map contents b
+    after_zeros zeros =
         sym (drop_at (replicate {A = ℕ} s.zeros 0) (s.literal ++ flat_map contents a) t.zeros (length-replicate {A = ℕ} s.zeros 0 ∙ zeros))
-        ∙ ap (λ (bytes : List ℕ). drop t.zeros bytes) (sym (append_assoc (replicate {A = ℕ} s.zeros 0) s.literal (flat_map contents a)) ∙ e ∙ append_assoc (replicate {A = ℕ} t.zeros 0) t.literal (flat_map contents b))
+        ∙ ap (λ (bytes : List ℕ). drop t.zeros bytes) (sym (append_assoc (replicate {A = ℕ} s.zeros 0) s.literal (flat_map contents a)) ∙ e
+        ∙ append_assoc (replicate {A = ℕ} t.zeros 0) t.literal (flat_map contents b))
         ∙ drop_at (replicate {A = ℕ} t.zeros 0) (t.literal ++ flat_map contents b) t.zeros (length-replicate {A = ℕ} t.zeros 0)
 
 -- a spelling has at least the two numbers of a segment, where the block isn't empty
@@ -260,7 +264,7 @@ pub ZeroRun-apart : (a b x y more_x more_y : List ℕ) → length a ≡ length b
 ZeroRun-apart a b x y more_x more_y sizes small run_a run_b e =
     let same = walk-same 0 (length a) 0 0 run_a.segments run_b.segments more_x more_y small run_a.rules
     (subst (λ (n : ℕ). Walks 0 n run_b.segments 0) (sym sizes) run_b.rules)
-    (NoneFollows-whole (least_behind 0 run_a.segments) more_x) (NoneFollows-whole (least_behind 0 run_b.segments) more_y)
+    (NoneFollows-whole (least_after 0 run_a.segments) more_x) (NoneFollows-whole (least_after 0 run_b.segments) more_y)
     (ap (λ (l : List ℕ). l ++ more_x) (sym run_a.spelled) ∙ e ∙ ap (λ (l : List ℕ). l ++ more_y) run_b.spelled) in (
       run_a.meant ∙ ap (λ (segments : List Segment). flat_map contents segments) same.0 ∙ sym run_b.meant,
       run_a.spelled ∙ ap (λ (segments : List Segment). flat_map spelling segments) same.0 ∙ sym run_b.spelled,
@@ -271,7 +275,7 @@ pub IsRefused-not : (size : ℕ) (bytes block : List ℕ) (at : ℕ) → size < 
 IsRefused-not size bytes block at small refused whole run =
     let same = walk-same 0 size refused.left 0 refused.segments run.segments refused.rest [] small refused.rules
     (subst (λ (n : ℕ). Walks 0 n run.segments 0) whole run.rules)
-    refused.stops (NoneFollows-whole (least_behind 0 run.segments) [])
+    refused.stops (NoneFollows-whole (least_after 0 run.segments) [])
     (sym refused.parts ∙ run.spelled ∙ sym (append-nil (flat_map spelling run.segments))) in
     let none : refused.left ≡ 0 = same.1 in
     let empty : length refused.rest ≡ 0 = ap length same.2 in

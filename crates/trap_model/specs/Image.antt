@@ -1,5 +1,5 @@
 -- Images of a volume, and entries written over them.
-use Rattle.std.specs.Prelude.{◌≡◌, ℕ, ◌-◌, ◌*◌, ◌<◌, List, [], length, replicate, set, fold, flat_map, slice_index_or}
+use Rattle.std.specs.Prelude.{◌≡◌, ℕ, ◌-◌, ◌*◌, ◌<◌, List, [], length, replicate, set, fold, slice_index_or}
 use Rattle.trap_model.specs.declared.numbers.Geometry.{Geometry}
 use Rattle.trap_model.specs.declared.history.Entry.{Entry}
 
@@ -27,7 +27,3 @@ written image entry = set image entry.block entry.bytes
 -- the image after these entries, each in turn
 abbrev pub image_after : List (List ℕ) → List Entry → List (List ℕ)
 image_after base entries = fold written base entries
-
--- the blocks of an image, one after the other
-abbrev pub image_bytes : List (List ℕ) → List ℕ
-image_bytes image = flat_map (λ block. block) image

@@ -1,6 +1,10 @@
 -- The limits of an array's numbers.
 use Rattle.std.specs.Prelude.{◌≡◌, ℕ, ◌+◌, ◌-◌, ◌*◌, ◌%◌, ◌^◌, ◌≤◌, Bool, true, ◌||◌, ◌==◌}
 
+-- the byte at the front of what is whole: a header, or a slot of a cell
+abbrev pub open_gate : ℕ
+open_gate = 165
+
 -- the block sizes, in bytes: the powers of two from 16 to 4096
 abbrev pub is_block_size : ℕ → Bool
 is_block_size size = (size == 16) || (size == 32) || (size == 64) || (size == 128) || (size == 256)

@@ -63,9 +63,9 @@ abbrev pub IsCode : ℕ → List ℕ → Type 0
 IsCode size bytes = (block : List ℕ) × (length block ≡ size) × ZeroRun block bytes
 
 -- how many zero bytes stand at least before the next literal
-abbrev pub least_behind : ℕ → List Segment → ℕ
-least_behind least [] = least
-least_behind least (s ∷ segments) = 4
+abbrev pub least_after : ℕ → List Segment → ℕ
+least_after least [] = least
+least_after least (s ∷ segments) = 4
 
 -- no segment that keeps the rules begins the bytes
 abbrev pub NoneFollows : ℕ → ℕ → List ℕ → Type 0
@@ -81,5 +81,5 @@ pub record IsRefused (size : ℕ) (bytes : List ℕ) (at : ℕ) : Type 0 where
   pub rules : Walks 0 size segments left
   pub parts : bytes ≡ flat_map spelling segments ++ rest
   pub place : at ≡ length (flat_map spelling segments)
-  pub stops : NoneFollows (least_behind 0 segments) left rest
+  pub stops : NoneFollows (least_after 0 segments) left rest
   pub unfinished : 0 < left + length rest

@@ -11,7 +11,7 @@ use Rattle.trap_record.specs.declared.reader.ReadRec.{ReadRec}
 use Rattle.trap_record.specs.declared.reader.ReadRec.TheVariants.{Whole, Short, Bad}
 use Rattle.trap_record.specs.Reading.{BeginsWith, record_len, parity_of, snapshot_of, IsThere, IsWhole, IsShort, IsBadParity, IsBadSnapshot, Reads}
 
--- a front of a list and the bytes behind it
+-- a front of a list and the bytes after it
 front-more : (bytes : List ℕ) (at end : ℕ) → at ≤ end → take at bytes ++ slice_range bytes at end ≡ take end bytes
 front-more bytes at end from =
     sym (take-add at (end - at) bytes) ∙ ap (λ (n : ℕ). take n bytes) (let same : at + (end - at) ≡ end = omega arith in same)

@@ -10,7 +10,7 @@ use Rattle.trap_model.specs.ZeroRun.{IsCode}
 use Rattle.trap_model.specs.LogRecord.{flag, header, SnapshotLength, IsSnapshot, LogRecord}
 use Rattle.trap_model.proofs.ZeroRuns.{ZeroRun-length}
 
--- a piece written behind what is done
+-- a piece written after what is done
 put-next : (done piece out : List ℕ) (at n : ℕ) → length done ≡ at → length piece ≡ n → put_over at piece (done ++ drop at out) ≡ (done ++ piece) ++ drop (at + n) out
 put-next done piece out at n len size =
     ap (λ (l : List ℕ). l ++ piece ++ drop (at + length piece) (done ++ drop at out)) (take_at done (drop at out) at len)
@@ -45,7 +45,7 @@ header-put r out long =
     let fourth = ap (λ (l : List ℕ). put_over 22 (to_be_bytes w16 r.plen) l) third ∙ put-next e (to_be_bytes w16 r.plen) out 22 2 refl refl in
     ap (λ (l : List ℕ). put_over 24 (to_be_bytes w16 r.slen) l) fourth ∙ put-next f (to_be_bytes w16 r.slen) out 24 2 refl refl
 
--- both codes behind the header
+-- both codes after the header
 pub codes-put : (out head rest p s : List ℕ) (k m : ℕ) → out ≡ head ++ rest → length head ≡ 26 → 26 + length p + length s ≤ length out
     → take (26 + length p + length s) (put_mid (26 + length p) m (put_mid 26 k out p) s) ≡ head ++ (p ++ s)
 codes-put out head rest p s k m is len room =

@@ -8,7 +8,7 @@ use Rattle.trap_model.specs.declared.request.Request.{Request}
 use Rattle.trap_script.specs.Lines.{goes_on}
 use Rattle.trap_script.specs.Replies.{reply_text}
 use Rattle.trap_script.specs.Walk.{state_after, reply_texts, first_texts, all_texts, Answered, AnsweredAll, AnsweredPart}
-use Rattle.trap_script.proofs.WalkLemmas.{state_after-next, first_texts-next, state_after-all, first_texts-all, texts_behind}
+use Rattle.trap_script.proofs.WalkLemmas.{state_after-next, first_texts-next, state_after-all, first_texts-all, texts_after}
 use Rattle.trap_script.proofs.GivenLemmas.{AnswersByLines, below_end, given_replies, given_or_next}
 
 -- before the first request
@@ -49,7 +49,7 @@ answered_part m Holds s all j before now lines more within said holds = record {
   part = first_texts m s all j;
   rest = all_texts m (state_after m s all j) (drop j all);
   said = said;
-  front = texts_behind m s all j;
+  front = texts_after m s all j;
   holds = subst (λ c. Holds (state_after m s all c) ⊎ Holds (state_after m s all (c + 1)))
       (sym (given_replies m lines s all j more within)) holds;
 }
@@ -68,7 +68,7 @@ answered_in_reply m Holds s all j x rest front behind before now lines more at i
       part = first_texts m s all j ++ front;
       rest = behind ++ all_texts m (state_after m s all (j + 1)) (drop (j + 1) all);
       said = said;
-      front = texts_behind m s all (j + 1)
+      front = texts_after m s all (j + 1)
           ∙ ap (λ bytes. bytes ++ all_texts m (state_after m s all (j + 1)) (drop (j + 1) all))
           (first_texts-next m s all j x rest at
           ∙ ap (λ bytes. first_texts m s all j ++ bytes) is

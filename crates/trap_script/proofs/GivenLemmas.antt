@@ -31,7 +31,7 @@ too_short bytes text short = not_true (starts_with nat_eq bytes text) (λ whole.
     let is = (starts_is Decides-eqb bytes text (starts_with nat_eq bytes text) refl).0 whole in
     omega (arith, short, ap length is, length-append text (drop (length text) bytes)))
 
--- a text that is said whole counts, and then those behind it
+-- a text that is said whole counts, and then those after it
 pub given-said : (text : List ℕ) (texts : List (List ℕ)) (bytes : List ℕ)
     → given (text ∷ texts) (text ++ bytes) ≡ suc (given texts bytes)
 given-said text texts bytes =

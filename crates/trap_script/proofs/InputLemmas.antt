@@ -115,7 +115,7 @@ line_feeds-line passed line none =
 pub line_feeds-front : (passed front : List ℕ) → HasNoFeed front → line_feeds (passed ++ front) ≡ line_feeds passed
 line_feeds-front passed front none = omega (arith, line_feeds-append passed front, line_feeds-none front none)
 
--- what is left behind one more line
+-- what is left after one more line
 pub drop-line : (input passed line rest : List ℕ) → drop (length passed) input ≡ line ++ 10 ∷ rest
     → drop (length (passed ++ (line ++ 10 ∷ []))) input ≡ rest
 drop-line input passed line rest ahead =

@@ -52,15 +52,15 @@ has_first (part ∷ parts) some = record { first = part; others = parts; is = re
 pub fields_have_first : (text : List ℕ) → HasFirst (slice_split is_space text)
 fields_have_first text = has_first (slice_split is_space text) (omega (arith, length-slice_split is_space text))
 
--- behind `Q` nothing may stand
+-- after `Q` nothing may stand
 pub quit_with_more : (rest : List ℕ) → quit_form (slice_split is_space rest) ≡ Bad
 quit_with_more rest = let fields = fields_have_first rest in ap quit_form fields.is
 
--- nor behind `I`
+-- nor after `I`
 pub info_with_more : (rest : List ℕ) → info_form (slice_split is_space rest) ≡ Bad
 info_with_more rest = let fields = fields_have_first rest in ap info_form fields.is
 
--- behind two numbers nothing may stand
+-- after two numbers nothing may stand
 pub numbers_with_more : (rest first behind second more : List ℕ)
     → slice_split is_space rest ≡ first ∷ slice_split is_space behind
     → slice_split is_space behind ≡ second ∷ slice_split is_space more
@@ -69,7 +69,7 @@ numbers_with_more rest first behind second more cut cut2 =
     let fields = fields_have_first more in
     ap two_numbers (cut ∙ ap (λ parts. first ∷ parts) (cut2 ∙ ap (λ parts. second ∷ parts) fields.is))
 
--- behind the block of an `R` nothing may stand
+-- after the block of an `R` nothing may stand
 pub read_with_more : (rest block more : List ℕ) → slice_split is_space rest ≡ block ∷ slice_split is_space more
     → read_form (slice_split is_space rest) ≡ Bad
 read_with_more rest block more cut =
@@ -95,7 +95,7 @@ no_contents None block e = refl
 no_contents (Some time) None e = refl
 no_contents (Some time) (Some block) e = refl
 
--- behind the block of a `W` stand the digits of its contents; a further field makes them none
+-- after the block of a `W` stand the digits of its contents; a further field makes them none
 pub write_fields : (size : ℕ) (time block digits : List ℕ)
     → write_form size (time ∷ block ∷ slice_split is_space digits) ≡ write_request (number_of time) (number_of block) (decode_sized digits size)
 write_fields size time block digits = by (decode_sized digits size) refl
@@ -115,7 +115,7 @@ write_fields size time block digits = by (decode_sized digits size) refl
     by (Err e) is = cut (first_space digits) refl e is
         ∙ sym (ap (write_request (number_of time) (number_of block)) is ∙ no_contents (number_of time) (number_of block) e)
 
--- what the text behind a `W` asks, where its first two fields are cut off
+-- what the text after a `W` asks, where its first two fields are cut off
 pub write_parts : (size : ℕ) (rest time behind block digits : List ℕ)
     → slice_split is_space rest ≡ time ∷ slice_split is_space behind
     → slice_split is_space behind ≡ block ∷ slice_split is_space digits

@@ -53,7 +53,7 @@ slice_get-states m s [] (suc j) short = absurd (omega arith)
 slice_get-states m s (y ∷ all) zero short = refl
 slice_get-states m s (y ∷ all) (suc j) short = slice_get-states m (m.next s y) all j (omega arith)
 
--- behind the last request
+-- after the last request
 pub state_after-all : {S : Type 0} (m : Machine S) (s : S) (all : List Request) (j : ℕ) → drop j all ≡ []
     → state_after m s all j ≡ last_state m s all
 state_after-all m s [] zero none = refl
@@ -69,12 +69,12 @@ first_texts-all m s (y ∷ all) zero none = absurd (cc)
 first_texts-all m s (y ∷ all) (suc j) none =
     ap (λ text. reply_text (m.reply s y) ++ text) (first_texts-all m (m.next s y) all j none)
 
--- what is said behind the first j replies
-pub texts_behind : {S : Type 0} (m : Machine S) (s : S) (all : List Request) (j : ℕ)
+-- what is said after the first j replies
+pub texts_after : {S : Type 0} (m : Machine S) (s : S) (all : List Request) (j : ℕ)
     → all_texts m s all ≡ first_texts m s all j ++ all_texts m (state_after m s all j) (drop j all)
-texts_behind m s [] zero = refl
-texts_behind m s [] (suc j) = refl
-texts_behind m s (y ∷ all) zero = refl
-texts_behind m s (y ∷ all) (suc j) =
-    ap (λ text. reply_text (m.reply s y) ++ text) (texts_behind m (m.next s y) all j)
+texts_after m s [] zero = refl
+texts_after m s [] (suc j) = refl
+texts_after m s (y ∷ all) zero = refl
+texts_after m s (y ∷ all) (suc j) =
+    ap (λ text. reply_text (m.reply s y) ++ text) (texts_after m (m.next s y) all j)
     ∙ sym (append_assoc (reply_text (m.reply s y)) (first_texts m (m.next s y) all j) (all_texts m (state_after m (m.next s y) all j) (drop j all)))

@@ -1,10 +1,10 @@
 //! The answers to a session's lines.
 
-ghost use Rattle.std.specs.Prelude.{◌≡◌, ◌+◌, ◌*◌, ◌≤◌, ◌++◌, length, take, decimal};
+ghost use Rattle.std.specs.Prelude.{◌≡◌, ◌+◌, ◌*◌, ◌≤◌, ◌++◌, length, take};
 ghost use Rattle.hex.specs.Hex.{encode_lower};
 ghost use Rattle.trap_script.specs.Replies.{refusal_words, span_words, reply_words, reply_text, reply_from, shown_len};
 
-use itoa::Buffer;
+use crate::text::{put, put_number};
 use trap_model::Refusal;
 
 /// The numbers of the history.
@@ -33,26 +33,6 @@ pub enum Answer<'a> {
     Span { span: Span4 },
     /// The request is refused.
     No(Refusal),
-}
-
-// Writes the bytes at a place, and answers the place after them.
-fn put(out: &mut [u8], at: usize, bytes: &[u8]) -> usize
-    requires { at + length bytes.now ≤ length out.old }
-    ensures end { result ≡ at + length bytes.now }
-    ensures so_far { take result out.new ≡ take at out.old ++ bytes.now }
-{
-    out[at..at + bytes.len()].copy_from_slice(bytes);
-    at + bytes.len()
-}
-
-// Writes the number in decimal digits, at most twenty.
-fn put_number(out: &mut [u8], at: usize, number: u64) -> usize
-    requires { at + 20 ≤ length out.old }
-    ensures end { result ≤ at + 20 }
-    ensures so_far { take result out.new ≡ take at out.old ++ decimal number }
-{
-    let mut digits = Buffer::new();
-    put(out, at, digits.format(number).as_bytes())
 }
 
 // Writes two digits for each byte.

@@ -8,6 +8,7 @@ mod lines;
 mod numbers;
 #[cfg(test)]
 mod tests;
+pub mod text;
 
 pub use answers::{Answer, Span4, write_answer};
 pub use lines::{Line, read_line};

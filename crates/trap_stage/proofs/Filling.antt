@@ -17,27 +17,32 @@ use Rattle.trap_stage.proofs.HeldSlots.{writes_same}
 use Rattle.trap_stage.proofs.HeldSpellings.{staged_again}
 
 -- ---- on disk 0
-pub fill_moves : {T E : Type 0} (result : Result T E) (a b : View) (g : Geometry) (q at : ℕ) (slot : List ℕ) → at ≡ slot_start g q → length slot ≡ slot_len g → Writes 0 at slot result a b → Moves a b (Differs (slot_area g q)) (Differs (slot_area g q))
+pub fill_moves : {T E : Type 0} (result : Result T E) (a b : View) (g : Geometry) (q at : ℕ) (slot : List ℕ) → at ≡ slot_start g q → length slot ≡ slot_len g
+    → Writes 0 at slot result a b → Moves a b (Differs (slot_area g q)) (Differs (slot_area g q))
 fill_moves result a b g q at slot place len call =
     moves_wider 0 at (length slot) (slot_start g q) (slot_len g) a b (omega arith) (omega arith) (write_steps result a b 0 at slot call)
 
-pub fill_torn : {T E : Type 0} (result : Result T E) (a b : View) (g : Geometry) (q at : ℕ) (slot : List ℕ) → at ≡ slot_start g q → length slot ≡ slot_len g → Writes 0 at slot result a b → IsTrue a.tells → Torn (slot_area g q) a.now b.now
+pub fill_torn : {T E : Type 0} (result : Result T E) (a b : View) (g : Geometry) (q at : ℕ) (slot : List ℕ) → at ≡ slot_start g q → length slot ≡ slot_len g
+    → Writes 0 at slot result a b → IsTrue a.tells → Torn (slot_area g q) a.now b.now
 fill_torn result a b g q at slot place len call told =
     torn_wider 0 at (length slot) (slot_start g q) (slot_len g) a.now b.now (omega arith) (omega arith) (call.torn told)
 
-pub fill_there : (disks : Disks) (g : Geometry) (q at : ℕ) (slot bytes : List ℕ) → at ≡ slot_start g q → length slot ≡ slot_len g → slot ≡ bytes → region disks 0 at (length slot) ≡ slot → region disks 0 (slot_start g q) (slot_len g) ≡ bytes
+pub fill_there : (disks : Disks) (g : Geometry) (q at : ℕ) (slot bytes : List ℕ) → at ≡ slot_start g q → length slot ≡ slot_len g → slot ≡ bytes
+    → region disks 0 at (length slot) ≡ slot → region disks 0 (slot_start g q) (slot_len g) ≡ bytes
 fill_there disks g q at slot bytes place len is there =
     ap (λ (i : ℕ). region disks 0 i (slot_len g)) (sym place) ∙ ap (λ (n : ℕ). region disks 0 at n) (sym len) ∙ there ∙ is
 
 -- ---- in memory
--- the slot of the number behind the last one is free
-pub others_held : (g : Geometry) (drained last q : ℕ) (old new : List ℕ) → q ≡ last + 1 → last < drained + g.slots → OthersStay g q old new → (p : ℕ) → drained < p → p ≤ last → slot_held g new p ≡ slot_held g old p
+-- the slot of the number after the last one is free
+pub others_held : (g : Geometry) (drained last q : ℕ) (old new : List ℕ) → q ≡ last + 1 → last < drained + g.slots → OthersStay g q old new → (p : ℕ) → drained < p
+    → p ≤ last → slot_held g new p ≡ slot_held g old p
 others_held g drained last q old new next free others p low high =
     let some : 0 < g.slots = omega (arith, g.within.slots_least) in
     others p (round_apart p q g.slots some (omega arith) (omega arith))
 
 -- whatever stands in it, the pending writes stay
-pub still_held : (g : Geometry) (drained last q : ℕ) (old new : List ℕ) → q ≡ last + 1 → last < drained + g.slots → length new ≡ length old → OthersStay g q old new → HoldsWrites g drained last old → HoldsWrites g drained last new
+pub still_held : (g : Geometry) (drained last q : ℕ) (old new : List ℕ) → q ≡ last + 1 → last < drained + g.slots → length new ≡ length old → OthersStay g q old new
+    → HoldsWrites g drained last old → HoldsWrites g drained last new
 still_held g drained last q old new next free len others held = record {
   order = held.order;
   most = held.most;
@@ -47,12 +52,14 @@ still_held g drained last q old new next free len others held = record {
       subst (λ (l : List ℕ). (staged_from g l).block < volume g) (sym (others_held g drained last q old new next free others p low high)) (held.blocks p low high);
 }
 
-pub still_writes : (g : Geometry) (drained last q : ℕ) (old new : List ℕ) → drained ≤ last → q ≡ last + 1 → last < drained + g.slots → OthersStay g q old new → writes_held g new drained (last - drained) ≡ writes_held g old drained (last - drained)
+pub still_writes : (g : Geometry) (drained last q : ℕ) (old new : List ℕ) → drained ≤ last → q ≡ last + 1 → last < drained + g.slots → OthersStay g q old new
+    → writes_held g new drained (last - drained) ≡ writes_held g old drained (last - drained)
 still_writes g drained last q old new order next free others =
     writes_same g old new drained (last - drained) (λ p low high. others_held g drained last q old new next free others p low (omega arith))
 
 -- with a write spelled into it there is one more
-pub more_held : (g : Geometry) (drained last q : ℕ) (old new : List ℕ) (staged : Staged) → q ≡ last + 1 → q < 2 ^ 64 → last < drained + g.slots → length new ≡ length old → OthersStay g q old new → slot_held g new q ≡ slot_bytes q staged → IsStaged g staged → HoldsWrites g drained last old → HoldsWrites g drained q new
+pub more_held : (g : Geometry) (drained last q : ℕ) (old new : List ℕ) (staged : Staged) → q ≡ last + 1 → q < 2 ^ 64 → last < drained + g.slots → length new ≡ length old
+    → OthersStay g q old new → slot_held g new q ≡ slot_bytes q staged → IsStaged g staged → HoldsWrites g drained last old → HoldsWrites g drained q new
 more_held g drained last q old new staged next fits free len others filled sound held =
     let order = held.order in
     let again : staged_held g new q ≡ staged = ap (λ (l : List ℕ). staged_from g l) filled ∙ staged_again g q staged sound in
@@ -68,7 +75,8 @@ more_held g drained last q old new staged next fits free len others filled sound
           (cases_eq p q);
     }
 
-pub more_writes : (g : Geometry) (drained last q : ℕ) (old new : List ℕ) (staged : Staged) → drained ≤ last → q ≡ last + 1 → last < drained + g.slots → OthersStay g q old new → slot_held g new q ≡ slot_bytes q staged → IsStaged g staged → writes_held g new drained (q - drained) ≡ staged ∷ writes_held g old drained (last - drained)
+pub more_writes : (g : Geometry) (drained last q : ℕ) (old new : List ℕ) (staged : Staged) → drained ≤ last → q ≡ last + 1 → last < drained + g.slots
+    → OthersStay g q old new → slot_held g new q ≡ slot_bytes q staged → IsStaged g staged → writes_held g new drained (q - drained) ≡ staged ∷ writes_held g old drained (last - drained)
 more_writes g drained last q old new staged order next free others filled sound =
     let again : staged_held g new q ≡ staged = ap (λ (l : List ℕ). staged_from g l) filled ∙ staged_again g q staged sound in
     let count : q - drained ≡ suc (last - drained) = omega arith in

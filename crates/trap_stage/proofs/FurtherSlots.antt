@@ -25,7 +25,8 @@ use Rattle.trap_stage.proofs.SlotSpellings.{slots_are_pending, slots_same}
 
 -- ---- what the slots hold
 -- a further write's slot beside those before it
-pub slots_hold-added : (g : Geometry) (s : State) (e : Entry) (drained : ℕ) (disks : Disks) → s.first ≤ drained → SlotsHold g s drained disks → SlotHas g (last s + 1) (staged_in g (image (added s e)) e) disks → SlotsHold g (added s e) drained disks
+pub slots_hold-added : (g : Geometry) (s : State) (e : Entry) (drained : ℕ) (disks : Disks) → s.first ≤ drained → SlotsHold g s drained disks
+    → SlotHas g (last s + 1) (staged_in g (image (added s e)) e) disks → SlotsHold g (added s e) drained disks
 slots_hold-added g s e drained disks retained hold has q low high = ⊎_elim
     (λ (newest : q ≡ last s + 1).
     subst (λ (w : Staged). SlotHas g q w disks) (sym (staged_of_last g s e q newest))
@@ -85,7 +86,8 @@ pub pending_sound : (g : Geometry) (s : State) (drained : ℕ) → IsValid g s �
 pending_sound g s drained valid low high = above_sound g s drained (last s - drained) valid low (omega arith)
 
 -- so a stage that is found on the disks of a state has its pending writes
-pub found_pending : (g : Geometry) (s : State) (drained : ℕ) (disks : Disks) (stage : Stage) → IsValid g s → s.first ≤ drained → drained ≤ last s → SlotsHold g s drained disks → IsStage stage → IsFound g drained (last s) disks stage → stage.pending ≡ pending g s drained
+pub found_pending : (g : Geometry) (s : State) (drained : ℕ) (disks : Disks) (stage : Stage) → IsValid g s → s.first ≤ drained → drained ≤ last s
+    → SlotsHold g s drained disks → IsStage stage → IsFound g drained (last s) disks stage → stage.pending ≡ pending g s drained
 found_pending g s drained disks stage valid low high hold sound found =
     let number = found.drained_ in
     let end = found.last_ in

@@ -28,7 +28,7 @@ length-slot_held g slots q size =
     length-take-le (slot_len g) (drop (slot_offset g q) slots) (omega arith)
 
 -- ---- a slot written over
--- a range before or behind what was written over
+-- a range before or after what was written over
 range_beside : (xs ys : List ℕ) (a k i n : ℕ) → length ys ≡ k → a + k ≤ length xs → (i + n ≤ a) ⊎ (a + k ≤ i) → take n (drop i (put_mid a k xs ys)) ≡ take n (drop i xs)
 range_beside xs ys a k i n len room beside = ⊎_elim
     (λ (before : i + n ≤ a).
@@ -100,7 +100,8 @@ length-writes_held g slots drained zero = refl
 length-writes_held g slots drained (suc k) = ap suc (length-writes_held g slots drained k)
 
 -- the same slots hold the same writes
-pub writes_same : (g : Geometry) (old new : List ℕ) (drained k : ℕ) → ((q : ℕ) → drained < q → q ≤ drained + k → slot_held g new q ≡ slot_held g old q) → writes_held g new drained k ≡ writes_held g old drained k
+pub writes_same : (g : Geometry) (old new : List ℕ) (drained k : ℕ) → ((q : ℕ) → drained < q → q ≤ drained + k → slot_held g new q ≡ slot_held g old q)
+    → writes_held g new drained k ≡ writes_held g old drained k
 writes_same g old new drained zero same = refl
 writes_same g old new drained (suc k) same =
     ap (λ (l : List ℕ). staged_from g l ∷ writes_held g new drained k) (same (drained + suc k) (omega arith) (omega arith))
@@ -126,7 +127,8 @@ write_numbered g slots drained (suc k) q low high = ⊎_elim
     (cases_eq q (drained + suc k))
 
 -- those above a later number
-pub writes_later : (g : Geometry) (slots : List ℕ) (drained upto newer older k : ℕ) → upto ≡ drained + older → k ≡ newer + older → take newer (writes_held g slots drained k) ≡ writes_held g slots upto newer
+pub writes_later : (g : Geometry) (slots : List ℕ) (drained upto newer older k : ℕ) → upto ≡ drained + older → k ≡ newer + older
+    → take newer (writes_held g slots drained k) ≡ writes_held g slots upto newer
 writes_later g slots drained upto zero older k is sum = refl
 writes_later g slots drained upto (suc newer) older k is sum =
     let count : k ≡ suc (newer + older) = omega arith in

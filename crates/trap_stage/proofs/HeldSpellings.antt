@@ -23,7 +23,8 @@ pub block_read : (g : Geometry) (slot : List ℕ) (block : ℕ) → block < 2 ^ 
 block_read g slot block small is = sym (from_be_bytes-to_be_bytes_4 block small) ∙ ap (λ (l : List ℕ). from_be_bytes w32 l) is
 
 -- a slot is its number, its block, and its contents
-pub slot_spelled : (g : Geometry) (slot : List ℕ) (q block : ℕ) → length slot ≡ slot_len g → block < 2 ^ 32 → to_be_bytes w64 q ≡ slice_range slot 0 8 → to_be_bytes w32 block ≡ slice_range slot 8 12 → slot ≡ slot_bytes q (staged_from g slot)
+pub slot_spelled : (g : Geometry) (slot : List ℕ) (q block : ℕ) → length slot ≡ slot_len g → block < 2 ^ 32 → to_be_bytes w64 q ≡ slice_range slot 0 8
+    → to_be_bytes w32 block ≡ slice_range slot 8 12 → slot ≡ slot_bytes q (staged_from g slot)
 slot_spelled g slot q block len small number is =
     let contents : drop 12 slot ≡ take g.block (drop 12 slot) ++ drop (12 + g.block) slot =
     sym (take-append-drop g.block (drop 12 slot)) ∙ ap (λ (l : List ℕ). take g.block (drop 12 slot) ++ l) (drop-drop g.block 12 slot) in
@@ -32,7 +33,8 @@ slot_spelled g slot q block len small number is =
     ∙ ap (λ (n : ℕ). slot_bytes q (staged_with n (take g.block (drop 12 slot)) (drop (12 + g.block) slot))) (block_read g slot block small is)
 
 -- so the bytes spell a write with this number where the block is one of the array, and only there
-pub spelled_where : (g : Geometry) (slot : List ℕ) (q block n v : ℕ) → length slot ≡ slot_len g → block < 2 ^ 32 → to_be_bytes w64 q ≡ slice_range slot 0 8 → to_be_bytes w32 block ≡ slice_range slot 8 12 → n ≡ block → v ≡ volume g → IsTrue (nat_lt n v) ↔ SpellsNumber g q slot
+pub spelled_where : (g : Geometry) (slot : List ℕ) (q block n v : ℕ) → length slot ≡ slot_len g → block < 2 ^ 32 → to_be_bytes w64 q ≡ slice_range slot 0 8
+    → to_be_bytes w32 block ≡ slice_range slot 8 12 → n ≡ block → v ≡ volume g → IsTrue (nat_lt n v) ↔ SpellsNumber g q slot
 spelled_where g slot q block n v len small number is wide count = (
   λ holds.
       let less : n < v = ltb-true n v holds in
@@ -57,7 +59,8 @@ staged_again g q staged is =
     (rest ∙ drop_at staged.bytes staged.parity g.block is.bytes)
 
 -- the parts of a slot, as a program cuts them
-pub parts_are : (g : Geometry) (slot : List ℕ) (block n : ℕ) → length slot ≡ slot_len g → block < 2 ^ 32 → to_be_bytes w32 block ≡ slice_range slot 8 12 → n ≡ 12 + g.block → staged_with block (slice_range slot 12 n) (slice_range slot n (length slot)) ≡ staged_from g slot
+pub parts_are : (g : Geometry) (slot : List ℕ) (block n : ℕ) → length slot ≡ slot_len g → block < 2 ^ 32 → to_be_bytes w32 block ≡ slice_range slot 8 12
+    → n ≡ 12 + g.block → staged_with block (slice_range slot 12 n) (slice_range slot n (length slot)) ≡ staged_from g slot
 parts_are g slot block n len small is count =
     let first : n - 12 ≡ g.block = omega arith in
     let behind = length-drop (12 + g.block) slot in
@@ -68,7 +71,8 @@ parts_are g slot block n len small is count =
     (ap (λ (m : ℕ). take (length slot - n) (drop m slot)) count ∙ take_all (length slot - n) (drop (12 + g.block) slot) all)
 
 -- a slot written piece by piece
-pub spelled_by : (q block : ℕ) (fresh parity a b c d e : List ℕ) (at : ℕ) → length a ≡ 12 + 2 * length fresh → length parity ≡ length fresh → at ≡ 12 + length fresh → b ≡ put_over 0 (to_be_bytes w64 q) a → c ≡ put_over 8 (to_be_bytes w32 block) b → d ≡ put_over 12 fresh c → e ≡ put_over at parity d → e ≡ slot_bytes q (staged_with block fresh parity)
+pub spelled_by : (q block : ℕ) (fresh parity a b c d e : List ℕ) (at : ℕ) → length a ≡ 12 + 2 * length fresh → length parity ≡ length fresh → at ≡ 12 + length fresh
+    → b ≡ put_over 0 (to_be_bytes w64 q) a → c ≡ put_over 8 (to_be_bytes w32 block) b → d ≡ put_over 12 fresh c → e ≡ put_over at parity d → e ≡ slot_bytes q (staged_with block fresh parity)
 spelled_by q block fresh parity a b c d e at len same place first second third fourth =
     let n = 12 + 2 * length fresh in
     let w0 = written_none n a len in

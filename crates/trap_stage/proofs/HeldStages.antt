@@ -39,7 +39,8 @@ numbered_held g drained last slots q order low high =
     ∙ write_numbered g slots drained (last - drained) q low (omega arith)
 
 -- the writes up to a number are forgotten
-pub forgotten : (g : Geometry) (drained last drained_to last_to q : ℕ) (slots : List ℕ) → drained ≤ last → drained_to ≡ max drained q → last_to ≡ max last q → writes_held g slots drained_to (last_to - drained_to) ≡ take (last_of (stage_held g drained last slots) - q) (writes_held g slots drained (last - drained))
+pub forgotten : (g : Geometry) (drained last drained_to last_to q : ℕ) (slots : List ℕ) → drained ≤ last → drained_to ≡ max drained q → last_to ≡ max last q
+    → writes_held g slots drained_to (last_to - drained_to) ≡ take (last_of (stage_held g drained last slots) - q) (writes_held g slots drained (last - drained))
 forgotten g drained last drained_to last_to q slots order to end =
     let count = length-writes_held g slots drained (last - drained) in
     let newer : last_of (stage_held g drained last slots) - q ≡ last - q = omega arith in
@@ -65,7 +66,8 @@ forgotten g drained last drained_to last_to q slots order to end =
         ∙ ap (λ (n : ℕ). writes_held g slots drained_to n) (sym still)
 
 -- a stage whose slots were read is found
-pub held_found : (g : Geometry) (drained last : ℕ) (slots : List ℕ) (disks : Disks) → drained ≤ last → AllSpell g slots drained last → AreSlotsRead g slots drained last disks → IsFound g drained last disks (stage_held g drained last slots)
+pub held_found : (g : Geometry) (drained last : ℕ) (slots : List ℕ) (disks : Disks) → drained ≤ last → AllSpell g slots drained last
+    → AreSlotsRead g slots drained last disks → IsFound g drained last disks (stage_held g drained last slots)
 held_found g drained last slots disks order spell read = record {
   g_ = refl;
   drained_ = refl;
@@ -74,7 +76,8 @@ held_found g drained last slots disks order spell read = record {
 }
 
 -- the number of a further write is the next one, and its slot is free
-pub fill_next : (g : Geometry) (drained last q : ℕ) (slots : List ℕ) → drained ≤ last → q ≡ last_of (stage_held g drained last slots) + 1 → length (writes_held g slots drained (last - drained)) < g.slots → (q ≡ last + 1) × (last < drained + g.slots)
+pub fill_next : (g : Geometry) (drained last q : ℕ) (slots : List ℕ) → drained ≤ last → q ≡ last_of (stage_held g drained last slots) + 1
+    → length (writes_held g slots drained (last - drained)) < g.slots → (q ≡ last + 1) × (last < drained + g.slots)
 fill_next g drained last q slots order next free =
     let count = length-writes_held g slots drained (last - drained) in
     (omega arith, omega arith)

@@ -59,7 +59,8 @@ next_or P drained upto q here before low high = ⊎_elim
     (λ (other : q ≡ upto + 1 → ⊥). before q low (omega (arith, other)))
     (cases_eq q (upto + 1))
 
-pub reads_more : (g : Geometry) (drained upto : ℕ) (a b c : View) (before after : List ℕ) → upto + 1 ≤ drained + g.slots → ReadsTo g drained upto a b before → ReadsOne g (upto + 1) b c before after → ReadsTo g drained (upto + 1) a c after
+pub reads_more : (g : Geometry) (drained upto : ℕ) (a b c : View) (before after : List ℕ) → upto + 1 ≤ drained + g.slots → ReadsTo g drained upto a b before
+    → ReadsOne g (upto + 1) b c before after → ReadsTo g drained (upto + 1) a c after
 reads_more g drained upto a b c before after round to one = record {
   spelled = λ q low high. next_or (λ p. SpellsNumber g p (slot_held g after p)) drained upto q one.spelled
       (λ p low high. subst (λ (l : List ℕ). SpellsNumber g p l) (sym (same p low high)) (to.spelled p low high)) low high;
@@ -89,11 +90,13 @@ calls_most g drained upto last a b c slots high to one =
     called_at_most (upto - drained + 1) (last - drained) a c (let order = to.order in omega arith) (called_then (upto - drained) 1 a b c to.calls one)
 
 -- a slot that was read and spells a write holds one
-pub read_is_slot : (g : Geometry) (q : ℕ) (slots : List ℕ) (disks : Disks) → SpellsNumber g q (slot_held g slots q) → slot_held g slots q ≡ region disks 0 (slot_start g q) (slot_len g) → IsSlot g q disks
+pub read_is_slot : (g : Geometry) (q : ℕ) (slots : List ℕ) (disks : Disks) → SpellsNumber g q (slot_held g slots q)
+    → slot_held g slots q ≡ region disks 0 (slot_start g q) (slot_len g) → IsSlot g q disks
 read_is_slot g q slots disks spelled read = (spelled.0, spelled.1, sym read ∙ spelled.2)
 
 -- the first damaged slot is that of the number after those that were read
-pub damaged_next : (g : Geometry) (drained upto last : ℕ) (a b : View) (slots : List ℕ) (offset : ℕ) → drained ≤ upto → upto + 1 ≤ last → ReadsTo g drained upto a b slots → IsTrue a.tells → (IsTrue b.tells → (IsSlot g (upto + 1) b.now.disks → ⊥) × (offset ≡ slot_start g (upto + 1))) → IsDamagedSlot g drained last a.now.disks offset
+pub damaged_next : (g : Geometry) (drained upto last : ℕ) (a b : View) (slots : List ℕ) (offset : ℕ) → drained ≤ upto → upto + 1 ≤ last → ReadsTo g drained upto a b slots
+    → IsTrue a.tells → (IsTrue b.tells → (IsSlot g (upto + 1) b.now.disks → ⊥) × (offset ≡ slot_start g (upto + 1))) → IsDamagedSlot g drained last a.now.disks offset
 damaged_next g drained upto last a b slots offset low high to told why =
     let damaged = why (subst IsTrue (sym to.moves.tells) told) in
     record {
@@ -106,7 +109,8 @@ damaged_next g drained upto last a b slots offset low high to told why =
     }
 
 -- the slots hold the writes that are read from memory
-pub are_held : (g : Geometry) (slots : List ℕ) (drained k last : ℕ) (disks : Disks) → drained + k ≤ last → AllSpell g slots drained last → AreSlotsRead g slots drained last disks → SlotsAre g drained (writes_held g slots drained k) disks
+pub are_held : (g : Geometry) (slots : List ℕ) (drained k last : ℕ) (disks : Disks) → drained + k ≤ last → AllSpell g slots drained last
+    → AreSlotsRead g slots drained last disks → SlotsAre g drained (writes_held g slots drained k) disks
 are_held g slots drained zero last disks high spell read = tt
 are_held g slots drained (suc k) last disks high spell read =
     let q = drained + suc k in

@@ -11,7 +11,8 @@ use Rattle.trap_stage.specs.Found.{IsSlot, IsDamagedSlot, IsFound}
 use Rattle.trap_stage.proofs.SlotSpellings.{slots_same, stage_with}
 
 -- slots that hold writes of the array are sound, each of them
-pub each_is_slot : (g : Geometry) (drained : ℕ) (xs : List Staged) (disks : Disks) → All (IsStaged g) xs → SlotsAre g drained xs disks → (q : ℕ) → drained < q → q ≤ drained + length xs → IsSlot g q disks
+pub each_is_slot : (g : Geometry) (drained : ℕ) (xs : List Staged) (disks : Disks) → All (IsStaged g) xs → SlotsAre g drained xs disks → (q : ℕ) → drained < q
+    → q ≤ drained + length xs → IsSlot g q disks
 each_is_slot g drained [] disks all are q low high = absurd (omega arith)
 each_is_slot g drained (x ∷ xs) disks all are q low high = ⊎_elim
     (λ (newest : q ≡ drained + length xs + 1). (x, All-head (IsStaged g) x xs all, subst (λ n. SlotHas g n x disks) (sym newest) are.0))
@@ -19,7 +20,8 @@ each_is_slot g drained (x ∷ xs) disks all are q low high = ⊎_elim
     (cases_eq q (drained + length xs + 1))
 
 -- where a stage is found no slot is damaged
-pub found_not_damaged : (g : Geometry) (drained last : ℕ) (disks : Disks) (stage : Stage) (offset : ℕ) → All (IsStaged g) stage.pending → IsFound g drained last disks stage → IsDamagedSlot g drained last disks offset → ⊥
+pub found_not_damaged : (g : Geometry) (drained last : ℕ) (disks : Disks) (stage : Stage) (offset : ℕ) → All (IsStaged g) stage.pending
+    → IsFound g drained last disks stage → IsDamagedSlot g drained last disks offset → ⊥
 found_not_damaged g drained last disks stage offset all found damaged =
     let low = damaged.low in
     let high = damaged.high in
@@ -28,7 +30,8 @@ found_not_damaged g drained last disks stage offset all found damaged =
     damaged.broken (each_is_slot g drained stage.pending disks all found.slots damaged.number low (omega arith))
 
 -- and no other stage is
-pub found_same : (g : Geometry) (drained last : ℕ) (disks : Disks) (a b : Stage) → All (IsStaged g) a.pending → All (IsStaged g) b.pending → IsFound g drained last disks a → IsFound g drained last disks b → a ≡ b
+pub found_same : (g : Geometry) (drained last : ℕ) (disks : Disks) (a b : Stage) → All (IsStaged g) a.pending → All (IsStaged g) b.pending
+    → IsFound g drained last disks a → IsFound g drained last disks b → a ≡ b
 found_same g drained last disks a b all_a all_b found_a found_b =
     let geometry : a.g ≡ b.g = found_a.g_ ∙ sym found_b.g_ in
     let number : a.drained ≡ b.drained = found_a.drained_ ∙ sym found_b.drained_ in

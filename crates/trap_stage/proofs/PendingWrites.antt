@@ -31,7 +31,8 @@ staged_above-added g s e drained (suc k) low high =
     ap (λ w. w ∷ staged_above g (added s e) drained k) (staged_of-added g s e (drained + suc k) (omega arith) high)
     ∙ ap (λ ws. staged_of g s (drained + suc k) ∷ ws) (staged_above-added g s e drained k low (omega arith))
 
-pub pending-added : (g : Geometry) (s : State) (e : Entry) (drained : ℕ) → s.first ≤ drained → drained ≤ last s → pending g (added s e) drained ≡ staged_in g (image (added s e)) e ∷ pending g s drained
+pub pending-added : (g : Geometry) (s : State) (e : Entry) (drained : ℕ) → s.first ≤ drained → drained ≤ last s
+    → pending g (added s e) drained ≡ staged_in g (image (added s e)) e ∷ pending g s drained
 pending-added g s e drained low high =
     let more : last (added s e) - drained ≡ suc (last s - drained) = omega (arith, last-added s e) in
     let number : drained + suc (last s - drained) ≡ last s + 1 = omega arith in
@@ -47,7 +48,8 @@ length-staged_above g s drained (suc k) = ap suc (length-staged_above g s draine
 pub length-pending : (g : Geometry) (s : State) (drained : ℕ) → length (pending g s drained) ≡ last s - drained
 length-pending g s drained = length-staged_above g s drained (last s - drained)
 
-pub staged_above-split : (g : Geometry) (s : State) (drained upto newer older k : ℕ) → upto ≡ drained + older → k ≡ newer + older → staged_above g s drained k ≡ staged_above g s upto newer ++ staged_above g s drained older
+pub staged_above-split : (g : Geometry) (s : State) (drained upto newer older k : ℕ) → upto ≡ drained + older → k ≡ newer + older
+    → staged_above g s drained k ≡ staged_above g s upto newer ++ staged_above g s drained older
 staged_above-split g s drained upto zero older k is sum = ap (λ n. staged_above g s drained n) (let same : k ≡ older = omega arith in same)
 staged_above-split g s drained upto (suc newer) older k is sum =
     let count : k ≡ suc (newer + older) = omega arith in
@@ -93,7 +95,8 @@ above_are_writes g s drained (suc k) valid low high =
     ∙ ap (λ n. image_at s n) number in
     (next, (entry.block, entry.size, ap (λ im. row_parity g im (block_place g (entry_at s q).block).row) (sym next), before.1))
 
-pub pending_are_writes : (g : Geometry) (s : State) (drained : ℕ) → IsValid g s → s.first ≤ drained → drained ≤ last s → (image_after_writes (image_at s drained) (pending g s drained) ≡ image s) × AreWrites g (image_at s drained) (pending g s drained)
+pub pending_are_writes : (g : Geometry) (s : State) (drained : ℕ) → IsValid g s → s.first ≤ drained → drained ≤ last s
+    → (image_after_writes (image_at s drained) (pending g s drained) ≡ image s) × AreWrites g (image_at s drained) (pending g s drained)
 pending_are_writes g s drained valid low high =
     let lead = above_are_writes g s drained (last s - drained) valid low (omega arith) in
     let end : drained + (last s - drained) ≡ last s = omega arith in

@@ -26,9 +26,9 @@ slot_below_ring g q =
     let apart : q % g.slots * slot_len g + slot_len g ≤ g.slots * slot_len g = places_apart (q % g.slots) g.slots (slot_len g) below in
     omega arith
 
--- and behind the head's cell
-pub slot_behind_cell : (g : Geometry) (q : ℕ) → 192 ≤ slot_start g q
-slot_behind_cell g q = omega arith
+-- and after the head's cell
+pub slot_after_cell : (g : Geometry) (q : ℕ) → 192 ≤ slot_start g q
+slot_after_cell g q = omega arith
 
 -- a disk that reaches to the ring has each slot
 pub slot_fits : (g : Geometry) (q : ℕ) (v : View) → Fits v 0 (ring_at g) → Fits v 0 (slot_start g q + slot_len g)
@@ -54,14 +54,16 @@ slots_apart g drained last q e i later round slots within =
     two_slots_apart g slots.number q e i (omega arith) (omega arith) slots.within within
 
 -- a change apart from the slots keeps what they hold
-pub slots_stay : (area : Area) (g : Geometry) (s : State) (drained : ℕ) (x y : Disks) → Differs area x y → ((e i : ℕ) → InSlots g drained (last s) e i → area e i → ⊥) → SlotsHold g s drained x → SlotsHold g s drained y
+pub slots_stay : (area : Area) (g : Geometry) (s : State) (drained : ℕ) (x y : Disks) → Differs area x y → ((e i : ℕ) → InSlots g drained (last s) e i → area e i → ⊥)
+    → SlotsHold g s drained x → SlotsHold g s drained y
 slots_stay area g s drained x y differs apart hold q low high =
     region_apart area x y 0 (slot_start g q) (slot_len g) differs
     (λ i from to. apart 0 i (record { number = q; low = low; high = high; within = record { disk = refl; from = from; to = to } }))
     ∙ hold q low high
 
 -- so does a change apart from one slot
-pub slot_stays : (area : Area) (g : Geometry) (q : ℕ) (x y : Disks) → Differs area x y → ((e i : ℕ) → slot_area g q e i → area e i → ⊥) → region y 0 (slot_start g q) (slot_len g) ≡ region x 0 (slot_start g q) (slot_len g)
+pub slot_stays : (area : Area) (g : Geometry) (q : ℕ) (x y : Disks) → Differs area x y → ((e i : ℕ) → slot_area g q e i → area e i → ⊥)
+    → region y 0 (slot_start g q) (slot_len g) ≡ region x 0 (slot_start g q) (slot_len g)
 slot_stays area g q x y differs apart =
     region_apart area x y 0 (slot_start g q) (slot_len g) differs
     (λ i from to. apart 0 i (record { disk = refl; from = from; to = to }))

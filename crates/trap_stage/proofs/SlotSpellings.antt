@@ -38,7 +38,8 @@ slot_same g q a b is_a is_b e =
     same_staged a b block parts.0 parts.1
 
 -- so the slots of the same disks hold one list of so many writes
-pub slots_same : (g : Geometry) (drained : ℕ) (xs ys : List Staged) (disks : Disks) → length xs ≡ length ys → All (IsStaged g) xs → All (IsStaged g) ys → SlotsAre g drained xs disks → SlotsAre g drained ys disks → xs ≡ ys
+pub slots_same : (g : Geometry) (drained : ℕ) (xs ys : List Staged) (disks : Disks) → length xs ≡ length ys → All (IsStaged g) xs → All (IsStaged g) ys
+    → SlotsAre g drained xs disks → SlotsAre g drained ys disks → xs ≡ ys
 slots_same g drained [] [] disks len all_x all_y are_x are_y = refl
 slots_same g drained [] (y ∷ ys) disks len all_x all_y are_x are_y = cc
 slots_same g drained (x ∷ xs) [] disks len all_x all_y are_x are_y = cc

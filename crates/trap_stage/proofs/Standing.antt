@@ -12,9 +12,12 @@ use Rattle.trap_stage.specs.Staged.{Staged, staged_at, newest_at, laid_over, ima
 use Rattle.trap_stage.proofs.Overlays.{newest_is_table, staged_at_block, staged_at_parity, staged_at_other, staged_at_row}
 
 -- writes with the parity of the table after each, and members that read as the table under them, stand for the image after the writes
-pub stand_from_writes : (g : Geometry) (IsTrusted : ℕ → ℕ → Type 0) (before : List (List ℕ)) (writes : List Staged) (place : ℕ → ℕ → List ℕ) → IsImage g before → AreWrites g before writes → ((row member : ℕ) → row < g.rows → member < g.members → IsTrusted row member → laid_over g writes place row member ≡ table g (image_after_writes before writes) row member) → StandWhere g IsTrusted writes place (image_after_writes before writes)
+pub stand_from_writes : (g : Geometry) (IsTrusted : ℕ → ℕ → Type 0) (before : List (List ℕ)) (writes : List Staged) (place : ℕ → ℕ → List ℕ) → IsImage g before
+    → AreWrites g before writes → ((row member : ℕ) → row < g.rows → member < g.members → IsTrusted row member
+    → laid_over g writes place row member ≡ table g (image_after_writes before writes) row member) → StandWhere g IsTrusted writes place (image_after_writes before writes)
 stand_from_writes g IsTrusted before writes place is_image are laid = λ row member below inside.
-    split (newest_at g writes row member) (place row member) (table g (image_after_writes before writes) row member) (IsTrusted row member) (laid row member below inside) (newest_is_table g before is_image writes are row member below inside)
+    split (newest_at g writes row member) (place row member) (table g (image_after_writes before writes) row member) (IsTrusted row member) (laid row member below inside)
+    (newest_is_table g before is_image writes are row member below inside)
   where
     split : (o : Option (List ℕ)) (x w : List ℕ) (P : Type 0) → (P → unwrap_or o x ≡ w) → ((bytes : List ℕ) → o ≡ Some bytes → bytes ≡ w) → MatchOption o (P → x ≡ w) (λ bytes. bytes ≡ w)
     split None x w P h k = h
@@ -25,7 +28,8 @@ abbrev Stands : Option (List ℕ) → Type 0 → List ℕ → List ℕ → Type 
 Stands o P held wanted = MatchOption o (P → held ≡ wanted) (λ bytes. bytes ≡ wanted)
 
 -- less trust asks less
-pub stand_weaker : (g : Geometry) (IsTrusted IsTrustedToo : ℕ → ℕ → Type 0) (writes : List Staged) (place : ℕ → ℕ → List ℕ) (image : List (List ℕ)) → StandWhere g IsTrusted writes place image → ((row member : ℕ) → row < g.rows → member < g.members → IsTrustedToo row member → IsTrusted row member) → StandWhere g IsTrustedToo writes place image
+pub stand_weaker : (g : Geometry) (IsTrusted IsTrustedToo : ℕ → ℕ → Type 0) (writes : List Staged) (place : ℕ → ℕ → List ℕ) (image : List (List ℕ))
+    → StandWhere g IsTrusted writes place image → ((row member : ℕ) → row < g.rows → member < g.members → IsTrustedToo row member → IsTrusted row member) → StandWhere g IsTrustedToo writes place image
 stand_weaker g IsTrusted IsTrustedToo writes place image stands less = λ row member below within.
     freed (newest_at g writes row member) (IsTrusted row member) (IsTrustedToo row member) (place row member) (table g image row member) (less row member below within) (stands row member below within)
   where
@@ -43,7 +47,9 @@ over_none o rest P held old wanted e f h =
     subst Q (sym e) (subst R (sym f) h)
 
 -- a further write in front, and the image with its block written
-pub stand_after_write : (g : Geometry) (IsTrusted : ℕ → ℕ → Type 0) (writes : List Staged) (place : ℕ → ℕ → List ℕ) (image : List (List ℕ)) (staged : Staged) → IsImage g image → StandWhere g IsTrusted writes place image → staged.block < volume g → staged.parity ≡ row_parity g (set image staged.block staged.bytes) (block_place g staged.block).row → StandWhere g IsTrusted (staged ∷ writes) place (set image staged.block staged.bytes)
+pub stand_after_write : (g : Geometry) (IsTrusted : ℕ → ℕ → Type 0) (writes : List Staged) (place : ℕ → ℕ → List ℕ) (image : List (List ℕ)) (staged : Staged)
+    → IsImage g image → StandWhere g IsTrusted writes place image → staged.block < volume g
+    → staged.parity ≡ row_parity g (set image staged.block staged.bytes) (block_place g staged.block).row → StandWhere g IsTrusted (staged ∷ writes) place (set image staged.block staged.bytes)
 stand_after_write g IsTrusted writes place image staged is_image stands inside parity = λ row member below within.
     let here = block_place g staged.block in
     let after = set image staged.block staged.bytes in

@@ -1,15 +1,15 @@
 -- What the loops of the writer and the reader keep: segments that spell the front of a block.
 use Rattle.std.proofs.Common.{◌≡◌, ℕ, ◌+◌, ◌-◌, ◌<◌, ◌≤◌, List, [], ◌∷◌, ◌++◌, length, flat_map, refl, sym, ◌∙◌, ap, subst, arith, append-nil}
 use Rattle.std.proofs.lemmas.List.Concat.{flat_map-append}
-use Rattle.trap_model.specs.ZeroRun.{Segment, spelling, contents, size_of, KeepsRules, Walks, ZeroRun, least_behind, NoneFollows, IsRefused}
-use Rattle.trap_model.proofs.ZeroRuns.{least_behind_four, walk-size, walk-room}
+use Rattle.trap_model.specs.ZeroRun.{Segment, spelling, contents, size_of, KeepsRules, Walks, ZeroRun, least_after, NoneFollows, IsRefused}
+use Rattle.trap_model.proofs.ZeroRuns.{least_after_four, walk-size, walk-room}
 
 -- segments that spell the front of a block of that size
 pub record Begun (size least : ℕ) (front bytes : List ℕ) : Type 0 where
   pub segments : List Segment
   pub left : ℕ
   pub rules : Walks 0 size segments left
-  pub next : least_behind 0 segments ≡ least
+  pub next : least_after 0 segments ≡ least
   pub spelled : bytes ≡ flat_map spelling segments
   pub meant : front ≡ flat_map contents segments
 
@@ -24,15 +24,15 @@ begun-left size least front bytes b =
     omega arith
 
 -- one segment more at the end of a walk
-walk-more : (least owed left : ℕ) (a : List Segment) (s : Segment) → Walks least owed a left → KeepsRules (least_behind least a) left s → Walks least owed (a ++ s ∷ []) (left - size_of s)
+walk-more : (least owed left : ℕ) (a : List Segment) (s : Segment) → Walks least owed a left → KeepsRules (least_after least a) left s → Walks least owed (a ++ s ∷ []) (left - size_of s)
 walk-more least owed left [] s walk follows =
     (subst (λ (n : ℕ). KeepsRules least n s) walk follows, ap (λ (n : ℕ). n - size_of s) walk)
 walk-more least owed left (t ∷ a) s walk follows =
-    (walk.0, walk-more 4 (owed - size_of t) left a s walk.1 (subst (λ (n : ℕ). KeepsRules n left s) (sym (least_behind_four a)) follows))
+    (walk.0, walk-more 4 (owed - size_of t) left a s walk.1 (subst (λ (n : ℕ). KeepsRules n left s) (sym (least_after_four a)) follows))
 
-four_behind : (a : List Segment) (s : Segment) → least_behind 0 (a ++ s ∷ []) ≡ 4
-four_behind [] s = refl
-four_behind (t ∷ a) s = refl
+four_after : (a : List Segment) (s : Segment) → least_after 0 (a ++ s ∷ []) ≡ 4
+four_after [] s = refl
+four_after (t ∷ a) s = refl
 
 more-map : (f : Segment → List ℕ) (a : List Segment) (s : Segment) → flat_map f (a ++ s ∷ []) ≡ flat_map f a ++ f s
 more-map f a s = flat_map-append f a (s ∷ []) ∙ ap (λ (l : List ℕ). flat_map f a ++ l) (append-nil (f s))
@@ -44,12 +44,12 @@ begun-more size least front bytes s b follows = record {
   segments = b.segments ++ s ∷ [];
   left = b.left - size_of s;
   rules = walk-more 0 size b.left b.segments s b.rules here;
-  next = four_behind b.segments s;
+  next = four_after b.segments s;
   spelled = ap (λ (l : List ℕ). l ++ spelling s) b.spelled ∙ sym (more-map spelling b.segments s);
   meant = ap (λ (l : List ℕ). l ++ contents s) b.meant ∙ sym (more-map contents b.segments s);
 }
   where
-    here : KeepsRules (least_behind 0 b.segments) b.left s
+    here : KeepsRules (least_after 0 b.segments) b.left s
     here =
         let left = begun-left size least front bytes b in
         let same : size - length front ≡ b.left = omega arith in
@@ -65,7 +65,7 @@ begun_all size least block bytes b whole = record {
   meant = b.meant;
 }
 
--- the bytes are refused behind what spells a front of a block
+-- the bytes are refused after what spells a front of a block
 pub begun_refused : (size least : ℕ) (front bytes whole rest : List ℕ) → Begun size least front bytes → whole ≡ bytes ++ rest
     → NoneFollows least (size - length front) rest → 0 < (size - length front) + length rest → IsRefused size whole (length bytes)
 begun_refused size least front bytes whole rest b parts stops unfinished =

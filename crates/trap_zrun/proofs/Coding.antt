@@ -8,7 +8,7 @@ use Rattle.trap_model.proofs.ZeroRuns.{segment, length-spelling}
 use Rattle.trap_zrun.specs.Scans.{ZerosFollow}
 use Rattle.trap_zrun.proofs.Begun.{Begun, begun_nothing, begun-more, begun_all, begun-room}
 
--- a front of the block is written, and behind it stand as many zero bytes as the next literal wants
+-- a front of the block is written, and after it stand as many zero bytes as the next literal wants
 pub record IsCoded (block : List ℕ) (at : ℕ) (bytes : List ℕ) : Type 0 where
   pub least : ℕ
   pub begun : Begun (length block) least (take at block) bytes
@@ -51,7 +51,7 @@ zeros-between block at start from run =
     (λ (k : ℕ) (below : k < length (slice_range block at start)).
     get_or-between block at start k 0 (omega arith) ∙ run.zeros k (omega arith) ∙ sym (get_or-replicate {A = ℕ} (start - at) k 0 0 (omega arith)))
 
--- a front of a list and the bytes behind it
+-- a front of a list and the bytes after it
 pub front-more : (block : List ℕ) (at start : ℕ) → at ≤ start → take at block ++ slice_range block at start ≡ take start block
 front-more block at start from =
     sym (take-add at (start - at) block) ∙ ap (λ (n : ℕ). take n block) (let same : at + (start - at) ≡ start = omega arith in same)

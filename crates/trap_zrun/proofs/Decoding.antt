@@ -107,7 +107,7 @@ checked_stops size bytes least filled at checked more stops =
     (subst (λ (n : ℕ). NoneFollows least (size - n) (drop at bytes)) (sym len) stops)
     (omega arith)
 
--- where bytes are left behind the block they are refused
+-- where bytes are left after the block they are refused
 long-at : (size : ℕ) (front bytes : List ℕ) (least at : ℕ) → at < length bytes → Begun size least front (take at bytes) → size ≤ length front → IsRefused size bytes at
 long-at size front bytes least at more begun whole =
     let none : size - length front ≡ 0 = omega arith in

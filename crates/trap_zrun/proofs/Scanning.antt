@@ -38,9 +38,9 @@ literal-found block at stop end some order within first last apart = record {
       });
 }
 
--- behind the last nonzero byte before four zero bytes, or before the end, zero bytes follow
-pub zeros-behind : (block : List ℕ) (stop end : ℕ) → end ≤ stop → AreZeros block end (stop - end) → (stop < length block → AreZeros block stop 4) → stop ≤ length block → ZerosFollow block end
-zeros-behind block stop end order run found within k below = ⊎_elim
+-- after the last nonzero byte before four zero bytes, or before the end, zero bytes follow
+pub zeros-after : (block : List ℕ) (stop end : ℕ) → end ≤ stop → AreZeros block end (stop - end) → (stop < length block → AreZeros block stop 4) → stop ≤ length block → ZerosFollow block end
+zeros-after block stop end order run found within k below = ⊎_elim
     (λ (before : end + k < stop). run.zeros k (omega arith))
     (λ (behind : stop ≤ end + k). ⊎_elim
     (λ (inside : stop < length block).

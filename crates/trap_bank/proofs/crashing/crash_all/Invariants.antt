@@ -1,4 +1,4 @@
--- The first disks are behind the crash, the others as before it.
+-- The first disks are after the crash, the others as before it.
 use Rattle.std.proofs.Common.{◌≡◌, ℕ, ◌<◌, ◌≤◌, length, get_or, None}
 use Rattle.trap_bank.specs.Crash.{Crashed, first_draw}
 use Rattle.trap_bank.proofs.crashing.crash_all.Given as goal

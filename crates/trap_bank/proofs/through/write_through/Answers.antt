@@ -13,7 +13,8 @@ then_same area x y z wrote same =
     (λ a b was torn. torn) (λ a b c was torn mid still. subst (Differs area a.disks) (sym still) torn) (λ a b c was torn mid still. subst (Differs area a.disks) (sym still) torn)
 
 -- a write, and then a sync, after which a crash leaves what was written
-then_settled : (d at : ℕ) (bytes : List ℕ) (x y z : View) → Moves x y (Differs (Within d at (length bytes))) (Differs (Within d at (length bytes))) → (IsTrue x.tells → region y.now.disks d at (length bytes) ≡ bytes) → Moves y z Same (Settled z d) → (IsTrue y.tells → z.now ≡ y.now)
+then_settled : (d at : ℕ) (bytes : List ℕ) (x y z : View) → Moves x y (Differs (Within d at (length bytes))) (Differs (Within d at (length bytes)))
+    → (IsTrue x.tells → region y.now.disks d at (length bytes) ≡ bytes) → Moves y z Same (Settled z d) → (IsTrue y.tells → z.now ≡ y.now)
     → Moves x z (Differs (Within d at (length bytes))) (PlacedThrough z d at bytes)
 then_settled d at bytes x y z wrote written settles same =
     let area = Within d at (length bytes) in

@@ -6,7 +6,8 @@ use Rattle.trap_index.proofs.times.count_by.Goals as goal
 use Rattle.trap_index.proofs.times.count_by.Goals.{then-low-high+then-item_in-t, then-low-high+else-item_in-t, else-low-high}
 
 -- the bounds of the next halving
-next : (c : goal.Joined-low-high) (low high : ℕ) → c.if-low-high.low ≡ low → c.if-low-high.high ≡ high → Halves c.args.items.now.items c.args.t low high (21 - (c.loop.counter + 1)) → Halves c.args.items.now.items c.args.t c.if-low-high.low c.if-low-high.high (21 - (c.loop.counter + 1))
+next : (c : goal.Joined-low-high) (low high : ℕ) → c.if-low-high.low ≡ low → c.if-low-high.high ≡ high
+    → Halves c.args.items.now.items c.args.t low high (21 - (c.loop.counter + 1)) → Halves c.args.items.now.items c.args.t c.if-low-high.low c.if-low-high.high (21 - (c.loop.counter + 1))
 next c low high low_is high_is halves =
     subst (λ (n : ℕ). Halves c.args.items.now.items c.args.t n c.if-low-high.high (21 - (c.loop.counter + 1))) (sym low_is)
     (subst (λ (n : ℕ). Halves c.args.items.now.items c.args.t low n (21 - (c.loop.counter + 1))) (sym high_is) halves)

@@ -24,7 +24,8 @@ returns-clause-others g c q other =
 pub returns-clause-written : goal.returns-clause-written
 returns-clause-written g c told =
     let len : length c.spell.new.slot ≡ slot_len c.args.g.now = (let same = c.spell.auto.slot in omega arith) in
-    fill_there (g.B.Bank.view c.write.new.self).now.disks c.args.g.now c.args.seq (192 + c.slot_offset-at.result) c.spell.new.slot _ (omega arith) len c.spell.ensures (c.in_ok-write.ensures.call.written told)
+    fill_there (g.B.Bank.view c.write.new.self).now.disks c.args.g.now c.args.seq (192 + c.slot_offset-at.result) c.spell.new.slot _ (omega arith) len c.spell.ensures
+    (c.in_ok-write.ensures.call.written told)
 
 pub returns-clause-contents : goal.returns-clause-contents
 returns-clause-contents g c told =

@@ -1,4 +1,4 @@
-use Rattle.trap_zrun.proofs.Scanning.{literal-found, zeros-behind}
+use Rattle.trap_zrun.proofs.Scanning.{literal-found, zeros-after}
 use Rattle.trap_zrun.proofs.scans.literal_end.Goals as goal
 
 pub returns-clause-literal : goal.returns-clause-literal
@@ -9,5 +9,5 @@ returns-clause-literal c = λ some.
 
 pub returns-clause-zeros : goal.returns-clause-zeros
 returns-clause-zeros c =
-    zeros-behind c.args.block.now c.four_zeros-stop.result c.without_zeros.result c.without_zeros.ensures.within c.without_zeros.ensures.zeros
+    zeros-after c.args.block.now c.four_zeros-stop.result c.without_zeros.result c.without_zeros.ensures.within c.without_zeros.ensures.zeros
     c.four_zeros-stop.ensures.found c.four_zeros-stop.ensures.within

@@ -4,7 +4,7 @@ use Rattle.trap_bank.specs.Kept.{Kept}
 use Rattle.trap_bank.specs.Memory.{Memory}
 use Rattle.trap_bank.specs.Crash.{AllCrashed, Crashes}
 use Rattle.trap_bank.proofs.Ranges.{cut_to_length}
-use Rattle.trap_bank.proofs.CrashedDisks.{crashes, behind_crash}
+use Rattle.trap_bank.proofs.CrashedDisks.{crashes, after_crash}
 use Rattle.trap_bank.proofs.memory.MemoryBank.crash.Goals as goal
 
 pub returns : goal.returns
@@ -30,10 +30,11 @@ returns c =
     let whole : take b.disks.len (disks ++ drop (length disks) b.disks.items) ≡ disks = cut_to_length disks (drop (length disks) b.disks.items) b.disks.len long in
     let none : reverse c.clear.new.self.items ≡ [] = ap (λ (past : List Entry). reverse past) c.clear.ensures.items in
     let behind : List (Option Kept) → List Entry → List ℕ → Memory =
-    λ disks past chosen. record (behind_crash m disks) { past = past; chosen = chosen } in
+    λ disks past chosen. record (after_crash m disks) { past = past; chosen = chosen } in
     let laid : Crashes c.args.seed m (behind disks [] c.new-self-inside.result.numbers) =
     subst (λ (chosen : List ℕ). Crashes c.args.seed m (behind disks [] chosen)) (sym c.new-self-inside.ensures) (crashes c.args.seed m disks all) in
     let cleared : Crashes c.args.seed m (behind disks (reverse c.clear.new.self.items) c.new-self-inside.result.numbers) =
     subst (λ (past : List Entry). Crashes c.args.seed m (behind disks past c.new-self-inside.result.numbers)) (sym none) laid in
-    subst (λ (old : Memory). Crashes c.args.seed old (behind (take b.disks.len (disks ++ drop (length disks) b.disks.items)) (reverse c.clear.new.self.items) c.new-self-inside.result.numbers)) c.self.view_is
+    subst (λ (old : Memory). Crashes c.args.seed old (behind (take b.disks.len (disks ++ drop (length disks) b.disks.items)) (reverse c.clear.new.self.items)
+    c.new-self-inside.result.numbers)) c.self.view_is
     (subst (λ (disks : List (Option Kept)). Crashes c.args.seed m (behind disks (reverse c.clear.new.self.items) c.new-self-inside.result.numbers)) (sym whole) cleared)

@@ -19,7 +19,8 @@ returns-then-struck-clause-call c =
 pub returns-in-Ok-clause-call : goal.returns-in-Ok-clause-call
 returns-in-Ok-clause-call c =
     let m : Memory = c.args.self.now in
-    subst (λ (n : Memory). Makes {T = Unit {0}} {E = Failed} c.args.d c.args.len (Ok tt) (view_of m) (view_of n)) (sym (c.in-Ok.ensures.ok ∙ ap (λ (n : Memory). made n c.args.d c.args.len) c.count_on.ensures))
+    subst (λ (n : Memory). Makes {T = Unit {0}} {E = Failed} c.args.d c.args.len (Ok tt) (view_of m) (view_of n))
+    (sym (c.in-Ok.ensures.ok ∙ ap (λ (n : Memory). made n c.args.d c.args.len) c.count_on.ensures))
     (makes tt m c.args.d c.args.len c.is_struck_on-struck.ensures.sound
     (has_one_on m c.args.d c.is_struck_on-struck.result c.if-struck.false c.is_struck_on-struck.ensures.struck.1) c.requires)
 

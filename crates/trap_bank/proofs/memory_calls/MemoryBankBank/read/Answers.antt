@@ -19,6 +19,8 @@ returns-then-struck-clause-call c =
 pub returns-clause-call : goal.returns-clause-call
 returns-clause-call c =
     let m : Memory = c.args.self.now in
-    subst (λ (n : Memory). Reads {T = Unit {0}} {E = Failed} c.args.d c.args.at c.args.buf.now c.copy_out.new.buf (Ok tt) (view_of m) (view_of n)) (sym (c.pass-2.ensures ∙ ap passed c.count_on.ensures))
+    subst (λ (n : Memory). Reads {T = Unit {0}} {E = Failed} c.args.d c.args.at c.args.buf.now c.copy_out.new.buf (Ok tt) (view_of m) (view_of n))
+    (sym (c.pass-2.ensures ∙ ap passed c.count_on.ensures))
     (reads tt m c.args.d c.args.at c.args.buf.now c.copy_out.new.buf c.is_struck_on-struck.ensures.sound
-    (has_one_on m c.args.d c.is_struck_on-struck.result c.if-struck.false c.is_struck_on-struck.ensures.struck.1) (subst (λ (n : Memory). c.copy_out.new.buf ≡ region (view_of n).now.disks c.args.d c.args.at (length c.args.buf.now)) c.count_on.ensures c.copy_out.ensures))
+    (has_one_on m c.args.d c.is_struck_on-struck.result c.if-struck.false c.is_struck_on-struck.ensures.struck.1)
+    (subst (λ (n : Memory). c.copy_out.new.buf ≡ region (view_of n).now.disks c.args.d c.args.at (length c.args.buf.now)) c.count_on.ensures c.copy_out.ensures))

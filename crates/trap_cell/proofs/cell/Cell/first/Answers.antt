@@ -8,10 +8,13 @@ pub returns-in_err-write-clause-any_moment : goal.returns-in_err-write-clause-an
 returns-in_err-write-clause-any_moment g c = begin_part _ _ _ _ _ _ _ _ c.write.ensures.call (omega arith) (omega arith)
 
 pub returns-in_err-write-2-clause-any_moment : goal.returns-in_err-write-2-clause-any_moment
-returns-in_err-write-2-clause-any_moment g c = moves_again _ _ _ _ (begin_part _ _ c.args.at _ (length c.args.value.now) _ _ _ c.write.ensures.call (omega arith) (omega arith)) (begin_part _ _ _ _ _ _ _ _ c.write-2.ensures.call (omega arith) (omega arith))
+returns-in_err-write-2-clause-any_moment g c = moves_again _ _ _ _ (begin_part _ _ c.args.at _ (length c.args.value.now) _ _ _ c.write.ensures.call (omega arith)
+    (omega arith)) (begin_part _ _ _ _ _ _ _ _ c.write-2.ensures.call (omega arith) (omega arith))
 
 pub returns-in_err-write-3-clause-any_moment : goal.returns-in_err-write-3-clause-any_moment
-returns-in_err-write-3-clause-any_moment g c = begin_three c.args.disk c.args.at (length c.args.value.now) _ _ _ _ (begin_part _ _ _ _ _ _ _ _ c.write.ensures.call (omega arith) (omega arith)) (begin_part _ _ _ _ _ _ _ _ c.write-2.ensures.call (omega arith) (omega arith)) (begin_part _ _ _ _ _ _ _ _ c.write-3.ensures.call (omega arith) (omega arith))
+returns-in_err-write-3-clause-any_moment g c = begin_three c.args.disk c.args.at (length c.args.value.now) _ _ _ _
+    (begin_part _ _ _ _ _ _ _ _ c.write.ensures.call (omega arith) (omega arith)) (begin_part _ _ _ _ _ _ _ _ c.write-2.ensures.call (omega arith) (omega arith))
+    (begin_part _ _ _ _ _ _ _ _ c.write-3.ensures.call (omega arith) (omega arith))
 
 pub returns-in_err-sync-clause-any_moment : goal.returns-in_err-sync-clause-any_moment
 returns-in_err-sync-clause-any_moment g c = begin_synced _ c.args.disk c.args.at (length c.args.value.now) _ _ _ (begin_three c.args.disk c.args.at (length c.args.value.now) _ _ _ _ (begin_part _ _ _ _ _ _ _ _ c.write.ensures.call (omega arith) (omega arith)) (begin_part _ _ _ _ _ _ _ _ c.write-2.ensures.call (omega arith) (omega arith)) (begin_part _ _ _ _ _ _ _ _ c.write-3.ensures.call (omega arith) (omega arith))) c.sync.ensures.call
@@ -41,10 +44,18 @@ pub returns-in_err-write-clause-calls : goal.returns-in_err-write-clause-calls
 returns-in_err-write-clause-calls g c = record { ok = search rules; most = called_at_most 1 4 _ _ (omega arith) (called_once _ _ _ c.write.ensures.call.goes) }
 
 pub returns-in_err-write-2-clause-calls : goal.returns-in_err-write-2-clause-calls
-returns-in_err-write-2-clause-calls g c = record { ok = search rules; most = called_at_most 2 4 _ _ (omega arith) (called_then 1 1 _ _ _ (called_once _ _ _ c.write.ensures.call.goes) (called_once _ _ _ c.write-2.ensures.call.goes)) }
+returns-in_err-write-2-clause-calls g c = record {
+  ok = search rules;
+  most = called_at_most 2 4 _ _ (omega arith)
+      (called_then 1 1 _ _ _ (called_once _ _ _ c.write.ensures.call.goes) (called_once _ _ _ c.write-2.ensures.call.goes));
+}
 
 pub returns-in_err-write-3-clause-calls : goal.returns-in_err-write-3-clause-calls
-returns-in_err-write-3-clause-calls g c = record { ok = search rules; most = called_at_most 3 4 _ _ (omega arith) (called_then 2 1 _ _ _ (called_then 1 1 _ _ _ (called_once _ _ _ c.write.ensures.call.goes) (called_once _ _ _ c.write-2.ensures.call.goes)) (called_once _ _ _ c.write-3.ensures.call.goes)) }
+returns-in_err-write-3-clause-calls g c = record {
+  ok = search rules;
+  most = called_at_most 3 4 _ _ (omega arith)
+      (called_then 2 1 _ _ _ (called_then 1 1 _ _ _ (called_once _ _ _ c.write.ensures.call.goes) (called_once _ _ _ c.write-2.ensures.call.goes)) (called_once _ _ _ c.write-3.ensures.call.goes));
+}
 
 pub returns-in_err-sync-clause-calls : goal.returns-in_err-sync-clause-calls
 returns-in_err-sync-clause-calls g c = record { ok = search rules; most = called_at_most 4 4 _ _ (omega arith) (called_then 3 1 _ _ _ (called_then 2 1 _ _ _ (called_then 1 1 _ _ _ (called_once _ _ _ c.write.ensures.call.goes) (called_once _ _ _ c.write-2.ensures.call.goes)) (called_once _ _ _ c.write-3.ensures.call.goes)) (called_once _ _ _ c.sync.ensures.call.goes)) }

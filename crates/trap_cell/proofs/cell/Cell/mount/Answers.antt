@@ -14,8 +14,11 @@ returns-clause-any_moment g c = same_then _ _ _ c.read.ensures.any_moment (read_
 pub returns-clause-mounted : goal.returns-clause-mounted
 returns-clause-mounted g c = record {
   place = refl;
-  value = mount_value c.in_ok-heads.heads (place_of c.args.disk c.args.at (length c.args.value.now)) c.in-Some.second (g.B.Bank.view c.args.bank.now) (g.B.Bank.view c.read.new.bank) c.slot_start-start.result _ c.in_ok-heads.ensures.heads c.read.ensures.same c.read.ensures.any_moment.tells (sym c.in-Some.is ∙ c.current.ensures) c.slot_start-start.ensures c.in_ok-read.ensures.call.bytes;
-  stands = mount_stands c.in_ok-heads.heads (place_of c.args.disk c.args.at (length c.args.value.now)) _ _ _ (g.B.Bank.view c.args.bank.now) _ c.requires.stable c.in_ok-heads.ensures.heads (sym c.in-Some.is ∙ c.current.ensures) c.turn-turn.ensures.turn c.is_other_open-other_open.ensures
+  value = mount_value c.in_ok-heads.heads (place_of c.args.disk c.args.at (length c.args.value.now)) c.in-Some.second (g.B.Bank.view c.args.bank.now)
+      (g.B.Bank.view c.read.new.bank) c.slot_start-start.result _ c.in_ok-heads.ensures.heads c.read.ensures.same c.read.ensures.any_moment.tells
+      (sym c.in-Some.is ∙ c.current.ensures) c.slot_start-start.ensures c.in_ok-read.ensures.call.bytes;
+  stands = mount_stands c.in_ok-heads.heads (place_of c.args.disk c.args.at (length c.args.value.now)) _ _ _ (g.B.Bank.view c.args.bank.now) _ c.requires.stable
+      c.in_ok-heads.ensures.heads (sym c.in-Some.is ∙ c.current.ensures) c.turn-turn.ensures.turn c.is_other_open-other_open.ensures
       (same_then _ _ _ c.read.ensures.any_moment (read_steps _ _ _ _ _ _ _ c.read-2.ensures.call));
 }
 

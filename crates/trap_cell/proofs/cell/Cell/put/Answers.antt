@@ -29,13 +29,16 @@ pub returns-in_err-shut-clause-contents : goal.returns-in_err-shut-clause-conten
 returns-in_err-shut-clause-contents g c = put_shut_contents _ _ (g.B.Bank.view c.args.bank.now) (g.B.Bank.view c.shut.new.bank) c.requires.stands c.shut.ensures.contents
 
 pub returns-in_err-fill-clause-contents : goal.returns-in_err-fill-clause-contents
-returns-in_err-fill-clause-contents g c = put_fill_contents _ _ (g.B.Bank.view c.args.bank.now) (g.B.Bank.view c.shut.new.bank) (g.B.Bank.view c.fill.new.bank) c.requires.stands c.shut.ensures.any_moment.tells c.shut.ensures.contents c.fill.ensures.contents
+returns-in_err-fill-clause-contents g c = put_fill_contents _ _ (g.B.Bank.view c.args.bank.now) (g.B.Bank.view c.shut.new.bank) (g.B.Bank.view c.fill.new.bank)
+    c.requires.stands c.shut.ensures.any_moment.tells c.shut.ensures.contents c.fill.ensures.contents
 
 pub returns-in_err-open-clause-contents : goal.returns-in_err-open-clause-contents
-returns-in_err-open-clause-contents g c = put_open_contents _ _ (g.B.Bank.view c.args.bank.now) (g.B.Bank.view c.shut.new.bank) (g.B.Bank.view c.fill.new.bank) (g.B.Bank.view c.open.new.bank) c.requires.stands c.shut.ensures.any_moment.tells c.fill.ensures.any_moment.tells c.shut.ensures.contents c.fill.ensures.contents c.open.ensures.contents
+returns-in_err-open-clause-contents g c = put_open_contents _ _ (g.B.Bank.view c.args.bank.now) (g.B.Bank.view c.shut.new.bank) (g.B.Bank.view c.fill.new.bank)
+    (g.B.Bank.view c.open.new.bank) c.requires.stands c.shut.ensures.any_moment.tells c.fill.ensures.any_moment.tells c.shut.ensures.contents c.fill.ensures.contents c.open.ensures.contents
 
 pub returns-clause-contents : goal.returns-clause-contents
-returns-clause-contents g c = put_open_contents _ _ (g.B.Bank.view c.args.bank.now) (g.B.Bank.view c.shut.new.bank) (g.B.Bank.view c.fill.new.bank) (g.B.Bank.view c.open.new.bank) c.requires.stands c.shut.ensures.any_moment.tells c.fill.ensures.any_moment.tells c.shut.ensures.contents c.fill.ensures.contents c.open.ensures.contents
+returns-clause-contents g c = put_open_contents _ _ (g.B.Bank.view c.args.bank.now) (g.B.Bank.view c.shut.new.bank) (g.B.Bank.view c.fill.new.bank)
+    (g.B.Bank.view c.open.new.bank) c.requires.stands c.shut.ensures.any_moment.tells c.fill.ensures.any_moment.tells c.shut.ensures.contents c.fill.ensures.contents c.open.ensures.contents
 
 pub returns-in_err-shut-clause-stages : goal.returns-in_err-shut-clause-stages
 returns-in_err-shut-clause-stages g c = stage_shut _ _ _ _ _ c.shut.ensures.gate
@@ -44,22 +47,33 @@ pub returns-in_err-fill-clause-stages : goal.returns-in_err-fill-clause-stages
 returns-in_err-fill-clause-stages g c = stage_fill _ _ _ _ _ _ c.shut.ensures.gate c.in_ok-shut.ensures.ok c.fill.ensures.any_moment
 
 pub returns-in_err-open-clause-stages : goal.returns-in_err-open-clause-stages
-returns-in_err-open-clause-stages g c = stage_open _ _ _ _ _ _ c.shut.ensures.gate c.in_ok-shut.ensures.ok c.in_ok-fill.ensures.ok c.in_ok-fill.ensures.stable c.shut.ensures.contents c.fill.ensures.contents c.open.ensures.gate
+returns-in_err-open-clause-stages g c = stage_open _ _ _ _ _ _ c.shut.ensures.gate c.in_ok-shut.ensures.ok c.in_ok-fill.ensures.ok c.in_ok-fill.ensures.stable
+    c.shut.ensures.contents c.fill.ensures.contents c.open.ensures.gate
 
 pub returns-clause-stages : goal.returns-clause-stages
-returns-clause-stages g c = stage_open _ _ _ _ _ _ c.shut.ensures.gate c.in_ok-shut.ensures.ok c.in_ok-fill.ensures.ok c.in_ok-fill.ensures.stable c.shut.ensures.contents c.fill.ensures.contents c.open.ensures.gate
+returns-clause-stages g c = stage_open _ _ _ _ _ _ c.shut.ensures.gate c.in_ok-shut.ensures.ok c.in_ok-fill.ensures.ok c.in_ok-fill.ensures.stable c.shut.ensures.contents
+    c.fill.ensures.contents c.open.ensures.gate
 
 pub returns-in_err-shut-clause-cell : goal.returns-in_err-shut-clause-cell
 returns-in_err-shut-clause-cell g c = record { ok = search rules; err = search rules; calls = record { ok = search rules; most = at_most_more _ _ _ _ (omega arith) c.shut.ensures.calls.most } }
 
 pub returns-in_err-fill-clause-cell : goal.returns-in_err-fill-clause-cell
-returns-in_err-fill-clause-cell g c = record { ok = search rules; err = search rules; calls = record { ok = search rules; most = at_most_then _ 3 _ _ _ _ (omega arith) c.shut.ensures.calls.most c.fill.ensures.calls.most } }
+returns-in_err-fill-clause-cell g c = record {
+  ok = search rules;
+  err = search rules;
+  calls = record
+      { ok = search rules; most = at_most_then _ 3 _ _ _ _ (omega arith) c.shut.ensures.calls.most c.fill.ensures.calls.most };
+}
 
 pub returns-in_err-open-clause-cell : goal.returns-in_err-open-clause-cell
 returns-in_err-open-clause-cell g c = record {
   ok = search rules;
   err = search rules;
-  calls = record { ok = search rules; most = at_most_then _ (3 + 2) _ _ _ _ (omega arith) c.shut.ensures.calls.most (at_most_then 3 2 (3 + 2) _ _ _ (omega arith) c.fill.ensures.calls.most c.open.ensures.calls.most) };
+  calls = record {
+    ok = search rules;
+    most = at_most_then _ (3 + 2) _ _ _ _ (omega arith) c.shut.ensures.calls.most
+        (at_most_then 3 2 (3 + 2) _ _ _ (omega arith) c.fill.ensures.calls.most c.open.ensures.calls.most);
+  };
 }
 
 pub returns-clause-cell : goal.returns-clause-cell

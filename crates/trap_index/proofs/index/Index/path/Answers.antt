@@ -19,7 +19,8 @@ retained-number-requires-clause-high c =
 
 pub overflow_add-turns : goal.overflow_add-turns
 overflow_add-turns c =
-    let more = walk_goes_on c.args.self.now c.args.block c.args.seq c.loop-number.turns c.loop-number.number c.newest-number.ensures.indexed c.loop-number.invariant c.retained-number.result.prev c.loop-number-test.true (ap (λ (x : Item). x.prev) c.retained-number.ensures) in
+    let more = walk_goes_on c.args.self.now c.args.block c.args.seq c.loop-number.turns c.loop-number.number c.newest-number.ensures.indexed c.loop-number.invariant
+    c.retained-number.result.prev c.loop-number-test.true (ap (λ (x : Item). x.prev) c.retained-number.ensures) in
     let short = walk_short c.args.self.now c.args.block c.args.seq (c.loop-number.turns + 1) c.retained-number.result.prev c.newest-number.ensures.indexed more in
     let few = c.newest-number.ensures.indexed.few in
     let most = c.args.self.now.g.within.entries_most in
@@ -27,11 +28,13 @@ overflow_add-turns c =
 
 pub loop-number-smaller : goal.loop-number-smaller
 loop-number-smaller c =
-    walk_falls c.args.self.now c.args.block c.args.seq c.loop-number.turns c.loop-number.number c.newest-number.ensures.indexed c.loop-number.invariant c.retained-number.result.prev c.loop-number-test.true (ap (λ (x : Item). x.prev) c.retained-number.ensures)
+    walk_falls c.args.self.now c.args.block c.args.seq c.loop-number.turns c.loop-number.number c.newest-number.ensures.indexed c.loop-number.invariant
+    c.retained-number.result.prev c.loop-number-test.true (ap (λ (x : Item). x.prev) c.retained-number.ensures)
 
 pub loop-number-preserved : goal.loop-number-preserved
 loop-number-preserved c =
-    walk_goes_on c.args.self.now c.args.block c.args.seq c.loop-number.turns c.loop-number.number c.newest-number.ensures.indexed c.loop-number.invariant c.retained-number.result.prev c.loop-number-test.true (ap (λ (x : Item). x.prev) c.retained-number.ensures)
+    walk_goes_on c.args.self.now c.args.block c.args.seq c.loop-number.turns c.loop-number.number c.newest-number.ensures.indexed c.loop-number.invariant
+    c.retained-number.result.prev c.loop-number-test.true (ap (λ (x : Item). x.prev) c.retained-number.ensures)
 
 abbrev path_back : ℕ → Path
 path_back n = record { from = Present; turns = n; way = Back }

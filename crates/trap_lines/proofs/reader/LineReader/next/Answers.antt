@@ -1,7 +1,8 @@
 use Rattle.std.proofs.Common.{◌≡◌, ◌+◌, ◌≤◌, ◌-◌, ◌^◌, ◌==◌, ℕ, List, Some, None, length, take, drop, subst, sym, refl, ◌∙◌, length-take, arith}
 use Rattle.std.specs.List.{position}
 use Rattle.std.proofs.lemmas.List.{take_all}
-use Rattle.trap_lines.specs.Reader.{pending, taken, HasNoFeed, Refills}
+use Rattle.trap_script.specs.Lines.{HasNoFeed}
+use Rattle.trap_lines.specs.Reader.{pending, taken, Refills}
 use Rattle.trap_lines.proofs.reader.LineReader.next.Goals as goal
 use Rattle.trap_lines.proofs.Passing.{line_ends, front_grows, no_feed_found}
 
@@ -13,7 +14,8 @@ returns-in-Some-clause-found g c =
     let line = line_ends c.args.self.now c.pieces.self r2 c.pass.new.self c.pass_feed.new.self
     (stream c.args.source.now) (stream c.pieces.source) (stream c.await_more.new.source) c.in-Some.place
     c.pieces.invariant.1 c.pieces.invariant.2 c.await_more.ensures.passes c.await_more.ensures.line
-    (omega (arith, r2.within, r2.chunk.ok.0)) (subst (λ chunk. position (λ byte. byte == 10) (take (r2.end - r2.at) (drop r2.at chunk)) ≡ Some c.in-Some.place) c.deref.ensures.value (sym c.find_line_feed.ensures ∙ c.in-Some.is))
+    (omega (arith, r2.within, r2.chunk.ok.0)) (subst (λ chunk. position (λ byte. byte == 10) (take (r2.end - r2.at) (drop r2.at chunk)) ≡ Some c.in-Some.place)
+    c.deref.ensures.value (sym c.find_line_feed.ensures ∙ c.in-Some.is))
     c.pass.ensures.goes_on c.pass.ensures.line c.pass_feed.ensures.goes_on c.pass_feed.ensures.line in
     (line.0, line.1, line.2, there.1)
 
@@ -23,7 +25,8 @@ pieces-preserved g c =
     let r2 = c.await_more.new.self in
     let count = r2.end - r2.at in
     let there = subst (λ more. Refills more r2 (stream c.await_more.new.source)) c.if-not-branch.false c.in_ok-await_more.ensures.more in
-    let none : HasNoFeed (pending r2) = no_feed_found (pending r2) (subst (λ chunk. position (λ byte. byte == 10) (take (r2.end - r2.at) (drop r2.at chunk)) ≡ None) c.deref.ensures.value (sym c.find_line_feed.ensures ∙ c.in-None.is)) in
+    let none : HasNoFeed (pending r2) = no_feed_found (pending r2) (subst (λ chunk. position (λ byte. byte == 10) (take (r2.end - r2.at) (drop r2.at chunk)) ≡ None)
+    c.deref.ensures.value (sym c.find_line_feed.ensures ∙ c.in-None.is)) in
     let whole : take count (pending r2) ≡ pending r2 =
     take_all count (pending r2) (omega (arith, length-take count (drop r2.at r2.chunk.items))) in
     let grown = front_grows c.args.self.now c.pieces.self r2 c.pass-in-None.new.self

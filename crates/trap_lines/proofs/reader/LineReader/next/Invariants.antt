@@ -1,5 +1,6 @@
 use Rattle.std.proofs.Common.{◌≡◌, ℕ, ◌+◌, ◌-◌, ◌^◌, ◌≤◌, List, length}
-use Rattle.trap_lines.specs.Reader.{taken, HasNoFeed, IsLine, Passes, IsOpen}
+use Rattle.trap_script.specs.Lines.{HasNoFeed}
+use Rattle.trap_lines.specs.Reader.{taken, IsLine, Passes, IsOpen}
 use Rattle.trap_lines.proofs.reader.LineReader.next.Given as goal
 
 -- What was passed over since the call began is the front of a line.

@@ -8,4 +8,5 @@ pub returns-clause-pending : goal.returns-clause-pending
 returns-clause-pending c =
     subst (λ t. writes_held c.self.inside.g c.self.inside.slots.items c.max-self-inside.result (c.max-self-inside-2.result - c.max-self-inside.result) ≡ take (last_of t - c.args.seq) t.pending)
     c.self.view_is
-    (forgotten c.self.inside.g c.self.inside.drained c.self.inside.last c.max-self-inside.result c.max-self-inside-2.result c.args.seq c.self.inside.slots.items c.self.invariant.order c.max-self-inside.ensures c.max-self-inside-2.ensures)
+    (forgotten c.self.inside.g c.self.inside.drained c.self.inside.last c.max-self-inside.result c.max-self-inside-2.result c.args.seq c.self.inside.slots.items
+    c.self.invariant.order c.max-self-inside.ensures c.max-self-inside-2.ensures)

@@ -9,7 +9,8 @@ pub returns-clause-found : goal.returns-clause-found
 returns-clause-found g c told =
     let is = with_items_is c.in_ok-slots.slots c.read_slots.new.slots (omega arith) in
     subst (λ items. IsFound c.args.g.now c.args.drained c.args.last (g.B.Bank.view c.args.bank.now).now.disks (stage_held c.args.g.now c.args.drained c.args.last items)) (sym is)
-    (held_found c.args.g.now c.args.drained c.args.last c.read_slots.new.slots (g.B.Bank.view c.args.bank.now).now.disks c.requires.order c.in_ok-read_slots.ensures.spelled (c.in_ok-read_slots.ensures.read told))
+    (held_found c.args.g.now c.args.drained c.args.last c.read_slots.new.slots (g.B.Bank.view c.args.bank.now).now.disks c.requires.order
+    c.in_ok-read_slots.ensures.spelled (c.in_ok-read_slots.ensures.read told))
 
 pub returns-clause-numbers : goal.returns-clause-numbers
 returns-clause-numbers g c = (refl, refl, last_held c.args.g.now c.args.drained c.args.last _ c.requires.order)
