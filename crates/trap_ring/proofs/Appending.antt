@@ -16,7 +16,7 @@ pub record IsFirst (r : RingPlace) (to n start count d : ℕ) (first : List ℕ)
   pub disk : d ≡ r.disk
   pub len : length first ≡ count
 
--- the bytes behind them, at its beginning
+-- the bytes after them, at its beginning
 pub record IsRest (r : RingPlace) (n count d at : ℕ) (rest : List ℕ) : Type 0 where
   pub disk : d ≡ r.disk
   pub at_beginning : at ≡ r.at
@@ -98,7 +98,7 @@ first-has r to n start count d first x is there k below =
     ap (λ (e : ℕ). byte x e (ring_pos r (to + k))) (sym is.disk)
     ∙ byte_in_region x d start (length first) k (ring_pos r (to + k)) first (omega arith) there below
 
--- and so do those behind them
+-- and so do those after them
 pub rest-has : (r : RingPlace) (to n start count d at : ℕ) (rest : List ℕ) (x : Disks) → GoesRoundEnd r to n start count → IsRest r n count d at rest → region x d at (length rest) ≡ rest
     → (k : ℕ) → k < length rest → ring_byte r (to + (count + k)) x ≡ get_or rest k 0
 rest-has r to n start count d at rest x cut is there k below =

@@ -14,7 +14,7 @@ mod_within len x k within =
     let sum : x + k ≡ x / len * len + (x % len + k) = omega arith in
     ap (λ (n : ℕ). n % len) sum ∙ mod-mul-add (x / len) len (x % len + k) within
 
--- an offset that is reached behind the ring's end, once round
+-- an offset that is reached after the ring's end, once round
 pub mod_wrapped : (len x k : ℕ) → len ≤ x % len + k → x % len + k - len < len → (x + k) % len ≡ x % len + k - len
 mod_wrapped len x k past once =
     let parts : x % len + x / len * len ≡ x = mod-add-div' x len in
@@ -39,7 +39,7 @@ mod_apart len x y some above near same =
     absurd (omega arith))
     (cases_lt (x % len + (y - x)) len)
 
--- the bytes of the first offsets stand one behind the other, up to the ring's end
+-- the bytes of the first offsets stand one after the other, up to the ring's end
 pub first-in : (r : RingPlace) (from n m e i : ℕ) → m ≤ n → from % r.len + m ≤ r.len → Within r.disk (r.at + from % r.len) m e i → InRing r from n e i
 first-in r from n m e i part fits within =
     let low = within.from in
@@ -53,7 +53,7 @@ first-in r from n m e i part fits within =
       place = (let same = mod_within r.len from (i - (r.at + from % r.len)) (omega arith) in omega arith);
     }
 
--- and those behind them stand at its beginning
+-- and those after them stand at its beginning
 pub second-in : (r : RingPlace) (from n m p e i : ℕ) → from % r.len + m ≡ r.len → m + p ≤ n → p ≤ r.len → Within r.disk r.at p e i → InRing r from n e i
 second-in r from n m p e i end part fits within =
     let low = within.from in
@@ -66,7 +66,7 @@ second-in r from n m p e i end part fits within =
       place = (let same = mod_wrapped r.len from (m + (i - r.at)) (omega arith) (omega arith) in omega arith);
     }
 
--- no offset of the window stands where one behind it does
+-- no offset of the window stands where one after it does
 pub window-apart : (r : RingPlace) (from to n x : ℕ) → 0 < r.len → to - from + n ≤ r.len → from ≤ x → x < to → InRing r to n r.disk (ring_pos r x) → ⊥
 window-apart r from to n x some room low high there =
     let above = there.low in
@@ -74,7 +74,7 @@ window-apart r from to n x some room low high there =
     let place = there.place in
     mod_apart r.len x there.offset some (omega arith) (omega arith) (omega arith)
 
--- what changes only behind the window keeps it
+-- what changes only after the window keeps it
 pub keeps-window : (r : RingPlace) (from to n : ℕ) (old new : Disks) → 0 < r.len → to - from + n ≤ r.len → Differs (InRing r to n) old new → KeepsWindow r from to old new
 keeps-window r from to n old new some room differs = record {
   outside = differs_mono (InRing r to n) (whole_ring r) old new

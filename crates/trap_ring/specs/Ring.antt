@@ -1,5 +1,5 @@
 -- A ring of bytes on a disk: the byte with absolute offset x stands at byte x mod its length.
-use Rattle.std.specs.Prelude.{◌≡◌, ℕ, ◌+◌, ◌%◌, ◌<◌, ◌≤◌, List, length, slice_index}
+use Rattle.std.specs.Prelude.{◌≡◌, ℕ, ◌+◌, ◌%◌, ◌<◌, ◌≤◌, List, length, slice_index, if◌then◌else◌, nat_le}
 use Rattle.trap_bank.specs.Disks.{Disks, Area, Within, Differs, byte}
 
 -- where a ring stands, and how many bytes it has
@@ -28,6 +28,10 @@ pub record GoesRoundEnd (r : RingPlace) (offset len start count : ℕ) : Type 0 
   pub part : count ≤ len
   pub fits : offset % r.len + count ≤ r.len
   pub round : count < len → offset % r.len + count ≡ r.len
+
+-- how many calls `len` bytes from an absolute offset on take: two where they go over the ring's end
+abbrev pub ring_calls : RingPlace → ℕ → ℕ → ℕ
+ring_calls r offset len = if nat_le (offset % r.len + len) r.len then 1 else 2
 
 -- the positions of n absolute offsets from one on
 pub record InRing (r : RingPlace) (from n e i : ℕ) : Type 0 where

@@ -3,9 +3,10 @@
 ghost use Rattle.std.specs.Prelude.{◌≡◌, ℕ, ◌+◌, ◌-◌, ◌<◌, ◌≤◌, ◌^◌, length, OnErr, OnOk, IsTrue};
 ghost use Rattle.trap_bank.specs.Faults.{Rose};
 ghost use Rattle.trap_bank.specs.Disks.{Differs, Torn};
+ghost use Rattle.trap_bank.specs.Called.{TakesCalls};
 ghost use Rattle.trap_bank.specs.Calls.{Fits};
 ghost use Rattle.trap_bank.specs.Steps.{Moves, Same};
-ghost use Rattle.trap_ring.specs.Ring.{InRing, RingHas, KeepsWindow, Appends, GoesRoundEnd};
+ghost use Rattle.trap_ring.specs.Ring.{InRing, RingHas, KeepsWindow, Appends, GoesRoundEnd, ring_calls};
 
 use std::marker::Model;
 use trap_bank::{Bank, DiskFault};
@@ -42,8 +43,8 @@ impl Ring {
         Ring { disk, at, len }
     }
 
-    /// Writes the bytes at the absolute offset `to`, after the window from `from` to `to`, in at
-    /// most two writes. It doesn't sync. After a fault any bytes may stand in the new ones' places.
+    /// Writes the bytes at the absolute offset `to`, after the window from `from` to `to`. It
+    /// doesn't sync. After a fault any bytes may stand in the new ones' places.
     pub fn append<B: Bank>(
         &self,
         bank: &mut B,
@@ -64,9 +65,9 @@ impl Ring {
             (Appends self.now from to bytes.now
             (B.view bank.old).now.disks (B.view bank.new).now.disks) }
 
-        // At most two writes, where each call raises the moment by one.
-        ensures calls { IsTrue (B.view bank.old).tells → IsTrue (B.view bank.old).by_one
-            → (B.view bank.new).moment ≤ (B.view bank.old).moment + 2 }
+        // One write, or two where the bytes go over the ring's end, and no other call.
+        ensures calls { TakesCalls (ring_calls self.now to (length bytes.now)) result
+            (B.view bank.old) (B.view bank.new) }
 
         // Stopped at any moment, no byte but those of the new bytes' places has changed.
         ensures any_moment { Moves (B.view bank.old) (B.view bank.new)
@@ -89,8 +90,8 @@ impl Ring {
         Ok(())
     }
 
-    /// Fills `buf` with the bytes from the absolute offset `at` on, in at most two reads. After a
-    /// fault `buf` holds any bytes.
+    /// Fills `buf` with the bytes from the absolute offset `at` on. After a fault `buf` holds any
+    /// bytes.
     pub fn read<B: Bank>(&self, bank: &mut B, at: u64, buf: &mut [u8]) -> Result<(), DiskFault>
         requires room { length buf.old ≤ self.now.len }
         requires there { Fits (B.view bank.old) self.now.disk (self.now.at + self.now.len) }
@@ -102,10 +103,10 @@ impl Ring {
         ensures bytes { IsTrue (B.view bank.old).tells
             → OnOk result (RingHas self.now at buf.new (B.view bank.old).now.disks) }
 
-        // At most two reads, where each call raises the moment by one.
-        ensures way { (B.view bank.new).by_one ≡ (B.view bank.old).by_one }
-        ensures calls { IsTrue (B.view bank.old).tells → IsTrue (B.view bank.old).by_one
-            → (B.view bank.new).moment ≤ (B.view bank.old).moment + 2 }
+        // One read, or two where the bytes go over the ring's end, and no other call.
+        ensures calls { TakesCalls (ring_calls self.now at (length buf.old)) result
+            (B.view bank.old) (B.view bank.new) }
+
         ensures any_moment { Moves (B.view bank.old) (B.view bank.new) Same Same }
     {
         let (start, count) = self.cut(at, buf.len());

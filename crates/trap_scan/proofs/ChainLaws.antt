@@ -1,10 +1,8 @@
 -- Bytes are read as records in one way.
-use Rattle.std.proofs.Common.{◌≡◌, ℕ, zero, suc, ◌-◌, ◌^◌, ◌<◌, ◌≤◌, List, ◌++◌, length, sym, ◌∙◌, ap, subst, inl, inr, arith}
+use Rattle.std.proofs.Common.{◌≡◌, ℕ, zero, suc, ◌^◌, ◌<◌, List, ◌++◌, length, sym, ◌∙◌, ap, subst, inl, inr, arith}
 use Rattle.trap_model.specs.declared.log_record.LogRec.{LogRec}
 use Rattle.trap_model.proofs.LogRecords.{LogRecord-apart, front-same}
 use Rattle.trap_scan.specs.Chain.{History, Follows, AreRecords, IsBroken}
-use Rattle.trap_scan.specs.declared.expected.Expected.{Expected}
-use Rattle.trap_scan.specs.Scan.{history_of, AreExpected, BreaksAt}
 
 -- one record begins the bytes
 follows_one : (h : History) (seq time more : ℕ) (bytes : List ℕ) (r q : LogRec) (rest tail : List ℕ) → h.size < 2 ^ 15
@@ -38,8 +36,3 @@ right_unbroken h seq time (suc more) bytes at small (r, rest, follows, right) (i
     let same = follows_one h seq time more bytes r q rest tail small follows next in
     right_unbroken h r.seq r.time more rest after small right
     (subst (λ (k : LogRec). IsBroken h k.seq k.time more rest after) (sym same.0) (subst (λ (l : List ℕ). IsBroken h q.seq q.time more l after) (sym same.1) breaks))
-
--- where the records that are expected stand, none breaks
-pub expected_unbroken : (e : Expected) (bytes : List ℕ) (at : ℕ) → e.size ≤ 4096 → AreExpected e bytes → BreaksAt e bytes at → ⊥
-expected_unbroken e bytes at small right breaks =
-    right_unbroken (history_of e) e.first e.base_time (e.last - e.first) bytes (at - e.first_off) (omega arith) right breaks.broken

@@ -1,13 +1,13 @@
 -- Records one after the other: what is known once the first ones are taken.
 use Rattle.std.proofs.Common.{◌≡◌, ℕ, suc, ◌+◌, ◌-◌, ◌<◌, ◌≤◌, List, ◌++◌, length, IsTrue, refl, sym, ◌∙◌, ap, subst, inl, inr, arith, length-append}
 use Rattle.trap_bank.specs.Disks.{Disks, View}
-use Rattle.trap_bank.specs.Steps.{Same}
-use Rattle.trap_bank.proofs.Moves.{same_then, no_moves}
+use Rattle.trap_bank.proofs.OnlyReads.{reads_none, reads_then}
+use Rattle.trap_bank.specs.Steps.{OnlyReads}
 use Rattle.trap_model.specs.declared.log_record.LogRec.{LogRec}
 use Rattle.trap_ring.specs.Ring.{RingPlace, RingHas}
 use Rattle.trap_scan.specs.Chain.{History, Follows, AreRecords, IsBroken}
 use Rattle.trap_scan.specs.Faults.{check_fault}
-use Rattle.trap_scan.specs.Window.{IsWindow, IsLoaded, IsAhead, Looks}
+use Rattle.trap_scan.specs.Window.{IsWindow, IsLoaded, IsAhead}
 use Rattle.trap_scan.specs.Scan.{IsAtFirst, BreaksAt, history_of, more_of, GivesNext, TakesNext, IsDamagedRecord, AreAhead, BreaksAhead}
 use Rattle.trap_scan.specs.declared.scan.Scan.{Scan}
 use Rattle.trap_scan.specs.declared.expected.Expected.{Expected}
@@ -45,7 +45,7 @@ leads_one h seq time count more bytes rest r some follows = record {
         let sum = length-append follows.first rest in
         omega arith
 
--- some records in front, and more behind them
+-- some records in front, and more after them
 pub leads_then : (h : History) (seq time count : ℕ) (bytes : List ℕ) (seq' time' count' : ℕ) (mid : List ℕ) (seq'' time'' count'' : ℕ) (rest : List ℕ)
     → Leads h seq time count bytes seq' time' count' mid → Leads h seq' time' count' mid seq'' time'' count'' rest → Leads h seq time count bytes seq'' time'' count'' rest
 leads_then h seq time count bytes seq' time' count' mid seq'' time'' count'' rest first second =
@@ -59,18 +59,7 @@ leads_then h seq time count bytes seq' time' count' mid seq'' time'' count'' res
           subst (λ (n : ℕ). IsBroken h seq time count bytes n) sum (first.broken (behind + (length mid - length rest)) (second.broken behind is));
     }
 
--- the disks were read at most, once and again
-pub looks_none : (v : View) → Looks v v
-looks_none v = record { sizes = λ e. refl; same = λ told. refl; moves = no_moves v Same Same (λ x was. refl) }
-
-pub looks_then : (a b c : View) → Looks a b → Looks b c → Looks a c
-looks_then a b c first second = record {
-  sizes = λ e. second.sizes e ∙ first.sizes e;
-  same = λ told. second.same (subst IsTrue (sym first.moves.tells) told) ∙ first.same told;
-  moves = same_then a b c first.moves second.moves;
-}
-
--- From what is ahead of one scan, the bytes ahead of a later one follow behind right records.
+-- From what is ahead of one scan, the bytes ahead of a later one follow after right records.
 pub record Reaches (place : RingPlace) (disks : Disks) (old new : Scan) (bytes : List ℕ) : Type 0 where
   pub rest : List ℕ
   pub ahead : IsAhead place new.window rest disks
@@ -80,7 +69,7 @@ pub record Reaches (place : RingPlace) (disks : Disks) (old new : Scan) (bytes :
 pub record Scanned (place : RingPlace) (a b : View) (old new : Scan) : Type 0 where
   pub expected : new.expected ≡ old.expected
   pub at : old.window.at ≤ new.window.at
-  pub looks : Looks a b
+  pub looks : OnlyReads a b
   pub loaded : IsTrue a.tells → IsLoaded place new.window a.now.disks
   pub reaches : IsTrue a.tells → (bytes : List ℕ) → IsAhead place old.window bytes a.now.disks → Reaches place a.now.disks old new bytes
 
@@ -88,26 +77,26 @@ pub scanned_none : (place : RingPlace) (v : View) (s : Scan) → (IsTrue v.tells
 scanned_none place v s loaded = record {
   expected = refl;
   at = omega arith;
-  looks = looks_none v;
+  looks = reads_none v;
   loaded = loaded;
   reaches = λ told bytes ahead. record { rest = bytes; ahead = ahead; leads = leads_none (history_of s.expected) s.seq s.time (s.expected.last - s.seq) bytes };
 }
 
 -- the disks of a bank that was read at most
-looked_disks : (a b : View) → Looks a b → IsTrue a.tells → b.now.disks ≡ a.now.disks
+looked_disks : (a b : View) → OnlyReads a b → IsTrue a.tells → b.now.disks ≡ a.now.disks
 looked_disks a b looks told = ap (λ c. c.disks) (looks.same told)
 
-told_then : (a b : View) → Looks a b → IsTrue a.tells → IsTrue b.tells
+told_then : (a b : View) → OnlyReads a b → IsTrue a.tells → IsTrue b.tells
 told_then a b looks told = subst IsTrue (sym looks.moves.tells) told
 
 -- one more record is taken
-pub scanned_next : (place : RingPlace) (a b c : View) (old mid new : Scan) (r : LogRec) → Scanned place a b old mid → mid.seq < mid.expected.last → Looks b c
+pub scanned_next : (place : RingPlace) (a b c : View) (old mid new : Scan) (r : LogRec) → Scanned place a b old mid → mid.seq < mid.expected.last → OnlyReads b c
     → new.expected ≡ mid.expected → TakesNext mid new r → (IsTrue b.tells → IsLoaded place new.window b.now.disks) → (IsTrue b.tells → GivesNext place mid new b.now.disks r)
     → Scanned place a c old new
 scanned_next place a b c old mid new r before more looks expected takes loaded gives = record {
   expected = expected ∙ before.expected;
   at = (let first = before.at in let second = takes.at in omega arith);
-  looks = looks_then a b c before.looks looks;
+  looks = reads_then a b c before.looks looks;
   loaded = λ told. subst (λ (d : Disks). IsLoaded place new.window d) (looked_disks a b before.looks told) (loaded (told_then a b before.looks told));
   reaches = λ told bytes ahead. reached told bytes (before.reaches told bytes ahead);
 }
@@ -122,7 +111,8 @@ scanned_next place a b c old mid new r before more looks expected takes loaded g
         let seq = takes.seq in
         let count : old.expected.last - mid.seq ≡ suc (more_of mid) = omega arith in
         let left : more_of mid ≡ old.expected.last - new.seq = omega arith in
-        let follows : Follows h mid.seq mid.time (more_of mid) reaches.rest r next.0 = subst (λ e. Follows (history_of e) mid.seq mid.time (more_of mid) reaches.rest r next.0) before.expected next.1 in
+        let follows : Follows h mid.seq mid.time (more_of mid) reaches.rest r next.0 =
+        subst (λ e. Follows (history_of e) mid.seq mid.time (more_of mid) reaches.rest r next.0) before.expected next.1 in
         let one = leads_one h mid.seq mid.time (old.expected.last - mid.seq) (more_of mid) reaches.rest next.0 r count follows in
         record {
           rest = next.0;

@@ -21,30 +21,30 @@ is_not false e is = cc
 pub not_below : (b : Bool) (m n : ℕ) → b ≡ false → (m < n → IsTrue b) → n ≤ m
 not_below b m n e below = ⊎_elim (λ (less : m < n). absurd (is_not b e (below less))) (λ (most : n ≤ m). most) (cases_lt m n)
 
--- the bytes of a ring behind the first ones
-pub ring_behind : (r : RingPlace) (at len : ℕ) (bytes : List ℕ) (disks : Disks) → RingHas r at bytes disks → RingHas r (at + len) (drop len bytes) disks
-ring_behind r at len bytes disks has k below =
+-- the bytes of a ring after the first ones
+pub ring_after : (r : RingPlace) (at len : ℕ) (bytes : List ℕ) (disks : Disks) → RingHas r at bytes disks → RingHas r (at + len) (drop len bytes) disks
+ring_after r at len bytes disks has k below =
     let short = length-drop len bytes in
     let place : at + len + k ≡ at + (len + k) = omega arith in
     ap (λ (n : ℕ). ring_byte r n disks) place ∙ has (len + k) (omega arith) ∙ sym (get_or-drop len bytes k 0)
 
 -- what is loaded stays so
-pub loaded_behind : (r : RingPlace) (len : ℕ) (old new : Window) (disks : Disks) → IsLoaded r old disks → PassesOver len old new → IsLoaded r new disks
-loaded_behind r len old new disks loaded over =
+pub loaded_after : (r : RingPlace) (len : ℕ) (old new : Window) (disks : Disks) → IsLoaded r old disks → PassesOver len old new → IsLoaded r new disks
+loaded_after r len old new disks loaded over =
     subst (λ (n : ℕ). RingHas r n (pending new) disks) (sym over.at)
-    (subst (λ (l : List ℕ). RingHas r (old.at + len) l disks) (sym over.pending) (ring_behind r old.at len (pending old) disks loaded))
+    (subst (λ (l : List ℕ). RingHas r (old.at + len) l disks) (sym over.pending) (ring_after r old.at len (pending old) disks loaded))
 
 -- and the rest of what was ahead is ahead
-pub ahead_behind : (r : RingPlace) (len : ℕ) (old mid new : Window) (bytes : List ℕ) (disks : Disks) → SamePlace old mid → PassesOver len mid new → len ≤ length bytes
+pub ahead_after : (r : RingPlace) (len : ℕ) (old mid new : Window) (bytes : List ℕ) (disks : Disks) → SamePlace old mid → PassesOver len mid new → len ≤ length bytes
     → IsAhead r old bytes disks → IsAhead r new (drop len bytes) disks
-ahead_behind r len old mid new bytes disks same over within ahead =
+ahead_after r len old mid new bytes disks same over within ahead =
     let at : new.at ≡ old.at + len = over.at ∙ ap (λ (n : ℕ). n + len) same.at in
     let end : new.end ≡ old.end = over.end ∙ same.end in
     let long = ahead.long in
     let short = length-drop len bytes in
     record {
       long = omega arith;
-      there = subst (λ (n : ℕ). RingHas r n (drop len bytes) disks) (sym at) (ring_behind r old.at len bytes disks ahead.there);
+      there = subst (λ (n : ℕ). RingHas r n (drop len bytes) disks) (sym at) (ring_after r old.at len bytes disks ahead.there);
     }
 
 -- the same scan, whose window has the same place

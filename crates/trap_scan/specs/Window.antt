@@ -1,7 +1,6 @@
 -- The bytes of a ring up to an offset, a first part of which stands in a buffer.
-use Rattle.std.specs.Prelude.{◌≡◌, ℕ, ◌+◌, ◌-◌, ◌≤◌, List, [], ◌++◌, length, min, take, drop, vec_len, Option, Some, None, IsTrue}
-use Rattle.trap_bank.specs.Disks.{Disks, View}
-use Rattle.trap_bank.specs.Steps.{Moves, Same}
+use Rattle.std.specs.Prelude.{◌≡◌, ℕ, ◌+◌, ◌-◌, ◌≤◌, List, [], ◌++◌, length, min, take, drop, vec_len, Option, Some, None}
+use Rattle.trap_bank.specs.Disks.{Disks}
 use Rattle.trap_model.specs.Limits.{greatest_record}
 use Rattle.trap_model.specs.LogRecord.{IsRecordInRange, LogRecord}
 use Rattle.trap_model.specs.declared.log_record.LogRec.{LogRec}
@@ -73,9 +72,3 @@ pub record IsWholeRecord (size : ℕ) (w : Window) : Type 0 where
   pub rec : LogRec
   pub len : ℕ
   pub whole : IsWhole size rec len (pending w)
-
--- the disks were read at most, and nothing changed
-pub record Looks (old new : View) : Type 0 where
-  pub sizes : (e : ℕ) → new.sizes e ≡ old.sizes e
-  pub same : IsTrue old.tells → new.now ≡ old.now
-  pub moves : Moves old new Same Same

@@ -3,8 +3,9 @@
 ghost use Rattle.std.specs.Prelude.{◌≡◌, ℕ, ◌+◌, ◌-◌, ◌<◌, ◌≤◌, ◌↔◌, List, IfOk, IsErrOf, IsTrue, OnErr};
 ghost use Rattle.trap_bank.specs.Faults.{Rose};
 ghost use Rattle.trap_bank.specs.Calls.{Fits};
+ghost use Rattle.trap_bank.specs.Steps.{OnlyReads};
 ghost use Rattle.trap_model.specs.Limits.{greatest_record};
-ghost use Rattle.trap_scan.specs.Window.{IsLoaded, IsWholeRecord, Looks};
+ghost use Rattle.trap_scan.specs.Window.{IsLoaded, IsWholeRecord};
 ghost use Rattle.trap_scan.specs.Scan.{IsAtFirst, IsLast, MayFollow, TakesRecord, TakesNext, TakesNoRecord, IsChecked, GivesNext, IsDamagedRecord};
 
 use super::Scan;
@@ -69,7 +70,7 @@ impl Scan {
         requires { self.now.window.at + front.now.len ≤ self.now.window.end }
         ensures { IsTrue result ↔ IsLast self.now front.now }
     {
-        if self.window.ends_behind(front.len) {
+        if self.window.ends_after(front.len) {
             front.rec.time == self.expected.last_time
         } else {
             false
@@ -133,7 +134,7 @@ impl Scan {
             → bank.new ≡ bank.old }
         ensures loaded { IsTrue (B.view bank.old).tells
             → IsLoaded ring.now self.new.window (B.view bank.old).now.disks }
-        ensures looks { Looks (B.view bank.old) (B.view bank.new) }
+        ensures looks { OnlyReads (B.view bank.old) (B.view bank.new) }
         ensures cause { IsErrOf result ScanFault.DiskFault
             → Rose ((B.view bank.old).faults ring.now.disk)
             ((B.view bank.new).faults ring.now.disk) }

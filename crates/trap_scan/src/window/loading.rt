@@ -3,9 +3,10 @@
 ghost use Rattle.std.specs.Prelude.{◌≡◌, ℕ, ◌+◌, ◌-◌, ◌≤◌, ◌↔◌, List, min, length, take, vec_len, OnErr, OnOk, IfOk, IsTrue};
 ghost use Rattle.trap_bank.specs.Faults.{Rose};
 ghost use Rattle.trap_bank.specs.Calls.{Fits};
+ghost use Rattle.trap_bank.specs.Steps.{OnlyReads};
 ghost use Rattle.trap_record.specs.Reading.{Reads};
 ghost use Rattle.trap_ring.specs.Ring.{RingHas};
-ghost use Rattle.trap_scan.specs.Window.{pending, IsBegun, SamePlace, PassesOver, IsLoaded, HasRoom, IsAhead, IsFront, IsPending, HasRanges, IsWholeRecord, Looks};
+ghost use Rattle.trap_scan.specs.Window.{pending, IsBegun, SamePlace, PassesOver, IsLoaded, HasRoom, IsAhead, IsFront, IsPending, HasRanges, IsWholeRecord};
 
 use super::{Front, Window};
 use std::alloc::{AllocError as OutOfMemory, Global};
@@ -26,7 +27,7 @@ fn read_front<B: Bank>(
     requires there { Fits (B.view bank.old) ring.now.disk (ring.now.at + ring.now.len) }
     ensures front { IsTrue (B.view bank.old).tells
         → OnOk result (RingHas ring.now at (take len buf.new) (B.view bank.old).now.disks) }
-    ensures looks { Looks (B.view bank.old) (B.view bank.new) }
+    ensures looks { OnlyReads (B.view bank.old) (B.view bank.new) }
     ensures cause { OnErr result (Rose ((B.view bank.old).faults ring.now.disk)
         ((B.view bank.new).faults ring.now.disk)) }
 {
@@ -57,7 +58,7 @@ impl Window {
     }
 
     /// Whether that many bytes are all there are.
-    pub fn ends_behind(&self, len: usize) -> bool
+    pub fn ends_after(&self, len: usize) -> bool
         requires { self.now.at + len ≤ self.now.end }
         ensures { IsTrue result ↔ (self.now.at + len ≡ self.now.end) }
     {
@@ -68,7 +69,7 @@ impl Window {
     fn is_whole(&self) -> bool
         ensures { IsTrue result ↔ (self.now.at + (self.now.to - self.now.from) ≡ self.now.end) }
     {
-        self.ends_behind(self.to - self.from)
+        self.ends_after(self.to - self.from)
     }
 
     /// What stands at the front of the bytes in the buffer.
@@ -98,7 +99,7 @@ impl Window {
             ≡ min (self.new.end - self.new.at) (vec_len self.new.buf)) }
         ensures loaded { IsTrue (B.view bank.old).tells
             → IsLoaded ring.now self.new (B.view bank.old).now.disks }
-        ensures looks { Looks (B.view bank.old) (B.view bank.new) }
+        ensures looks { OnlyReads (B.view bank.old) (B.view bank.new) }
         ensures cause { OnErr result (Rose ((B.view bank.old).faults ring.now.disk)
             ((B.view bank.new).faults ring.now.disk)) }
     {
@@ -136,7 +137,7 @@ impl Window {
         ensures untouched { IsWholeRecord size self.old → bank.new ≡ bank.old }
         ensures loaded { IsTrue (B.view bank.old).tells
             → IsLoaded ring.now self.new (B.view bank.old).now.disks }
-        ensures looks { Looks (B.view bank.old) (B.view bank.new) }
+        ensures looks { OnlyReads (B.view bank.old) (B.view bank.new) }
         ensures cause { OnErr result (Rose ((B.view bank.old).faults ring.now.disk)
             ((B.view bank.new).faults ring.now.disk)) }
     {

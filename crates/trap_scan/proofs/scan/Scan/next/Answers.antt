@@ -1,7 +1,7 @@
 use Rattle.std.proofs.Common.{drop, refl, subst}
 use Rattle.trap_record.specs.Reading.{IsWhole}
 use Rattle.trap_scan.specs.Window.{IsFront, HasRanges}
-use Rattle.trap_scan.proofs.Taking.{is_not, loaded_behind, ahead_behind, comes_next, none_next}
+use Rattle.trap_scan.proofs.Taking.{is_not, loaded_after, ahead_after, comes_next, none_next}
 use Rattle.trap_scan.proofs.scan.Scan.next.Goals as goal
 
 pub returns-clause-right : goal.returns-clause-right
@@ -13,12 +13,12 @@ returns-clause-right g c = λ told bytes ahead.
       drop c.in-Some.front.len bytes,
       comes_next place c.args.self.now _ c.in-Some.front bytes disks (record { expected = refl; seq = refl; time = refl; place = c.front.ensures.place })
           (c.may_follow.ensures.0 c.if-not-may_follow.false) whole ahead,
-      ahead_behind place c.in-Some.front.len c.args.self.now.window c.front.new.self c.take.new.self.window bytes disks c.front.ensures.place c.take.ensures.over whole.there ahead,
+      ahead_after place c.in-Some.front.len c.args.self.now.window c.front.new.self c.take.new.self.window bytes disks c.front.ensures.place c.take.ensures.over whole.there ahead,
     )
 
 pub returns-clause-loaded : goal.returns-clause-loaded
 returns-clause-loaded g c = λ told.
-    loaded_behind c.args.ring.now c.in-Some.front.len c.front.new.self c.take.new.self.window (g.B.Bank.view c.args.bank.now).now.disks (c.front.ensures.loaded told) c.take.ensures.over
+    loaded_after c.args.ring.now c.in-Some.front.len c.front.new.self c.take.new.self.window (g.B.Bank.view c.args.bank.now).now.disks (c.front.ensures.loaded told) c.take.ensures.over
 
 pub returns-then-not-may_follow-clause-damaged : goal.returns-then-not-may_follow-clause-damaged
 returns-then-not-may_follow-clause-damaged g c = λ told at is.

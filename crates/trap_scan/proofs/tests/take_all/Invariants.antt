@@ -1,6 +1,6 @@
 use Rattle.std.proofs.Common.{◌-◌}
 use Rattle.trap_scan.proofs.Chains.{Scanned}
-use Rattle.trap_scan.proofs.check.take_all.Given as goal
+use Rattle.trap_scan.proofs.tests.take_all.Given as goal
 
 -- Some records were taken, and all of them are right.
 abbrev pub invariant-records : goal.invariant-records

@@ -1,7 +1,8 @@
-ghost use Rattle.std.specs.Prelude.{◌≡◌, ◌-◌, ◌≤◌};
+ghost use Rattle.std.specs.Prelude.{◌≡◌, ◌+◌, ◌-◌, ◌≤◌, IsTrue};
+ghost use Rattle.trap_bank.specs.Calls.{Fits};
+ghost use Rattle.trap_scan.specs.Window.{IsLoaded};
 
-use super::take_all;
-use crate::{CheckFault, Expected, Scan, check_records};
+use crate::{CheckFault, Expected, Scan, ScanFault};
 use std::alloc::{AllocError as OutOfMemory, Global};
 use trap_bank::{Bank, MemoryBank};
 use trap_ring::Ring;
@@ -40,6 +41,19 @@ fn write<B: Bank>(bank: &mut B, records: &[u8; 109]) -> bool {
     }
 }
 
+// Takes all records that are to follow.
+fn take_all<B: Bank>(scan: &mut Scan, bank: &mut B, ring: &Ring) -> Result<(), ScanFault>
+    requires room { scan.old.window.end ≤ scan.old.window.at + ring.now.len }
+    requires there { Fits (B.view bank.old) ring.now.disk (ring.now.at + ring.now.len) }
+    requires loaded { IsTrue (B.view bank.old).tells
+        → IsLoaded ring.now scan.old.window (B.view bank.old).now.disks }
+{
+    'records: while scan.is_more() {
+        scan.next(bank, ring)?;
+    }
+    Ok(())
+}
+
 // Checks them through a buffer of at most that many bytes.
 fn check_through<B: Bank>(
     alloc: Global,
@@ -74,7 +88,11 @@ fn check<B: Bank>(alloc: Global, bank: &mut B, expected: &Expected) -> Result<()
 {
     let ring = Ring::new(0, 8, 144);
     match bank.size(0) {
-        Some(size) if size >= 152 => check_records(alloc, bank, &ring, expected),
+        Some(size) if size >= 152 => {
+            let mut scan = Scan::new(alloc, expected)?;
+            take_all(&mut scan, bank, &ring)?;
+            Ok(())
+        }
         _ => Err(CheckFault::DiskFault),
     }
 }
