@@ -7,7 +7,7 @@ use Rattle.trap_block.specs.Xor.{xor}
 use Rattle.trap_block.proofs.XorLemmas.{length-xor}
 use Rattle.trap_pool.specs.Frames.{Only}
 use Rattle.trap_pool.specs.Lending.{lent, laid_from}
-use Rattle.trap_pool.specs.Pooled.{Pooled, IsLive, block_of, with_block, unleased}
+use Rattle.trap_pool.specs.Pooled.{Pooled, IsLive, pool_block, with_pool_block, unleased}
 use Rattle.trap_pool.specs.Region.{blocks_in, IsRegion}
 use Rattle.trap_pool.proofs.Written.{over, put_is_over, vec_is_over}
 use Rattle.trap_pool.proofs.Regions.{length-blocks_in, block_at, blocks_over, blocks_from, blocks_of_zeros, before, apart}
@@ -25,7 +25,7 @@ inside size stride b live bytes is = subst (λ n. b < n) (length-blocks_in (leng
 
 -- the bytes of a block
 pub read : (size stride b : ℕ) (live : List Bool) (bytes : List ℕ) → IsLive (seen size stride live bytes) b
-    → slice_range bytes (b * stride) (b * stride + size) ≡ block_of (seen size stride live bytes) b
+    → slice_range bytes (b * stride) (b * stride + size) ≡ pool_block (seen size stride live bytes) b
 read size stride b live bytes is =
     let width : b * stride + size - b * stride ≡ size = omega arith in
     ap (λ n. take n (drop (b * stride) bytes)) width ∙ sym (block_at (length live) size stride b (b * stride) bytes (inside size stride b live bytes is) refl)
@@ -36,7 +36,7 @@ within size stride b n len low lt whole = let end : b * stride + size ≤ n * st
 
 -- a piece of a block's size, written where the block lies
 pub wrote : (size stride b : ℕ) (live : List Bool) (bytes ws : List ℕ) → IsRegion (length live) size stride bytes → IsLive (seen size stride live bytes) b → length ws ≡ size
-    → seen size stride live (over (b * stride) ws bytes) ≡ with_block (seen size stride live bytes) b ws
+    → seen size stride live (over (b * stride) ws bytes) ≡ with_pool_block (seen size stride live bytes) b ws
 wrote size stride b live bytes ws region is fits =
     let low : size ≤ stride = omega (arith, region.gap) in
     ap (λ bs. record { size = size; blocks = bs; live = live })
@@ -62,7 +62,7 @@ left size stride b len live bytes ws region is e =
 -- bytes with a piece of a block's size put over where the block lies, as a Vec keeps them
 stored : (size stride b len : ℕ) (live : List Bool) (bytes new ws : List ℕ) → IsRegion (length live) size stride bytes → IsLive (seen size stride live bytes) b → len ≡ length bytes
     → new ≡ put_over (b * stride) ws bytes → length ws ≡ size → length new ≡ length bytes
-    → seen size stride live (take len (new ++ drop (length new) bytes)) ≡ with_block (seen size stride live bytes) b ws
+    → seen size stride live (take len (new ++ drop (length new) bytes)) ≡ with_pool_block (seen size stride live bytes) b ws
 stored size stride b len live bytes new ws region is e put fits same =
     let low : size ≤ stride = omega (arith, region.gap) in
     let end : b * stride + size ≤ length bytes = within size stride b (length live) (length bytes) low (inside size stride b live bytes is) region.whole in
@@ -72,8 +72,8 @@ stored size stride b len live bytes new ws region is e put fits same =
 
 -- The same for what a call knows: its arguments, and the fields that they are seen as.
 pub read_in : (p : Pooled) (k size stride b : ℕ) (live : List Bool) (bytes : List ℕ) → seen size stride live bytes ≡ p → b ≡ k → IsLive p k
-    → slice_range bytes (b * stride) (b * stride + size) ≡ block_of p k
-read_in p k size stride b live bytes e f = moved (λ q n. IsLive q n → slice_range bytes (b * stride) (b * stride + size) ≡ block_of q n) e f (read size stride b live bytes)
+    → slice_range bytes (b * stride) (b * stride + size) ≡ pool_block p k
+read_in p k size stride b live bytes e f = moved (λ q n. IsLive q n → slice_range bytes (b * stride) (b * stride + size) ≡ pool_block q n) e f (read size stride b live bytes)
 
 pub left_in : (p : Pooled) (k size stride b len : ℕ) (live : List Bool) (bytes ws : List ℕ) → seen size stride live bytes ≡ p → b ≡ k → IsRegion (length live) size stride bytes
     → len ≡ length bytes → IsLive p k
@@ -87,9 +87,9 @@ left_in p k size stride b len live bytes ws e f region whole =
 pub stored_in : (p : Pooled) (k size stride b len : ℕ) (live : List Bool) (bytes new ws : List ℕ) → seen size stride live bytes ≡ p → b ≡ k
     → IsRegion (length live) size stride bytes → len ≡ length bytes
     → new ≡ put_over (b * stride) ws bytes → length ws ≡ size → length new ≡ length bytes → IsLive p k
-    → seen size stride live (take len (new ++ drop (length new) bytes)) ≡ with_block p k ws
+    → seen size stride live (take len (new ++ drop (length new) bytes)) ≡ with_pool_block p k ws
 stored_in p k size stride b len live bytes new ws e f region whole put fits same =
-    moved (λ q n. IsLive q n → seen size stride live (take len (new ++ drop (length new) bytes)) ≡ with_block q n ws) e f
+    moved (λ q n. IsLive q n → seen size stride live (take len (new ++ drop (length new) bytes)) ≡ with_pool_block q n ws) e f
     (λ is. stored size stride b len live bytes new ws region is whole put fits same)
 
 -- a leased block has the pool's size
@@ -109,7 +109,7 @@ apart_in p k j size stride b c live bytes f g region differ = apart size stride 
 pub xored : (p : Pooled) (k j size stride b c len : ℕ) (live : List Bool) (bytes shown new : List ℕ) → seen size stride live bytes ≡ p → b ≡ k → c ≡ j
     → IsRegion (length live) size stride bytes → len ≡ length bytes
     → shown ≡ bytes → new ≡ put_over (b * stride) (xor (slice_range shown (b * stride) (b * stride + size)) (slice_range shown (c * stride) (c * stride + size))) shown → length new ≡ length shown
-    → IsLive p k → IsLive p j → seen size stride live (take len (new ++ drop (length new) bytes)) ≡ with_block p k (xor (block_of p k) (block_of p j))
+    → IsLive p k → IsLive p j → seen size stride live (take len (new ++ drop (length new) bytes)) ≡ with_pool_block p k (xor (pool_block p k) (pool_block p j))
 xored p k j size stride b c len live bytes shown new e f g region whole show put same dst src =
     let to = slice_range bytes (b * stride) (b * stride + size) in
     let from = slice_range bytes (c * stride) (c * stride + size) in
@@ -118,20 +118,20 @@ xored p k j size stride b c len live bytes shown new e f g region whole show put
     let to_size : length to ≡ size = size_in p k size stride b live bytes e f region dst in
     let from_size : length from ≡ size = size_in p j size stride c live bytes e g region src in
     stored_in p k size stride b len live bytes new (xor to from) e f region whole put_in (length-xor to from (from_size ∙ sym to_size) ∙ to_size) (same ∙ ap length show) dst
-    ∙ ap (λ xs. with_block p k (xor xs from)) (read_in p k size stride b live bytes e f dst)
-    ∙ ap (λ ys. with_block p k (xor (block_of p k) ys)) (read_in p j size stride c live bytes e g src)
+    ∙ ap (λ xs. with_pool_block p k (xor xs from)) (read_in p k size stride b live bytes e f dst)
+    ∙ ap (λ ys. with_pool_block p k (xor (pool_block p k) ys)) (read_in p j size stride c live bytes e g src)
 
 -- one block becomes a copy of another
 pub copied : (p : Pooled) (k j size stride b c len : ℕ) (live : List Bool) (bytes shown new : List ℕ) → seen size stride live bytes ≡ p → b ≡ k → c ≡ j
     → IsRegion (length live) size stride bytes → len ≡ length bytes
     → shown ≡ bytes → new ≡ put_over (b * stride) (slice_range shown (c * stride) (c * stride + size)) shown → length new ≡ length shown
-    → IsLive p k → IsLive p j → seen size stride live (take len (new ++ drop (length new) bytes)) ≡ with_block p k (block_of p j)
+    → IsLive p k → IsLive p j → seen size stride live (take len (new ++ drop (length new) bytes)) ≡ with_pool_block p k (pool_block p j)
 copied p k j size stride b c len live bytes shown new e f g region whole show put same dst src =
     let from = slice_range bytes (c * stride) (c * stride + size) in
     let put_in : new ≡ put_over (b * stride) from bytes =
     subst (λ xs. new ≡ put_over (b * stride) (slice_range xs (c * stride) (c * stride + size)) xs) show put in
     stored_in p k size stride b len live bytes new from e f region whole put_in (size_in p j size stride c live bytes e g region src) (same ∙ ap length show) dst
-    ∙ ap (with_block p k) (read_in p j size stride c live bytes e g src)
+    ∙ ap (with_pool_block p k) (read_in p j size stride c live bytes e g src)
 
 -- what `new` makes
 pub made : (count size stride len : ℕ) (live : List Bool) (bytes : List ℕ) → live ≡ replicate count false → bytes ≡ replicate len 0 → stride ≡ size + 64 → len ≡ count * stride
@@ -142,7 +142,7 @@ made count size stride len live bytes e f gap whole =
     ∙ ap (λ bs. record { size = size; blocks = bs; live = replicate count false }) (blocks_of_zeros count size stride len whole (omega (arith, gap)))
 
 -- a write of one block changes no other
-pub only_block : (p q : Pooled) (k : ℕ) (bytes : List ℕ) → q ≡ with_block p k bytes → Only (k ∷ []) p q
+pub only_block : (p q : Pooled) (k : ℕ) (bytes : List ℕ) → q ≡ with_pool_block p k bytes → Only (k ∷ []) p q
 only_block p q k bytes e = subst (Only (k ∷ []) p) (sym e) (record {
   size = refl;
   live = refl;

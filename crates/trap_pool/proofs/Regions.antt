@@ -4,7 +4,7 @@ use Rattle.std.proofs.lemmas.Bool.{cases_order}
 use Rattle.std.proofs.lemmas.List.{length-drop, drop-drop, drop-replicate, take-replicate}
 use Rattle.std.proofs.Math.Nat.{mul-le-mul_right}
 use Rattle.trap_block.specs.Xor.{zeros}
-use Rattle.trap_pool.specs.Lending.{laid, laid_over, laid_from}
+use Rattle.trap_pool.specs.Lending.{laid, laid_across, laid_from}
 use Rattle.trap_pool.specs.Region.{blocks_in}
 use Rattle.trap_pool.proofs.Written.{over, take_laid, drop_laid, take_over, drop_over, take_piece, drop_piece}
 
@@ -49,7 +49,7 @@ blocks_over (suc n) size stride (suc k) at ws bytes e low h whole fits =
     ∙ ap (λ bs. take size bytes ∷ bs) (blocks_over n size stride k (k * stride) ws (drop stride bytes) refl low (omega (arith, h)) rest fits)
 
 -- any other piece runs over the gaps and the blocks after it
-blocks_laid : (n size stride : ℕ) (ws bytes : List ℕ) → blocks_in n size stride (laid ws bytes) ≡ laid_over stride ws (blocks_in n size stride bytes)
+blocks_laid : (n size stride : ℕ) (ws bytes : List ℕ) → blocks_in n size stride (laid ws bytes) ≡ laid_across stride ws (blocks_in n size stride bytes)
 blocks_laid zero size stride ws bytes = refl
 blocks_laid (suc n) size stride ws bytes =
     ap (λ b. b ∷ blocks_in n size stride (drop stride (laid ws bytes))) (take_laid size ws bytes)

@@ -6,7 +6,7 @@ use Rattle.std.proofs.lemmas.Bool.{both_ways, ltb-false, not-true}
 use Rattle.std.proofs.lemmas.List.{get_or_default, length-set}
 use Rattle.std.proofs.lemmas.List.Sums.{sum_by-cons, sum_by-set}
 use Rattle.std.proofs.lemmas.List.Quantifiers.{position-Some}
-use Rattle.trap_pool.specs.Pooled.{Pooled, IsLive, Takes, free_of}
+use Rattle.trap_pool.specs.Pooled.{Pooled, IsLive, Leased, free_of}
 use Rattle.trap_pool.specs.Region.{blocks_in}
 use Rattle.trap_pool.proofs.Regions.{length-blocks_in}
 use Rattle.trap_pool.proofs.Pools.{seen}
@@ -35,7 +35,7 @@ count_leased live k h e =
     omega (arith, all, gone)
 
 -- what is so where the first block that isn't leased is leased
-took : (live : List Bool) (size stride b : ℕ) (bytes : List ℕ) → position not live ≡ Some b → Takes b (seen size stride live bytes) (seen size stride (set live b true) bytes)
+took : (live : List Bool) (size stride b : ℕ) (bytes : List ℕ) → position not live ≡ Some b → Leased b (seen size stride live bytes) (seen size stride (set live b true) bytes)
 took live size stride b bytes found =
     let at = position-Some not live b true found in
     let free : get_or live b true ≡ false = not-true (get_or live b true) at.1 in
@@ -58,8 +58,9 @@ took live size stride b bytes found =
       free = count_leased live b at.0 free;
     }
 
-pub took_in : (p : Pooled) (live : List Bool) (size stride b : ℕ) (bytes : List ℕ) → seen size stride live bytes ≡ p → position not live ≡ Some b → Takes b p (seen size stride (set live b true) bytes)
-took_in p live size stride b bytes e found = subst (λ q. Takes b q (seen size stride (set live b true) bytes)) e (took live size stride b bytes found)
+pub took_in : (p : Pooled) (live : List Bool) (size stride b : ℕ) (bytes : List ℕ) → seen size stride live bytes ≡ p → position not live ≡ Some b
+    → Leased b p (seen size stride (set live b true) bytes)
+took_in p live size stride b bytes e found = subst (λ q. Leased b q (seen size stride (set live b true) bytes)) e (took live size stride b bytes found)
 
 -- some block is found exactly where one is free
 pub some_free : (p : Pooled) (live : List Bool) (size stride b : ℕ) (bytes : List ℕ) → seen size stride live bytes ≡ p → position not live ≡ Some b → (true ≡ true) ↔ (0 < free_of p)

@@ -32,7 +32,7 @@ take_over (suc n) zero ws xs h = absurd (omega (arith, h))
 take_over (suc n) (suc at) ws [] h = refl
 take_over (suc n) (suc at) ws (x ∷ xs) h = ap (λ ys. x ∷ ys) (take_over n at ws xs (omega (arith, h)))
 
--- what is left behind n is the rest, written over from that much earlier
+-- what is left after n is the rest, written over from that much earlier
 pub drop_over : (n at to : ℕ) (ws xs : List ℕ) → to ≡ n + at → drop n (over to ws xs) ≡ over at ws (drop n xs)
 drop_over zero at to ws xs h = let e : to ≡ at = omega (arith, h) in ap (λ i. over i ws xs) e
 drop_over (suc n) at zero ws xs h = absurd (omega (arith, h))

@@ -14,12 +14,12 @@ unleased count size =
     record { size = size; blocks = replicate count (zeros size); live = replicate count false }
 
 -- the bytes of block k
-abbrev pub block_of : Pooled → ℕ → List ℕ
-block_of p k = get_or p.blocks k []
+abbrev pub pool_block : Pooled → ℕ → List ℕ
+pool_block p k = get_or p.blocks k []
 
 -- with these bytes in block k, and everything else as it was
-abbrev pub with_block : Pooled → ℕ → List ℕ → Pooled
-with_block p k bytes = record p { blocks = set p.blocks k bytes }
+abbrev pub with_pool_block : Pooled → ℕ → List ℕ → Pooled
+with_pool_block p k bytes = record p { blocks = set p.blocks k bytes }
 
 -- block k is leased
 pub record IsLive (p : Pooled) (k : ℕ) : Type 0 where
@@ -35,7 +35,7 @@ abbrev pub with_live : Pooled → ℕ → Bool → Pooled
 with_live p k live = record p { live = set p.live k live }
 
 -- block k is leased now, and no lease that was out before names it
-pub record Takes (k : ℕ) (old new : Pooled) : Type 0 where
+pub record Leased (k : ℕ) (old new : Pooled) : Type 0 where
   pub is : new ≡ with_live old k true
   pub live : IsLive new k
   pub distinct : (j : ℕ) → IsLive old j → j ≢ k

@@ -3,7 +3,7 @@
 ghost use Rattle.std.specs.Prelude.{◌≡◌, ◌≢◌, ◌↔◌, ◌<◌, ◌∷◌, [], length, IfOk, IsSome, MatchOption};
 ghost use Rattle.std.specs.Borrow.{sem};
 ghost use Rattle.trap_block.specs.Xor.{xor};
-ghost use Rattle.trap_pool.specs.Pooled.{unleased, block_of, with_block, IsLive, free_of, Takes, Gives};
+ghost use Rattle.trap_pool.specs.Pooled.{unleased, pool_block, with_pool_block, IsLive, free_of, Leased, Gives};
 ghost use Rattle.trap_pool.specs.Frames.{Only};
 ghost use Rattle.trap_pool.specs.Lending.{LendsBlock};
 
@@ -80,7 +80,7 @@ impl Pool {
     /// Leases a block. Its bytes are what they were.
     pub fn take(&mut self) -> Option<Lease>
         ensures free { IsSome result ↔ (0 < free_of self.old) }
-        ensures pool { MatchOption result (self.new ≡ self.old) (λ k. Takes k self.old self.new) }
+        ensures pool { MatchOption result (self.new ≡ self.old) (λ k. Leased k self.old self.new) }
     {
         let block = first_free(&self.live)?;
         self.live[block] = true;
@@ -106,7 +106,7 @@ impl Pool {
     /// The bytes of a leased block.
     pub fn bytes(&self, lease: &Lease) -> &[u8]
         requires { IsLive self.now lease.now }
-        ensures bytes { result.now ≡ block_of self.now lease.now }
+        ensures bytes { result.now ≡ pool_block self.now lease.now }
         ensures size { length result.now ≡ self.now.size }
     {
         let at = lease.block * self.stride;
@@ -119,7 +119,7 @@ impl Pool {
     pub fn bytes_mut(&mut self, lease: &Lease) -> &mut [u8]
         requires { IsLive self.old lease.now }
         ensures* writes { sem 𝓛 (LendsBlock self.entry lease.now result) }
-        ensures bytes { result.now ≡ block_of self.old lease.now }
+        ensures bytes { result.now ≡ pool_block self.old lease.now }
         ensures size { length result.now ≡ self.old.size }
     {
         let at = lease.block * self.stride;
@@ -132,8 +132,8 @@ impl Pool {
         requires dst { IsLive self.old dst.now }
         requires src { IsLive self.old src.now }
         requires differ { dst.now ≢ src.now }
-        ensures xor { self.new ≡ with_block self.old dst.now
-            (xor (block_of self.old dst.now) (block_of self.old src.now)) }
+        ensures xor { self.new ≡ with_pool_block self.old dst.now
+            (xor (pool_block self.old dst.now) (pool_block self.old src.now)) }
         ensures rest { Only (dst.now ∷ []) self.old self.new }
     {
         let to = dst.block * self.stride;
@@ -146,7 +146,7 @@ impl Pool {
         requires dst { IsLive self.old dst.now }
         requires src { IsLive self.old src.now }
         requires differ { dst.now ≢ src.now }
-        ensures copy { self.new ≡ with_block self.old dst.now (block_of self.old src.now) }
+        ensures copy { self.new ≡ with_pool_block self.old dst.now (pool_block self.old src.now) }
         ensures rest { Only (dst.now ∷ []) self.old self.new }
     {
         let to = dst.block * self.stride;

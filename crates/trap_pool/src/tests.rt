@@ -1,7 +1,7 @@
 ghost use Rattle.std.specs.Prelude.{◌≡◌, ◌∷◌, [], length};
 ghost use Rattle.trap_block.specs.Xor.{xor};
 ghost use Rattle.trap_pool.specs.Frames.{AreLeases, Only};
-ghost use Rattle.trap_pool.specs.Pooled.{block_of, free_of};
+ghost use Rattle.trap_pool.specs.Pooled.{pool_block, free_of};
 
 use crate::{Lease, Pool};
 use std::test::Fail;
@@ -24,7 +24,7 @@ fn is_used_up(pool: &mut Pool) -> bool
 fn mix(pool: &mut Pool, into: &Lease, scratch: &Lease, bytes: &[u8])
     requires leases { AreLeases pool.old (into.now ∷ scratch.now ∷ []) }
     requires size { length bytes.now ≡ pool.old.size }
-    ensures mixed { block_of pool.new into.now ≡ xor (block_of pool.old into.now) bytes.now }
+    ensures mixed { pool_block pool.new into.now ≡ xor (pool_block pool.old into.now) bytes.now }
     ensures rest { Only (into.now ∷ scratch.now ∷ []) pool.old pool.new }
 {
     pool.bytes_mut(scratch).copy_from_slice(bytes);

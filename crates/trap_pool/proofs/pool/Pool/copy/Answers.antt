@@ -1,5 +1,5 @@
 use Rattle.trap_pool.proofs.Pools.{copied, apart_in, only_block}
-use Rattle.trap_pool.specs.Pooled.{block_of}
+use Rattle.trap_pool.specs.Pooled.{pool_block}
 use Rattle.trap_pool.proofs.pool.Pool.copy.Goals as goal
 
 pub copy_within-requires-clause-apart : goal.copy_within-requires-clause-apart
@@ -16,4 +16,4 @@ returns c =
     let s = c.self.inside in
     let is = copied p k j s.size s.stride c.dst.inside.block c.src.inside.block s.region.len s.live.items s.region.items c.deref_mut.result.now c.copy_within.new.bytes
     c.self.view_is c.dst.view_is c.src.view_is c.self.invariant s.region.ok.0 c.deref_mut.ensures.value c.copy_within.ensures c.copy_within.auto.bytes c.requires.dst c.requires.src in
-    record { copy = is; rest = only_block p _ k (block_of p j) is }
+    record { copy = is; rest = only_block p _ k (pool_block p j) is }

@@ -1,6 +1,6 @@
 use Rattle.trap_pool.proofs.Pools.{xored, apart_in, only_block}
 use Rattle.trap_block.specs.Xor.{xor}
-use Rattle.trap_pool.specs.Pooled.{block_of}
+use Rattle.trap_pool.specs.Pooled.{pool_block}
 use Rattle.trap_pool.proofs.pool.Pool.xor.Goals as goal
 
 pub xor_within-requires-clause-apart : goal.xor_within-requires-clause-apart
@@ -17,4 +17,4 @@ returns c =
     let s = c.self.inside in
     let is = xored p k j s.size s.stride c.dst.inside.block c.src.inside.block s.region.len s.live.items s.region.items c.deref_mut.result.now c.xor_within.new.bytes
     c.self.view_is c.dst.view_is c.src.view_is c.self.invariant s.region.ok.0 c.deref_mut.ensures.value c.xor_within.ensures c.xor_within.auto.bytes c.requires.dst c.requires.src in
-    record { xor = is; rest = only_block p _ k (xor (block_of p k) (block_of p j)) is }
+    record { xor = is; rest = only_block p _ k (xor (pool_block p k) (pool_block p j)) is }
