@@ -80,7 +80,9 @@ entry_kept m q at kept is low high place read =
     }
 
 -- the block of an entry before it
-pub before_is : (m : PastInMemory) (q count block : ℕ) (base : List (List ℕ)) (entries : List Kept) (found : List ℕ) → base ≡ m.base → entries ≡ m.entries → count ≡ q - m.first - 1 → block ≡ (entry_at (state_of m) q).block → found ≡ block_of (image_after base (map kept_entry (take count entries))) block → found ≡ block_of (image_at (state_of m) (q - 1)) (entry_at (state_of m) q).block
+pub before_is : (m : PastInMemory) (q count block : ℕ) (base : List (List ℕ)) (entries : List Kept) (found : List ℕ) → base ≡ m.base → entries ≡ m.entries
+    → count ≡ q - m.first - 1 → block ≡ (entry_at (state_of m) q).block → found ≡ block_of (image_after base (map kept_entry (take count entries))) block
+    → found ≡ block_of (image_at (state_of m) (q - 1)) (entry_at (state_of m) q).block
 before_is m q count block base entries found base_is entries_is place writes is =
     let same : count ≡ q - 1 - m.first = omega arith in
     is

@@ -28,7 +28,8 @@ writes_to-more i block k inside is =
     let rec = get_or i.recs k no_rec in
     let t : (rec.block == block) ≡ true = eq-eqb rec.block block is in
     let one : cond (rec.block == block) (rec ∷ []) [] ≡ rec ∷ [] = rw t refl in
-    let more : of_block block (take (k + 1) i.recs) ≡ of_block block (take k i.recs) ++ cond (rec.block == block) (rec ∷ []) [] = filter_more (λ (r : LogRec). r.block == block) i.recs k no_rec inside in
+    let more : of_block block (take (k + 1) i.recs) ≡ of_block block (take k i.recs) ++ cond (rec.block == block) (rec ∷ []) [] = filter_more
+    (λ (r : LogRec). r.block == block) i.recs k no_rec inside in
     ap (λ (l : List LogRec). length l) (more ∙ ap (λ (l : List LogRec). of_block block (take k i.recs) ++ l) one) ∙ length-append (of_block block (take k i.recs)) (rec ∷ [])
 
 module _ (i : Indexed) (v : Retained) (s : State) (of : IsOf v s) (index : IsIndexOf i v) where
@@ -78,13 +79,16 @@ module _ (i : Indexed) (v : Retained) (s : State) (of : IsOf v s) (index : IsInd
       ap (λ (n : ℕ). length (block_of (image_after s.base (take n s.entries)) block)) next
       ∙ ⊎_elim
       (λ (e : entry.block ≡ block).
-      sym (ap (λ (b : List ℕ). length b) (block_more_same s.base s.entries k entry block (omega arith) (get_or_default s.entries k no_entry entry (omega arith)) e (omega arith))) ∙ whole_block k (omega arith))
+      sym (ap (λ (b : List ℕ). length b) (block_more_same s.base s.entries k entry block (omega arith) (get_or_default s.entries k no_entry entry (omega arith)) e (omega arith)))
+      ∙ whole_block k (omega arith))
       (λ (h : entry.block ≡ block → ⊥).
-      sym (ap (λ (b : List ℕ). length b) (block_more_other s.base s.entries k entry block (omega arith) (get_or_default s.entries k no_entry entry (omega arith)) h)) ∙ sized_at block k inside (omega arith))
+      sym (ap (λ (b : List ℕ). length b) (block_more_other s.base s.entries k entry block (omega arith) (get_or_default s.entries k no_entry entry (omega arith)) h))
+      ∙ sized_at block k inside (omega arith))
       (cases_eq entry.block block)
 
   -- where no record between writes a block, it stays
-  pub stays : (block p d : ℕ) → p + d ≤ length i.recs → writes_to i block (p + d) ≡ writes_to i block p → block_of (image_after s.base (take (p + d) s.entries)) block ≡ block_of (image_after s.base (take p s.entries)) block
+  pub stays : (block p d : ℕ) → p + d ≤ length i.recs → writes_to i block (p + d) ≡ writes_to i block p
+      → block_of (image_after s.base (take (p + d) s.entries)) block ≡ block_of (image_after s.base (take p s.entries)) block
   stays block p zero within same = ap (λ (n : ℕ). block_of (image_after s.base (take n s.entries)) block) (add-zero p)
   stays block p (suc d) within same =
       let k = p + d in
@@ -102,7 +106,8 @@ module _ (i : Indexed) (v : Retained) (s : State) (of : IsOf v s) (index : IsInd
       ∙ stays block p d (omega arith) (omega arith)
 
   -- the block before an entry that writes it is the block after it, with the entry's parity taken back
-  pub taken_back : (block number : ℕ) → block < v.volume → i.first < number → number ≤ last_seq i → (get_or i.recs (number - (i.first + 1)) no_rec).block ≡ block → xor (block_of (image_after s.base (take (number - i.first) s.entries)) block) (parity_at s number) ≡ block_of (image_after s.base (take (number - (i.first + 1)) s.entries)) block
+  pub taken_back : (block number : ℕ) → block < v.volume → i.first < number → number ≤ last_seq i → (get_or i.recs (number - (i.first + 1)) no_rec).block ≡ block
+      → xor (block_of (image_after s.base (take (number - i.first) s.entries)) block) (parity_at s number) ≡ block_of (image_after s.base (take (number - (i.first + 1)) s.entries)) block
   taken_back block number inside low high writes =
       let long = as_long in
       let blocks = of.blocks in
@@ -116,7 +121,8 @@ module _ (i : Indexed) (v : Retained) (s : State) (of : IsOf v s) (index : IsInd
       let is : entry.block ≡ block = sym (same_block k (omega arith)) ∙ writes in
       let old = block_of (image_after s.base (take k s.entries)) block in
       let new : block_of (image_after s.base (take (number - i.first) s.entries)) block ≡ entry.bytes =
-      ap (λ (n : ℕ). block_of (image_after s.base (take n s.entries)) block) after ∙ sym (block_more_same s.base s.entries k entry block (omega arith) (get_or_default s.entries k no_entry entry (omega arith)) is (omega arith)) in
+      ap (λ (n : ℕ). block_of (image_after s.base (take n s.entries)) block) after
+      ∙ sym (block_more_same s.base s.entries k entry block (omega arith) (get_or_default s.entries k no_entry entry (omega arith)) is (omega arith)) in
       let of_entry : entry_at s number ≡ entry = ap (λ (n : ℕ). get_or s.entries n no_entry) at_entry in
       let of_image : image_at s (number - 1) ≡ image_after s.base (take k s.entries) = ap (λ (n : ℕ). image_after s.base (take n s.entries)) at_image in
       let parity : parity_at s number ≡ xor old entry.bytes =

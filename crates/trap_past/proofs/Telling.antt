@@ -47,7 +47,8 @@ of_described i s v is valid index blocks size =
     }
 
 -- as many records as entries write a block, where they write the same ones
-same_count : (block : ℕ) (recs : List LogRec) (entries : List Entry) → length recs ≡ length entries → ((k : ℕ) → k < length recs → (get_or recs k no_rec).block ≡ (get_or entries k no_entry).block) → length (of_block block recs) ≡ length (model.of_block block entries)
+same_count : (block : ℕ) (recs : List LogRec) (entries : List Entry) → length recs ≡ length entries
+    → ((k : ℕ) → k < length recs → (get_or recs k no_rec).block ≡ (get_or entries k no_entry).block) → length (of_block block recs) ≡ length (model.of_block block entries)
 same_count block [] [] long same = refl
 same_count block [] (entry ∷ entries) long same = cc
 same_count block (rec ∷ recs) [] long same = cc

@@ -28,7 +28,7 @@ pub record Traced (i : Indexed) (old new : Past) (block seq number : ℕ) (into 
   pub reaches : seq - i.first ≤ before
   pub next : number ≡ newest block (take before i.recs)
   pub passed : turns + writes_to i block before ≡ length (of_block block i.recs)
-  pub calls : Undoes turns old new
+  pub calls : Undoes turns block old new
   pub faults : old.faults ≤ new.faults
   pub told : (s : State) → old.stands s → into ≡ block_of (image_after s.base (take before s.entries)) block
 
@@ -36,7 +36,8 @@ pub record Traced (i : Indexed) (old new : Past) (block seq number : ℕ) (into 
 all_taken : (s : State) (count : ℕ) → count ≡ length s.entries → image_after s.base (take count s.entries) ≡ image s
 all_taken s count is = ap (image_after s.base) (take_all count s.entries (omega arith))
 
-pub trace_begins : (i : Indexed) (old new : Past) (block seq number : ℕ) (into : List ℕ) → IsIndexOf i old.has → IsLawful old → seq ≤ old.has.last → number ≡ newest block i.recs → GivesPresent old new → old.faults ≤ new.faults → ((s : State) → old.stands s → into ≡ block_of (image s) block) → Traced i old new block seq number into
+pub trace_begins : (i : Indexed) (old new : Past) (block seq number : ℕ) (into : List ℕ) → IsIndexOf i old.has → IsLawful old → seq ≤ old.has.last → number ≡ newest block i.recs
+    → GivesPresent block old new → old.faults ≤ new.faults → ((s : State) → old.stands s → into ≡ block_of (image s) block) → Traced i old new block seq number into
 trace_begins i old new block seq number into index lawful high is call faults told =
     let all : take (length i.recs) i.recs ≡ i.recs = take_all (length i.recs) i.recs (omega arith) in
     let one = index.last in
@@ -47,7 +48,7 @@ trace_begins i old new block seq number into index lawful high is call faults to
       reaches = omega arith;
       next = is ∙ ap (newest block) (sym all);
       passed = (let counts : writes_to i block (length i.recs) ≡ length (of_block block i.recs) = ap (λ (l : List LogRec). length (of_block block l)) all in omega arith);
-      calls = undoes_none old new call;
+      calls = undoes_none block old new call;
       faults = faults;
       told = λ s stands.
           let long = as_long i old.has s (lawful s stands) index in
@@ -106,12 +107,14 @@ module _ (i : Indexed) (old new : Past) (block seq number : ℕ) (into : List �
       let fewer = of_block_more block i.recs (seq - i.first) (number - (i.first + 1)) (omega arith) in
       omega arith
 
-  pub trace_faulty : (next : Past) → IsIndexOf i old.has → old.has.first ≤ seq → seq < number → GivesParity new next → UndoesAtMost (length (of_block block (recs_above i seq))) old next
+  pub trace_faulty : (next : Past) → IsIndexOf i old.has → old.has.first ≤ seq → seq < number → GivesParity new next → UndoesAtMost (length (of_block block (recs_above i seq))) block old next
   trace_faulty next index low above call =
       let one = index.first in
-      undoes_at_most (was.turns + 1) (length (of_block block (recs_above i seq))) old next (undoes_more was.turns old new next was.calls call) (trace_few (omega arith) above)
+      undoes_at_most (was.turns + 1) (length (of_block block (recs_above i seq))) block old next (undoes_more was.turns block old new next was.calls call) (trace_few (omega arith) above)
 
-  pub trace_goes_on : (next : Past) (older : ℕ) (parity after : List ℕ) → IsIndexOf i old.has → IsLawful old → block < old.has.volume → seq < number → older ≡ (item_at i number).prev → GivesParity new next → new.faults ≤ next.faults → ((s : State) → new.stands s → parity ≡ parity_at s number) → after ≡ xor into parity → Traced i old next block seq older after
+  pub trace_goes_on : (next : Past) (older : ℕ) (parity after : List ℕ) → IsIndexOf i old.has → IsLawful old → block < old.has.volume → seq < number
+      → older ≡ (item_at i number).prev → GivesParity new next → new.faults ≤ next.faults → ((s : State) → new.stands s → parity ≡ parity_at s number) → after ≡ xor into parity
+      → Traced i old next block seq older after
   trace_goes_on next older parity after index lawful inside above prev call faults gives xored =
       let at = above_is above in
       let low = at.low in
@@ -128,7 +131,7 @@ module _ (i : Indexed) (old new : Past) (block seq number : ℕ) (into : List �
         reaches = omega arith;
         next = prev ∙ ap (λ (b : ℕ). newest b (take (number - (i.first + 1)) i.recs)) at.writes;
         passed = omega arith;
-        calls = undoes_more was.turns old new next was.calls call;
+        calls = undoes_more was.turns block old new next was.calls call;
         faults = omega arith;
         told = λ s stands.
             let of = lawful s stands in
@@ -147,16 +150,16 @@ module _ (i : Indexed) (old new : Past) (block seq number : ℕ) (into : List �
   trace_all : i.first ≤ seq → number ≤ seq → was.turns ≡ length (of_block block (recs_above i seq))
   trace_all low met = walk_ends i block seq was.turns number is walked low met
 
-  pub trace_turns : IsIndexOf i old.has → old.has.first ≤ seq → number ≤ seq → Undoes (length (of_block block (recs_above i seq))) old new
+  pub trace_turns : IsIndexOf i old.has → old.has.first ≤ seq → number ≤ seq → Undoes (length (of_block block (recs_above i seq))) block old new
   trace_turns index low met =
       let one = index.first in
-      subst (λ (n : ℕ). Undoes n old new) (trace_all (omega arith) met) was.calls
+      subst (λ (n : ℕ). Undoes n block old new) (trace_all (omega arith) met) was.calls
 
-  pub trace_at_most : IsIndexOf i old.has → old.has.first ≤ seq → number ≤ seq → UndoesAtMost (length (of_block block (recs_above i seq))) old new
+  pub trace_at_most : IsIndexOf i old.has → old.has.first ≤ seq → number ≤ seq → UndoesAtMost (length (of_block block (recs_above i seq))) block old new
   trace_at_most index low met =
       let one = index.first in
       let all = trace_all (omega arith) met in
-      undoes_at_most was.turns (length (of_block block (recs_above i seq))) old new was.calls (omega arith)
+      undoes_at_most was.turns (length (of_block block (recs_above i seq))) block old new was.calls (omega arith)
 
   pub trace_ends : IsIndexOf i old.has → IsLawful old → old.has.first ≤ seq → number ≤ seq → (s : State) → old.stands s → into ≡ block_of (image_at s seq) block
   trace_ends index lawful low met s stands =

@@ -30,7 +30,8 @@ undo_one size old new e f = ap (xor new) (xor-comm old new) ∙ xor_twice size n
 image_written : (g : Geometry) (base : List (List ℕ)) (entry : Entry) (later : List Entry) → IsImage g base → All (IsEntry g) (entry ∷ later) → IsImage g (written base entry)
 image_written g base entry later is entries = image_after_is_image g base (take 1 (entry ∷ later)) is (All-take (IsEntry g) 1 (entry ∷ later) entries)
 
-pub undone : (g : Geometry) (base : List (List ℕ)) (entries : List Entry) (block : ℕ) → IsImage g base → All (IsEntry g) entries → block < volume g → block_of base block ≡ contents_before (block_of (image_after base entries) block) (parities_over block base entries)
+pub undone : (g : Geometry) (base : List (List ℕ)) (entries : List Entry) (block : ℕ) → IsImage g base → All (IsEntry g) entries → block < volume g
+    → block_of base block ≡ contents_before (block_of (image_after base entries) block) (parities_over block base entries)
 undone g base [] block is all inside = refl
 undone g base (entry ∷ later) block is all inside =
     let next : IsImage g (written base entry) = image_written g base entry later is all in

@@ -28,6 +28,8 @@ pub record PastInMemory : Type 0 where
   pub presents : ℕ
   pub parities : ℕ
   pub snapshots : ℕ
+  -- the block whose present contents were asked for last
+  pub asked : ℕ
   -- how many calls there were, up to the greatest number of 64 bits, and the number of the one that
   -- is to fail
   pub calls : ℕ
@@ -79,6 +81,7 @@ past_of m = record {
   presents = m.presents;
   parities = m.parities;
   snapshots = m.snapshots;
+  asked = m.asked;
   faults = m.faults;
 }
 
@@ -108,6 +111,7 @@ zero_past g first base_time first_off = record {
   presents = 0;
   parities = 0;
   snapshots = 0;
+  asked = 0;
   calls = 0;
   failing = 0;
   faults = 0;
@@ -120,7 +124,7 @@ with_entry m rec contents =
 
 -- The call fails exactly where its number was chosen, and exactly then the count of faults rises.
 -- What is kept stays.
-pub record FailsAsChosen {T E : Type 0} (result : Result T E) (old new : PastInMemory)
+pub record PastFailsAsChosen {T E : Type 0} (result : Result T E) (old new : PastInMemory)
     : Type 0 where
   pub calls : new.calls ≡ one_more old.calls
   pub failing : new.failing ≡ old.failing

@@ -13,6 +13,7 @@ past_memory_of past = record {
   presents = past.presents;
   parities = past.parities;
   snapshots = past.snapshots;
+  asked = past.asked;
   calls = past.calls;
   failing = past.failing;
   faults = past.faults;

@@ -1,5 +1,5 @@
 -- What a source of the past means, and what its methods do.
-use Rattle.std.specs.Prelude.{◌≡◌, ◌↔◌, ℕ, ◌+◌, ◌^◌, ◌<◌, ◌≤◌, length, Result, IfErr}
+use Rattle.std.specs.Prelude.{◌≡◌, ◌↔◌, ◌⊎◌, ℕ, ◌+◌, ◌^◌, ◌<◌, ◌≤◌, length, Result, IfErr}
 use Rattle.trap_bank.specs.Faults.{HasCause}
 use Rattle.trap_model.specs.declared.history.Entry.{Entry}
 use Rattle.trap_model.specs.declared.history.State.{State}
@@ -28,6 +28,8 @@ pub record Past : Type 1 where
   pub presents : ℕ
   pub parities : ℕ
   pub snapshots : ℕ
+  -- the block whose present contents were asked for last
+  pub asked : ℕ
   -- how many faults there were
   pub faults : ℕ
 
@@ -86,34 +88,40 @@ pub record Remains (old new : Past) : Type 0 where
   pub stands : (s : State) → old.stands s ↔ new.stands s
 
 -- one call of a method: its count rises by one, and the other two stay
-pub record GivesPresent (old new : Past) : Type 0 where
+pub record GivesPresent (block : ℕ) (old new : Past) : Type 0 where
   pub remains : Remains old new
   pub presents : new.presents ≡ old.presents + 1
+  pub asked : new.asked ≡ block
   pub parities : new.parities ≡ old.parities
   pub snapshots : new.snapshots ≡ old.snapshots
 
 pub record GivesParity (old new : Past) : Type 0 where
   pub remains : Remains old new
   pub presents : new.presents ≡ old.presents
+  pub asked : new.asked ≡ old.asked
   pub parities : new.parities ≡ old.parities + 1
   pub snapshots : new.snapshots ≡ old.snapshots
 
 pub record GivesSnapshot (old new : Past) : Type 0 where
   pub remains : Remains old new
   pub presents : new.presents ≡ old.presents
+  pub asked : new.asked ≡ old.asked
   pub parities : new.parities ≡ old.parities
   pub snapshots : new.snapshots ≡ old.snapshots + 1
 
--- the present was asked for once, parities `turns` times, and no snapshot was
-pub record Undoes (turns : ℕ) (old new : Past) : Type 0 where
+-- the present was asked for once, of this block, parities `turns` times, and no snapshot was
+pub record Undoes (turns block : ℕ) (old new : Past) : Type 0 where
   pub remains : Remains old new
   pub presents : new.presents ≡ old.presents + 1
+  pub asked : new.asked ≡ block
   pub parities : new.parities ≡ old.parities + turns
   pub snapshots : new.snapshots ≡ old.snapshots
 
--- the present was asked for at most once, parities at most `turns` times, and no snapshot was
-pub record UndoesAtMost (turns : ℕ) (old new : Past) : Type 0 where
+-- the present was asked for at most once, and then of this block, parities at most `turns` times,
+-- and no snapshot was
+pub record UndoesAtMost (turns block : ℕ) (old new : Past) : Type 0 where
   pub remains : Remains old new
-  pub presents : new.presents ≤ old.presents + 1
+  pub present : (new.presents ≡ old.presents)
+      ⊎ ((new.presents ≡ old.presents + 1) × (new.asked ≡ block))
   pub parities : new.parities ≤ old.parities + turns
   pub snapshots : new.snapshots ≡ old.snapshots

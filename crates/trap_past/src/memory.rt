@@ -1,16 +1,18 @@
 //! A past in memory.
 
 ghost use Rattle.std.proofs.Common.{rules, ◌∙◌};
-ghost use Rattle.std.specs.Prelude.{◌≡◌, ◌↔◌, ◌^◌, ◌+◌, ◌-◌, ◌<◌, ◌≤◌, length, map, IfOk, IsErr, IsTrue, OnErr, OnOk};
+ghost use Rattle.std.specs.Prelude.{◌≡◌, ◌↔◌, ◌^◌, ◌+◌, ◌-◌, ◌<◌, ◌≤◌, ◌∷◌, [], length, map, IfOk, IsErr, IsTrue, OnErr, OnOk};
 ghost use Rattle.trap_bank.specs.Counts.{one_more};
 ghost use Rattle.trap_index.specs.Indexed.{last_seq, item_at};
 ghost use Rattle.trap_model.specs.Image.{volume, block_of, image_after, zero_image};
 ghost use Rattle.trap_model.specs.Records.{entry_at};
 ghost use Rattle.trap_model.specs.State.{image, image_at};
 ghost use Rattle.trap_model.specs.declared.history.State.{State};
-ghost use Rattle.trap_past.specs.Memory.{kept_entry, state_of, index_of, past_of, zero_past, with_entry, Stays, CallFailed, FailsAsChosen};
+ghost use Rattle.trap_past.specs.Memory.{kept_entry, state_of, index_of, past_of, zero_past, with_entry, Stays, CallFailed, PastFailsAsChosen};
 ghost use Rattle.trap_past.specs.Past.{IsOf, IsRetained, HasBlame, GivesPresent, GivesParity, GivesSnapshot};
 ghost use Rattle.trap_past.specs.Undo.{parity_at};
+ghost use Rattle.trap_pool.specs.Frames.{AreLeases, Only};
+ghost use Rattle.trap_pool.specs.Pooled.{pool_block, IsLive};
 
 use crate::{Parities, Present};
 use std::alloc::{AllocError as OutOfMemory, Global};
@@ -18,6 +20,7 @@ use std::marker::Model;
 use trap_bank::Failed;
 use trap_block::xor_into;
 use trap_model::{Block, Geometry, LogRec};
+use trap_pool::{Lease, Pool};
 
 /// An entry: the header of its record, and the contents that it writes.
 #[derive(Debug, Drop)]
@@ -40,6 +43,7 @@ pub struct MemoryPast {
     presents: u64,
     parities: u64,
     snapshots: u64,
+    asked: u32,
     calls: u64,
     failing: u64,
     faults: u64,
@@ -79,6 +83,7 @@ impl MemoryPast {
             presents: 0,
             parities: 0,
             snapshots: 0,
+            asked: 0,
             calls: 0,
             failing: 0,
             faults: 0,
@@ -159,22 +164,31 @@ impl Present for MemoryPast {
 
     ghost causes = { CallFailed };
 
-    fn present(&mut self, block: u32, into: &mut [u8], _scratch: &mut [u8]) -> Result<(), Failed>
+    fn present(
+        &mut self,
+        pool: &mut Pool,
+        block: u32,
+        into: &Lease,
+        _scratch: &Lease,
+    ) -> Result<(), Failed>
         requires block { block < (past_of self.old).has.volume }
-        requires into { length into.old ≡ (past_of self.old).has.size }
-        requires scratch { length _scratch.old ≡ (past_of self.old).has.size }
+        requires size { pool.old.size ≡ (past_of self.old).has.size }
+        requires leases { AreLeases pool.old (into.now ∷ _scratch.now ∷ []) }
         requires few { (past_of self.old).presents < 2 ^ 63 }
         ensures present { (s : State) → (past_of self.old).stands s
-            → OnOk result (into.new ≡ block_of (image s) block) }
-        ensures call { GivesPresent (past_of self.old) (past_of self.new) }
+            → OnOk result (pool_block pool.new into.now ≡ block_of (image s) block) }
+        ensures rest { Only (into.now ∷ _scratch.now ∷ []) pool.old pool.new }
+        ensures call { GivesPresent block (past_of self.old) (past_of self.new) }
         ensures goes { Stays self.old self.new }
         ensures blame { HasBlame past_of CallFailed result self.old self.new }
         ensures told { (s : State) → (past_of self.old).stands s → IsOf (past_of self.old).has s }
-        ensures struck { FailsAsChosen result self.old self.new }
+        ensures struck { PastFailsAsChosen result self.old self.new }
     {
         self.presents += 1;
+        self.asked = block;
         self.strike()?;
-        into.copy_from_slice(contents_after(&self.base, &self.entries, block as usize).as_slice());
+        let contents = contents_after(&self.base, &self.entries, block as usize);
+        pool.bytes_mut(into).copy_from_slice(contents.as_slice());
         Ok(())
     }
 
@@ -187,40 +201,46 @@ impl Present for MemoryPast {
 }
 
 impl Parities for MemoryPast {
-    fn parity(&mut self, seq: u64, into: &mut [u8]) -> Result<(), Failed>
+    fn parity(&mut self, pool: &mut Pool, seq: u64, into: &Lease) -> Result<(), Failed>
         requires retained { IsRetained (past_of self.old).has seq }
-        requires into { length into.old ≡ (past_of self.old).has.size }
+        requires size { pool.old.size ≡ (past_of self.old).has.size }
+        requires lease { IsLive pool.old into.now }
         requires few { (past_of self.old).parities < 2 ^ 63 }
         ensures parity { (s : State) → (past_of self.old).stands s
-            → OnOk result (into.new ≡ parity_at s seq) }
+            → OnOk result (pool_block pool.new into.now ≡ parity_at s seq) }
+        ensures rest { Only (into.now ∷ []) pool.old pool.new }
         ensures call { GivesParity (past_of self.old) (past_of self.new) }
         ensures goes { Stays self.old self.new }
         ensures blame { HasBlame past_of CallFailed result self.old self.new }
-        ensures struck { FailsAsChosen result self.old self.new }
+        ensures struck { PastFailsAsChosen result self.old self.new }
     {
         self.parities += 1;
         self.strike()?;
         let kept = self.kept(seq);
-        into.copy_from_slice(self.before(seq).as_slice());
-        xor_into(into, kept.contents.as_slice());
+        pool.bytes_mut(into)
+            .copy_from_slice(self.before(seq).as_slice());
+        xor_into(pool.bytes_mut(into), kept.contents.as_slice());
         Ok(())
     }
 
-    fn snapshot(&mut self, seq: u64, into: &mut [u8]) -> Result<(), Failed>
+    fn snapshot(&mut self, pool: &mut Pool, seq: u64, into: &Lease) -> Result<(), Failed>
         requires retained { IsRetained (past_of self.old).has seq }
         requires marked { IsTrue ((past_of self.old).has.item seq).snap }
-        requires into { length into.old ≡ (past_of self.old).has.size }
+        requires size { pool.old.size ≡ (past_of self.old).has.size }
+        requires lease { IsLive pool.old into.now }
         requires few { (past_of self.old).snapshots < 2 ^ 63 }
         ensures snapshot { (s : State) → (past_of self.old).stands s
-            → OnOk result (into.new ≡ (entry_at s seq).bytes) }
+            → OnOk result (pool_block pool.new into.now ≡ (entry_at s seq).bytes) }
+        ensures rest { Only (into.now ∷ []) pool.old pool.new }
         ensures call { GivesSnapshot (past_of self.old) (past_of self.new) }
         ensures goes { Stays self.old self.new }
         ensures blame { HasBlame past_of CallFailed result self.old self.new }
-        ensures struck { FailsAsChosen result self.old self.new }
+        ensures struck { PastFailsAsChosen result self.old self.new }
     {
         self.snapshots += 1;
         self.strike()?;
-        into.copy_from_slice(self.kept(seq).contents.as_slice());
+        pool.bytes_mut(into)
+            .copy_from_slice(self.kept(seq).contents.as_slice());
         Ok(())
     }
 }

@@ -1,14 +1,19 @@
 //! Where the present and the write parities come from.
 
-ghost use Rattle.std.specs.Prelude.{◌≡◌, ◌^◌, ◌<◌, length, IsTrue, OnOk};
+ghost use Rattle.std.specs.Prelude.{◌≡◌, ◌^◌, ◌<◌, ◌∷◌, [], IsTrue, OnOk};
 ghost use Rattle.trap_model.specs.Image.{block_of};
 ghost use Rattle.trap_model.specs.Records.{entry_at};
 ghost use Rattle.trap_model.specs.State.{image};
 ghost use Rattle.trap_model.specs.declared.history.State.{State};
 ghost use Rattle.trap_past.specs.Past.{Past, IsOf, IsRetained, HasBlame, GivesPresent, GivesParity, GivesSnapshot};
 ghost use Rattle.trap_past.specs.Undo.{parity_at};
+ghost use Rattle.trap_pool.specs.Frames.{AreLeases, Only};
+ghost use Rattle.trap_pool.specs.Pooled.{pool_block, IsLive};
 
-/// A source of present blocks. A method fills `into`, and after a fault `into` holds any bytes.
+use trap_pool::{Lease, Pool};
+
+/// A source of present blocks. A method fills the block of `into`, which after a fault holds any
+/// bytes.
 pub trait Present {
     /// Why a method gave nothing.
     type Fault;
@@ -25,17 +30,19 @@ pub trait Present {
     /// Gives the block's present contents. It may use `scratch`, which then holds any bytes.
     fn present(
         &mut self,
+        pool: &mut Pool,
         block: u32,
-        into: &mut [u8],
-        scratch: &mut [u8],
+        into: &Lease,
+        scratch: &Lease,
     ) -> Result<(), Self::Fault>
         requires block { block < (view self.old).has.volume }
-        requires into { length into.old ≡ (view self.old).has.size }
-        requires scratch { length scratch.old ≡ (view self.old).has.size }
+        requires size { pool.old.size ≡ (view self.old).has.size }
+        requires leases { AreLeases pool.old (into.now ∷ scratch.now ∷ []) }
         requires few { (view self.old).presents < 2 ^ 63 }
         ensures present { (s : State) → (view self.old).stands s
-            → OnOk result (into.new ≡ block_of (image s) block) }
-        ensures call { GivesPresent (view self.old) (view self.new) }
+            → OnOk result (pool_block pool.new into.now ≡ block_of (image s) block) }
+        ensures rest { Only (into.now ∷ scratch.now ∷ []) pool.old pool.new }
+        ensures call { GivesPresent block (view self.old) (view self.new) }
         ensures goes { goes self.old self.new }
         ensures blame { HasBlame view causes result self.old self.new }
 
@@ -56,24 +63,28 @@ pub trait Present {
 /// A source of the retained entries too.
 pub trait Parities: Present {
     /// Gives an entry's write parity: its block's old contents xor its new ones.
-    fn parity(&mut self, seq: u64, into: &mut [u8]) -> Result<(), Self::Fault>
+    fn parity(&mut self, pool: &mut Pool, seq: u64, into: &Lease) -> Result<(), Self::Fault>
         requires retained { IsRetained (Self.view self.old).has seq }
-        requires into { length into.old ≡ (Self.view self.old).has.size }
+        requires size { pool.old.size ≡ (Self.view self.old).has.size }
+        requires lease { IsLive pool.old into.now }
         requires few { (Self.view self.old).parities < 2 ^ 63 }
         ensures parity { (s : State) → (Self.view self.old).stands s
-            → OnOk result (into.new ≡ parity_at s seq) }
+            → OnOk result (pool_block pool.new into.now ≡ parity_at s seq) }
+        ensures rest { Only (into.now ∷ []) pool.old pool.new }
         ensures call { GivesParity (Self.view self.old) (Self.view self.new) }
         ensures goes { Self.goes self.old self.new }
         ensures blame { HasBlame Self.view Self.causes result self.old self.new };
 
     /// Gives the contents that a marked entry writes.
-    fn snapshot(&mut self, seq: u64, into: &mut [u8]) -> Result<(), Self::Fault>
+    fn snapshot(&mut self, pool: &mut Pool, seq: u64, into: &Lease) -> Result<(), Self::Fault>
         requires retained { IsRetained (Self.view self.old).has seq }
         requires marked { IsTrue ((Self.view self.old).has.item seq).snap }
-        requires into { length into.old ≡ (Self.view self.old).has.size }
+        requires size { pool.old.size ≡ (Self.view self.old).has.size }
+        requires lease { IsLive pool.old into.now }
         requires few { (Self.view self.old).snapshots < 2 ^ 63 }
         ensures snapshot { (s : State) → (Self.view self.old).stands s
-            → OnOk result (into.new ≡ (entry_at s seq).bytes) }
+            → OnOk result (pool_block pool.new into.now ≡ (entry_at s seq).bytes) }
+        ensures rest { Only (into.now ∷ []) pool.old pool.new }
         ensures call { GivesSnapshot (Self.view self.old) (Self.view self.new) }
         ensures goes { Self.goes self.old self.new }
         ensures blame { HasBlame Self.view Self.causes result self.old self.new };

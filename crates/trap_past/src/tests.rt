@@ -1,6 +1,8 @@
-ghost use Rattle.std.specs.Prelude.{◌≡◌, OnOk};
+ghost use Rattle.std.specs.Prelude.{◌≡◌, length, OnOk};
 ghost use Rattle.trap_model.specs.Image.{volume};
-ghost use Rattle.trap_past.specs.Memory.{index_of};
+ghost use Rattle.trap_past.specs.Memory.{index_of, past_of};
+ghost use Rattle.trap_past.specs.Past.{IsIndexOf, IsInstant, HasFewCalls};
+ghost use Rattle.trap_pool.specs.Pooled.{free_of};
 
 use crate::{MemoryPast, block_at};
 use std::alloc::Global;
@@ -8,6 +10,7 @@ use std::process::Abort;
 use std::test::Fail;
 use trap_index::Index;
 use trap_model::{Geometry, LogRec};
+use trap_pool::Pool;
 
 // Eight blocks of 16 bytes, and room for eight entries.
 fn eight_blocks() -> Geometry
@@ -63,6 +66,48 @@ fn enter(
     Ok(())
 }
 
+// The byte that each of a block's is.
+fn byte_of(rt: &impl Abort, bytes: &[u8]) -> u8
+    requires { length bytes.now ≡ 16 }
+{
+    let byte = bytes[0];
+    assert_eq!(rt; bytes, [byte; 16].as_slice());
+    byte
+}
+
+// The byte that the block is made of after an entry, or 0xff where a call of the source fails.
+fn byte_from(
+    rt: &impl Abort,
+    past: &mut MemoryPast,
+    index: &Index,
+    pool: &mut Pool,
+    block: u32,
+    seq: u64,
+) -> u8
+    requires index { IsIndexOf index.now (past_of past.old).has }
+    requires instant { IsInstant (past_of past.old).has block seq }
+    requires few { HasFewCalls (past_of past.old) }
+    requires same_size { pool.old.size ≡ (past_of past.old).has.size }
+    requires size { pool.old.size ≡ 16 }
+    requires free { free_of pool.old ≡ 2 }
+{
+    let Some(into) = pool.take() else {
+        unreachable!();
+    };
+    let Some(scratch) = pool.take() else {
+        unreachable!();
+    };
+    pool.bytes_mut(&into).fill(0xee);
+    let answer = block_at(past, index, pool, block, seq, &into, &scratch);
+    let byte = byte_of(rt, pool.bytes(&into));
+    pool.give(into);
+    pool.give(scratch);
+    match answer {
+        Ok(()) => byte,
+        Err(_) => 0xff,
+    }
+}
+
 // Ten entries were dropped. Numbers 11, 13 and 14 write block 3, and number 12 writes block 5. The
 // byte that each of the block's has after an entry, or 0xff where the source's call with a number
 // fails.
@@ -77,16 +122,8 @@ fn byte_at(rt: &impl Abort, alloc: Global, block: u32, seq: u64, failing: u64) -
     past.fail_at(failing);
     let (first, last) = (index.first(), index.last());
     assert!(rt; block < 8 && first <= seq && seq <= last);
-    let mut into = [0xee; 16];
-    let mut scratch = [0xee; 16];
-    match block_at(&mut past, &index, block, seq, &mut into, &mut scratch) {
-        Ok(()) => {
-            let byte = into[0];
-            assert_eq!(rt; into.as_slice(), [byte; 16].as_slice());
-            Ok(byte)
-        }
-        Err(_) => Ok(0xff),
-    }
+    let mut pool = Pool::new(alloc, 2, 16)?;
+    Ok(byte_from(rt, &mut past, &index, &mut pool, block, seq))
 }
 
 #[test]

@@ -1,48 +1,53 @@
 //! Undoing a block's writes, the newest first.
 
-ghost use Rattle.std.specs.Prelude.{◌≡◌, ◌<◌, ◌≤◌, length, OnOk};
+ghost use Rattle.std.specs.Prelude.{◌≡◌, ◌<◌, ◌≤◌, ◌∷◌, [], OnOk};
 ghost use Rattle.trap_index.specs.Indexed.{last_seq, item_at, path_to};
 ghost use Rattle.trap_model.specs.Image.{block_of};
 ghost use Rattle.trap_model.specs.State.{image_at};
 ghost use Rattle.trap_model.specs.declared.history.State.{State};
 ghost use Rattle.trap_past.specs.Past.{IsIndexOf, IsInstant, HasFewCalls, HasBlame, Undoes, UndoesAtMost};
+ghost use Rattle.trap_pool.specs.Frames.{AreLeases, Only};
+ghost use Rattle.trap_pool.specs.Pooled.{pool_block};
 
 use crate::{Parities, Present};
-use trap_block::xor_into;
 use trap_index::Index;
+use trap_pool::{Lease, Pool};
 
-/// Gives a block's contents after the entry with this number: the present ones, with the parities
-/// of the block's later entries taken back. It uses `scratch`, and after a fault both hold any
-/// bytes.
+/// Fills the block of `into` with a block's contents after the entry with this number: the present
+/// ones, with the parities of the block's later entries taken back. It uses `scratch`, and after a
+/// fault both hold any bytes.
 pub fn block_at<P: Parities>(
     source: &mut P,
     index: &Index,
+    pool: &mut Pool,
     block: u32,
     seq: u64,
-    into: &mut [u8],
-    scratch: &mut [u8],
+    into: &Lease,
+    scratch: &Lease,
 ) -> Result<(), P::Fault>
     requires index { IsIndexOf index.now (P.view source.old).has }
     requires instant { IsInstant (P.view source.old).has block seq }
-    requires into { length into.old ≡ (P.view source.old).has.size }
-    requires scratch { length scratch.old ≡ (P.view source.old).has.size }
+    requires size { pool.old.size ≡ (P.view source.old).has.size }
+    requires leases { AreLeases pool.old (into.now ∷ scratch.now ∷ []) }
     requires few { HasFewCalls (P.view source.old) }
     ensures contents { (s : State) → (P.view source.old).stands s
-        → OnOk result (into.new ≡ block_of (image_at s seq) block) }
+        → OnOk result (pool_block pool.new into.now ≡ block_of (image_at s seq) block) }
+    ensures rest { Only (into.now ∷ scratch.now ∷ []) pool.old pool.new }
 
     // It asks for the present and the path's parities, and for no more whatever it answers.
     ensures turns { OnOk result
-        (Undoes (path_to index.now block seq).turns (P.view source.old) (P.view source.new)) }
-    ensures at_most { UndoesAtMost (path_to index.now block seq).turns
+        (Undoes (path_to index.now block seq).turns block (P.view source.old)
+        (P.view source.new)) }
+    ensures at_most { UndoesAtMost (path_to index.now block seq).turns block
         (P.view source.old) (P.view source.new) }
     ensures goes { P.goes source.old source.new }
     ensures blame { HasBlame P.view P.causes result source.old source.new }
 {
-    source.present(block, into, scratch)?;
+    source.present(pool, block, into, scratch)?;
     let mut number = index.newest(block);
     while seq < number {
-        source.parity(number, scratch)?;
-        xor_into(into, scratch);
+        source.parity(pool, number, scratch)?;
+        pool.xor(into, scratch);
         number = previous(index, number);
     }
     Ok(())

@@ -5,7 +5,7 @@ use Rattle.trap_model.specs.declared.numbers.Geometry.{Geometry}
 use Rattle.trap_bank.specs.Disks.{View}
 use Rattle.trap_bank.specs.Calls.{Reads}
 use Rattle.trap_bank.specs.Called.{CalledTimes, TakesCalls}
-use Rattle.trap_bank.proofs.Called.{called_once, not_called, called_then, called_at_most, at_most_then, at_most_more, took_calls}
+use Rattle.trap_bank.proofs.Called.{called_once, not_called, called_then, called_at_most, at_most_then, at_most_more}
 use Rattle.trap_map.specs.declared.places.Place.{Place}
 use Rattle.trap_map.specs.Layout.{parity_member, block_place}
 use Rattle.trap_stage.specs.Staged.{Staged, newest_at}
@@ -36,7 +36,8 @@ takes_then a b result x y z first second = record {
 }
 
 -- a part that failed, of more
-pub takes_failed : {T E U F : Type 0} (a whole : ℕ) (part : Result T E) (result : Result U F) (why : F) (x y : View) → a ≤ whole → Err why ≡ result → TakesCalls a part x y → TakesCalls whole result x y
+pub takes_failed : {T E U F : Type 0} (a whole : ℕ) (part : Result T E) (result : Result U F) (why : F) (x y : View) → a ≤ whole → Err why ≡ result
+    → TakesCalls a part x y → TakesCalls whole result x y
 takes_failed {U = U} {F = F} a whole part result why x y less is takes =
     subst (λ (r : Result U F). TakesCalls whole r x y) is (record { ok = tt; most = at_most_more a whole x y less takes.most })
 
@@ -61,7 +62,8 @@ module _ (g : Geometry) (writes : List Staged) (row one n : ℕ) (x y : View) (c
   pub others_skip : n ≡ one → CalledTimes (bare_others g writes row one (n + 1)) x y
   others_skip e = called_are (bare_others g writes row one n) (bare_others g writes row one (n + 1)) x y (sym (bare_same g writes row one n e)) called
 
-  pub others_failed : {T E U F : Type 0} (part : Result T E) (result : Result U F) (why : F) (members : ℕ) (z : View) → n + 1 ≤ members → n ≢ one → Err why ≡ result → CalledTimes (calls_for (newest_at g writes row n)) y z → TakesCalls (bare_others g writes row one members) result x z
+  pub others_failed : {T E U F : Type 0} (part : Result T E) (result : Result U F) (why : F) (members : ℕ) (z : View) → n + 1 ≤ members → n ≢ one → Err why ≡ result
+      → CalledTimes (calls_for (newest_at g writes row n)) y z → TakesCalls (bare_others g writes row one members) result x z
   others_failed part result why members z below other is more =
       let grows = bare_grows g writes row one (n + 1) members below in
       takes_failed (bare_others g writes row one (n + 1)) (bare_others g writes row one members) part result why x z (omega arith) is
@@ -74,42 +76,50 @@ module _ (g : Geometry) (writes : List Staged) (row one n : ℕ) (x y : View) (c
 
 -- ---- a read of a place
 -- bytes are pending for it
-pub pending_calls : {T E : Type 0} (g : Geometry) (lost : Option ℕ) (writes : List Staged) (row member : ℕ) (bytes : List ℕ) (result : Result T E) (v : View) → newest_at g writes row member ≡ Some bytes → TakesCalls (reads_of g lost writes row member) result v v
+pub pending_calls : {T E : Type 0} (g : Geometry) (lost : Option ℕ) (writes : List Staged) (row member : ℕ) (bytes : List ℕ) (result : Result T E) (v : View)
+    → newest_at g writes row member ≡ Some bytes → TakesCalls (reads_of g lost writes row member) result v v
 pending_calls g lost writes row member bytes result v found =
     takes_always (reads_of g lost writes row member) result v v
     (called_are 0 (reads_of g lost writes row member) v v (sym (reads_pending g lost writes row member bytes found)) (not_called v))
 
 -- its member isn't lost
-pub own_calls : {T E : Type 0} (g : Geometry) (lost : Option ℕ) (writes : List Staged) (row member : ℕ) (result : Result T E) (old new : View) → newest_at g writes row member ≡ None → lost ≢ Some member → CalledTimes 1 old new → TakesCalls (reads_of g lost writes row member) result old new
+pub own_calls : {T E : Type 0} (g : Geometry) (lost : Option ℕ) (writes : List Staged) (row member : ℕ) (result : Result T E) (old new : View)
+    → newest_at g writes row member ≡ None → lost ≢ Some member → CalledTimes 1 old new → TakesCalls (reads_of g lost writes row member) result old new
 own_calls g lost writes row member result old new none apart called =
     takes_always (reads_of g lost writes row member) result old new
     (called_are 1 (reads_of g lost writes row member) old new (sym (reads_own g lost writes row member none apart)) called)
 
 -- it is
-pub others_calls : {T E : Type 0} (g : Geometry) (lost : Option ℕ) (writes : List Staged) (row member : ℕ) (result : Result T E) (old new : View) → newest_at g writes row member ≡ None → lost ≡ Some member → TakesCalls (bare_others g writes row member g.members) result old new → TakesCalls (reads_of g lost writes row member) result old new
+pub others_calls : {T E : Type 0} (g : Geometry) (lost : Option ℕ) (writes : List Staged) (row member : ℕ) (result : Result T E) (old new : View)
+    → newest_at g writes row member ≡ None → lost ≡ Some member → TakesCalls (bare_others g writes row member g.members) result old new → TakesCalls (reads_of g lost writes row member) result old new
 others_calls g lost writes row member result old new none gone takes =
     takes_are (bare_others g writes row member g.members) (reads_of g lost writes row member) result old new (sym (reads_others g lost writes row member none gone)) takes
 
 -- ---- the two reads of a plan
-reads_are : (g : Geometry) (lost : Option ℕ) (writes : List Staged) (block : ℕ) (place : Place) (member : ℕ) → place ≡ block_place g block → member ≡ parity_member g place.row → reads_of g lost writes place.row place.member + reads_of g lost writes place.row member ≡ plan_reads g lost writes block
+reads_are : (g : Geometry) (lost : Option ℕ) (writes : List Staged) (block : ℕ) (place : Place) (member : ℕ) → place ≡ block_place g block
+    → member ≡ parity_member g place.row → reads_of g lost writes place.row place.member + reads_of g lost writes place.row member ≡ plan_reads g lost writes block
 reads_are g lost writes block place member is_place is_member =
     ap (λ (m : ℕ). reads_of g lost writes place.row place.member + reads_of g lost writes place.row m) is_member
     ∙ ap (λ (p : Place). reads_of g lost writes p.row p.member + reads_of g lost writes p.row (parity_member g p.row)) is_place
 
-module _ (g : Geometry) (lost : Option ℕ) (writes : List Staged) (block : ℕ) (place : Place) (member : ℕ) (is_place : place ≡ block_place g block) (is_member : member ≡ parity_member g place.row) where
+module _ (g : Geometry) (lost : Option ℕ) (writes : List Staged) (block : ℕ) (place : Place) (member : ℕ) (is_place : place ≡ block_place g block)
+    (is_member : member ≡ parity_member g place.row) where
   -- the first one failed
-  pub plan_failed_first : {T E U F : Type 0} (first : Result T E) (result : Result U F) (why : F) (x y : View) → Err why ≡ result → TakesCalls (reads_of g lost writes place.row place.member) first x y → TakesCalls (plan_reads g lost writes block) result x y
+  pub plan_failed_first : {T E U F : Type 0} (first : Result T E) (result : Result U F) (why : F) (x y : View) → Err why ≡ result
+      → TakesCalls (reads_of g lost writes place.row place.member) first x y → TakesCalls (plan_reads g lost writes block) result x y
   plan_failed_first first result why x y is one =
       let sum = reads_are g lost writes block place member is_place is_member in
       takes_failed (reads_of g lost writes place.row place.member) (plan_reads g lost writes block) first result why x y (omega arith) is one
 
   -- so did the second, or neither did
-  pub plan_both : {T E : Type 0} (second : Result T E) (x y z : View) → CalledTimes (reads_of g lost writes place.row place.member) x y → TakesCalls (reads_of g lost writes place.row member) second y z → TakesCalls (plan_reads g lost writes block) second x z
+  pub plan_both : {T E : Type 0} (second : Result T E) (x y z : View) → CalledTimes (reads_of g lost writes place.row place.member) x y
+      → TakesCalls (reads_of g lost writes place.row member) second y z → TakesCalls (plan_reads g lost writes block) second x z
   plan_both second x y z one two =
       takes_are (reads_of g lost writes place.row place.member + reads_of g lost writes place.row member) (plan_reads g lost writes block) second x z
       (reads_are g lost writes block place member is_place is_member)
       (takes_then (reads_of g lost writes place.row place.member) (reads_of g lost writes place.row member) second x y z one two)
 
-  pub plan_done : {T E : Type 0} (result : Result T E) (x y z : View) → CalledTimes (reads_of g lost writes place.row place.member) x y → CalledTimes (reads_of g lost writes place.row member) y z → TakesCalls (plan_reads g lost writes block) result x z
+  pub plan_done : {T E : Type 0} (result : Result T E) (x y z : View) → CalledTimes (reads_of g lost writes place.row place.member) x y
+      → CalledTimes (reads_of g lost writes place.row member) y z → TakesCalls (plan_reads g lost writes block) result x z
   plan_done result x y z one two =
       plan_both result x y z one (takes_always (reads_of g lost writes place.row member) result y z two)

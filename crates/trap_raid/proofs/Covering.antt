@@ -11,7 +11,8 @@ use Rattle.trap_raid.specs.Draining.{Drains, InDrained}
 
 module _ (g : Geometry) (lost : Option ℕ) (rebuilt : ℕ) (writes : List Staged) where
   -- stopped within a drain
-  pub covered_moves : (a b : View) → Moves a b (Differs (InDrained g lost rebuilt writes)) (Differs (InDrained g lost rebuilt writes)) → Moves a b (Differs (Covered g writes)) (Differs (Covered g writes))
+  pub covered_moves : (a b : View) → Moves a b (Differs (InDrained g lost rebuilt writes)) (Differs (InDrained g lost rebuilt writes))
+      → Moves a b (Differs (Covered g writes)) (Differs (Covered g writes))
   covered_moves a b moves = moves_mono (InDrained g lost rebuilt writes) (Covered g writes) a b (λ e i drained. drained.covered) moves
 
   -- and after it

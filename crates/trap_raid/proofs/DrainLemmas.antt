@@ -26,13 +26,15 @@ one_place g row member other one e i a b =
     (same_row g.block row other (i - 16) (omega (arith, a.from)) (omega (arith, a.from, a.to)) (omega (arith, b.from)) (omega (arith, b.from, b.to)), omega (arith, a.disk, b.disk))
 
 -- a place apart from what changed keeps its bytes
-pub place_beside : (g : Geometry) (row member other one : ℕ) (x y : Disks) → Differs (place_area g other one) x y → ((row ≡ other) → (member ≡ one) → ⊥) → member_place g y row member ≡ member_place g x row member
+pub place_beside : (g : Geometry) (row member other one : ℕ) (x y : Disks) → Differs (place_area g other one) x y → ((row ≡ other) → (member ≡ one) → ⊥)
+    → member_place g y row member ≡ member_place g x row member
 place_beside g row member other one x y differs apart =
     region_apart (place_area g other one) x y (member + 1) (row_at g row) g.block differs
     (λ i low high within. let same = one_place g row member other one (member + 1) i (record { disk = refl; from = low; to = high }) within in apart same.0 same.1)
 
 -- a place that these writes don't cover keeps its bytes where covered places change
-pub bare_stays : (g : Geometry) (writes : List Staged) (x y : Disks) → Differs (Covered g writes) x y → (row member : ℕ) → newest_at g writes row member ≡ None → member_place g y row member ≡ member_place g x row member
+pub bare_stays : (g : Geometry) (writes : List Staged) (x y : Disks) → Differs (Covered g writes) x y → (row member : ℕ) → newest_at g writes row member ≡ None
+    → member_place g y row member ≡ member_place g x row member
 bare_stays g writes x y differs row member none =
     region_apart (Covered g writes) x y (member + 1) (row_at g row) g.block differs
     (λ i low high covered.
@@ -81,7 +83,8 @@ unfolding covered_older
 drained_older g lost rebuilt newer older e i drained = record { covered = covered_older g newer older e i drained.covered; counts = drained.counts }
 
 -- newer writes drained after older ones
-pub drains_then : (g : Geometry) (lost : Option ℕ) (rebuilt : ℕ) (newer older : List Staged) (x y z : Disks) → Drains g lost rebuilt older x y → Drains g lost rebuilt newer y z → Drains g lost rebuilt (newer ++ older) x z
+pub drains_then : (g : Geometry) (lost : Option ℕ) (rebuilt : ℕ) (newer older : List Staged) (x y z : Disks) → Drains g lost rebuilt older x y
+    → Drains g lost rebuilt newer y z → Drains g lost rebuilt (newer ++ older) x z
 drains_then g lost rebuilt newer older x y z first second = record {
   differs = differs_again (InDrained g lost rebuilt (newer ++ older)) x y z
       (differs_mono (InDrained g lost rebuilt older) (InDrained g lost rebuilt (newer ++ older)) x y (drained_older g lost rebuilt newer older) first.differs)
@@ -116,7 +119,8 @@ parity_member-lt : (g : Geometry) (row : ℕ) → parity_member g row < g.member
 parity_member-lt g row = parity_in-lt g.members (row / g.chunk) (omega arith)
 
 -- its block's place is covered
-pub block_covered : (g : Geometry) (staged : Staged) (e i : ℕ) → staged.block < volume g → place_area g (block_place g staged.block).row (block_place g staged.block).member e i → Covered g (staged ∷ []) e i
+pub block_covered : (g : Geometry) (staged : Staged) (e i : ℕ) → staged.block < volume g → place_area g (block_place g staged.block).row
+    (block_place g staged.block).member e i → Covered g (staged ∷ []) e i
 block_covered g staged e i below within =
     let here = block_place g staged.block in
     record {
@@ -130,7 +134,8 @@ block_covered g staged e i below within =
     }
 
 -- and that of its row's parity
-pub parity_covered : (g : Geometry) (staged : Staged) (e i : ℕ) → staged.block < volume g → place_area g (block_place g staged.block).row (parity_member g (block_place g staged.block).row) e i → Covered g (staged ∷ []) e i
+pub parity_covered : (g : Geometry) (staged : Staged) (e i : ℕ) → staged.block < volume g → place_area g (block_place g staged.block).row
+    (parity_member g (block_place g staged.block).row) e i → Covered g (staged ∷ []) e i
 parity_covered g staged e i below within =
     let here = block_place g staged.block in
     record {
@@ -144,11 +149,13 @@ parity_covered g staged e i below within =
     }
 
 -- so where they count
-pub block_drained : (g : Geometry) (lost : Option ℕ) (rebuilt : ℕ) (staged : Staged) (e i : ℕ) → staged.block < volume g → InCounted g lost rebuilt (block_place g staged.block).row (block_place g staged.block).member e i → InDrained g lost rebuilt (staged ∷ []) e i
+pub block_drained : (g : Geometry) (lost : Option ℕ) (rebuilt : ℕ) (staged : Staged) (e i : ℕ) → staged.block < volume g
+    → InCounted g lost rebuilt (block_place g staged.block).row (block_place g staged.block).member e i → InDrained g lost rebuilt (staged ∷ []) e i
 unfolding block_covered
 block_drained g lost rebuilt staged e i below counted = record { covered = block_covered g staged e i below counted.within; counts = counted.counts }
 
-pub parity_drained : (g : Geometry) (lost : Option ℕ) (rebuilt : ℕ) (staged : Staged) (e i : ℕ) → staged.block < volume g → InCounted g lost rebuilt (block_place g staged.block).row (parity_member g (block_place g staged.block).row) e i → InDrained g lost rebuilt (staged ∷ []) e i
+pub parity_drained : (g : Geometry) (lost : Option ℕ) (rebuilt : ℕ) (staged : Staged) (e i : ℕ) → staged.block < volume g
+    → InCounted g lost rebuilt (block_place g staged.block).row (parity_member g (block_place g staged.block).row) e i → InDrained g lost rebuilt (staged ∷ []) e i
 unfolding parity_covered
 parity_drained g lost rebuilt staged e i below counted = record { covered = parity_covered g staged e i below counted.within; counts = counted.counts }
 
@@ -170,7 +177,8 @@ both_written g lost rebuilt staged x y z below block parity =
               | inl f ↦
                   let counts_here = subst (λ r. Counts lost rebuilt r here.member) e (subst (λ k. Counts lost rebuilt row k) f counts) in
                   ap (λ r. member_place g z r m) e ∙ ap (λ k. member_place g z here.row k) f
-                  ∙ place_beside g here.row here.member here.row at_parity y z (differs_mono (InCounted g lost rebuilt here.row at_parity) (place_area g here.row at_parity) y z (λ e i counted. counted.within) parity.differs) (λ same apart. block_is_not_parity g staged.block apart)
+                  ∙ place_beside g here.row here.member here.row at_parity y z (differs_mono (InCounted g lost rebuilt here.row at_parity)
+                  (place_area g here.row at_parity) y z (λ e i counted. counted.within) parity.differs) (λ same apart. block_is_not_parity g staged.block apart)
                   ∙ block.there counts_here ∙ is_it (staged_at g staged row m) staged.bytes bytes (staged_at_block g staged row m e f) found
               | inr h ↦ elim (cases_eq m (parity_member g row)) [
                 | inl f ↦

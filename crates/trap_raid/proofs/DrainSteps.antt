@@ -35,7 +35,8 @@ module _ (g : Geometry) (lost : Option ℕ) (rebuilt row member at : ℕ) (bytes
   pub counted_written : (a b : View) → Moves a b (Differs (Within (member + 1) at (length bytes))) (PlacedThrough b (member + 1) at bytes)
       → Moves a b (Differs (InCounted g lost rebuilt row member)) (PlaceWritten g lost rebuilt row member bytes)
   counted_written a b moves =
-      moves_weaken a b (Differs (Within (member + 1) at (length bytes))) (PlacedThrough b (member + 1) at bytes) (Differs (InCounted g lost rebuilt row member)) (PlaceWritten g lost rebuilt row member bytes) moves
+      moves_weaken a b (Differs (Within (member + 1) at (length bytes))) (PlacedThrough b (member + 1) at bytes) (Differs (InCounted g lost rebuilt row member))
+      (PlaceWritten g lost rebuilt row member bytes) moves
       (λ x y was torn. differs_mono (Within (member + 1) at (length bytes)) (InCounted g lost rebuilt row member) x.disks y.disks counted_in torn)
       (λ x y was left placed. record {
         differs = differs_mono (Within (member + 1) at (length bytes)) (InCounted g lost rebuilt row member) x.disks y.disks counted_in placed.placed.differs;
@@ -50,13 +51,16 @@ first_counted g lost rebuilt row member failed is counts =
     record { counts = counts; within = record { disk = omega (arith, is); from = omega arith; to = omega arith } }
 
 -- ---- the two places of one write
-block_in : (g : Geometry) (lost : Option ℕ) (rebuilt : ℕ) (staged : Staged) (place : Place) → staged.block < volume g → place ≡ block_place g staged.block → (e i : ℕ) → InCounted g lost rebuilt place.row place.member e i → InDrained g lost rebuilt (staged ∷ []) e i
+block_in : (g : Geometry) (lost : Option ℕ) (rebuilt : ℕ) (staged : Staged) (place : Place) → staged.block < volume g → place ≡ block_place g staged.block → (e i : ℕ)
+    → InCounted g lost rebuilt place.row place.member e i → InDrained g lost rebuilt (staged ∷ []) e i
 block_in g lost rebuilt staged place below is_place e i within =
     block_drained g lost rebuilt staged e i below (subst (λ (p : Place). InCounted g lost rebuilt p.row p.member e i) is_place within)
 
-parity_in : (g : Geometry) (lost : Option ℕ) (rebuilt : ℕ) (staged : Staged) (place : Place) (at_parity : ℕ) → staged.block < volume g → place ≡ block_place g staged.block → at_parity ≡ parity_member g place.row → (e i : ℕ) → InCounted g lost rebuilt place.row at_parity e i → InDrained g lost rebuilt (staged ∷ []) e i
+parity_in : (g : Geometry) (lost : Option ℕ) (rebuilt : ℕ) (staged : Staged) (place : Place) (at_parity : ℕ) → staged.block < volume g
+    → place ≡ block_place g staged.block → at_parity ≡ parity_member g place.row → (e i : ℕ) → InCounted g lost rebuilt place.row at_parity e i → InDrained g lost rebuilt (staged ∷ []) e i
 parity_in g lost rebuilt staged place at_parity below is_place is_parity e i within =
-    parity_drained g lost rebuilt staged e i below (subst (λ (p : Place). InCounted g lost rebuilt p.row (parity_member g p.row) e i) is_place (subst (λ (m : ℕ). InCounted g lost rebuilt place.row m e i) is_parity within))
+    parity_drained g lost rebuilt staged e i below (subst (λ (p : Place). InCounted g lost rebuilt p.row (parity_member g p.row) e i) is_place
+    (subst (λ (m : ℕ). InCounted g lost rebuilt place.row m e i) is_parity within))
 
 pub block_step : (g : Geometry) (lost : Option ℕ) (rebuilt : ℕ) (staged : Staged) (place : Place) (a b : View) → staged.block < volume g → place ≡ block_place g staged.block
     → Moves a b (Differs (InCounted g lost rebuilt place.row place.member)) (Differs (InCounted g lost rebuilt place.row place.member))
@@ -64,7 +68,8 @@ pub block_step : (g : Geometry) (lost : Option ℕ) (rebuilt : ℕ) (staged : St
 block_step g lost rebuilt staged place a b below is_place moves =
     moves_mono (InCounted g lost rebuilt place.row place.member) (InDrained g lost rebuilt (staged ∷ [])) a b (block_in g lost rebuilt staged place below is_place) moves
 
-pub slot_step : (g : Geometry) (lost : Option ℕ) (rebuilt : ℕ) (staged : Staged) (place : Place) (at_parity : ℕ) (a b c : View) → staged.block < volume g → place ≡ block_place g staged.block → at_parity ≡ parity_member g place.row
+pub slot_step : (g : Geometry) (lost : Option ℕ) (rebuilt : ℕ) (staged : Staged) (place : Place) (at_parity : ℕ) (a b c : View) → staged.block < volume g
+    → place ≡ block_place g staged.block → at_parity ≡ parity_member g place.row
     → Moves a b (Differs (InCounted g lost rebuilt place.row place.member)) (Differs (InCounted g lost rebuilt place.row place.member))
     → Moves b c (Differs (InCounted g lost rebuilt place.row at_parity)) (Differs (InCounted g lost rebuilt place.row at_parity))
     → Moves a c (Differs (InDrained g lost rebuilt (staged ∷ []))) (Differs (InDrained g lost rebuilt (staged ∷ [])))
@@ -72,7 +77,8 @@ slot_step g lost rebuilt staged place at_parity a b c below is_place is_parity f
     moves_again (InDrained g lost rebuilt (staged ∷ [])) a b c (block_step g lost rebuilt staged place a b below is_place first)
     (moves_mono (InCounted g lost rebuilt place.row at_parity) (InDrained g lost rebuilt (staged ∷ [])) b c (parity_in g lost rebuilt staged place at_parity below is_place is_parity) second)
 
-pub slot_steps : (g : Geometry) (lost : Option ℕ) (rebuilt : ℕ) (staged : Staged) (place : Place) (at_parity : ℕ) (a b c : View) → staged.block < volume g → place ≡ block_place g staged.block → at_parity ≡ parity_member g place.row
+pub slot_steps : (g : Geometry) (lost : Option ℕ) (rebuilt : ℕ) (staged : Staged) (place : Place) (at_parity : ℕ) (a b c : View) → staged.block < volume g
+    → place ≡ block_place g staged.block → at_parity ≡ parity_member g place.row
     → Moves a b (Differs (InCounted g lost rebuilt place.row place.member)) (PlaceWritten g lost rebuilt place.row place.member staged.bytes)
     → Moves b c (Differs (InCounted g lost rebuilt place.row at_parity)) (PlaceWritten g lost rebuilt place.row at_parity staged.parity)
     → Moves a c (Differs (InDrained g lost rebuilt (staged ∷ []))) (Drains g lost rebuilt (staged ∷ []))
@@ -82,7 +88,8 @@ slot_steps g lost rebuilt staged place at_parity a b c below is_place is_parity 
     (Differs (InDrained g lost rebuilt (staged ∷ []))) (Drains g lost rebuilt (staged ∷ [])) first second
     (λ x y was torn. wide_block x.disks y.disks torn)
     (λ x y z was written mid torn. differs_again (InDrained g lost rebuilt (staged ∷ [])) x.disks y.disks z.disks (wide_block x.disks y.disks written.differs)
-    (differs_mono (InCounted g lost rebuilt place.row at_parity) (InDrained g lost rebuilt (staged ∷ [])) y.disks z.disks (parity_in g lost rebuilt staged place at_parity below is_place is_parity) torn))
+    (differs_mono (InCounted g lost rebuilt place.row at_parity) (InDrained g lost rebuilt (staged ∷ [])) y.disks z.disks
+    (parity_in g lost rebuilt staged place at_parity below is_place is_parity) torn))
     (λ x y z was written mid more. both_written g lost rebuilt staged x.disks y.disks z.disks below
     (subst (λ (p : Place). PlaceWritten g lost rebuilt p.row p.member staged.bytes x.disks y.disks) is_place written)
     (subst (λ (p : Place). PlaceWritten g lost rebuilt p.row (parity_member g p.row) staged.parity y.disks z.disks) is_place
@@ -97,21 +104,25 @@ pub block_torn : (g : Geometry) (lost : Option ℕ) (rebuilt : ℕ) (staged : St
 block_torn g lost rebuilt staged place a b below is_place torn told =
     torn_mono (InCounted g lost rebuilt place.row place.member) (InDrained g lost rebuilt (staged ∷ [])) a.now b.now (block_in g lost rebuilt staged place below is_place) (torn told)
 
-pub slot_torn : (g : Geometry) (lost : Option ℕ) (rebuilt : ℕ) (staged : Staged) (place : Place) (at_parity : ℕ) (a b c : View) → staged.block < volume g → place ≡ block_place g staged.block → at_parity ≡ parity_member g place.row
+pub slot_torn : (g : Geometry) (lost : Option ℕ) (rebuilt : ℕ) (staged : Staged) (place : Place) (at_parity : ℕ) (a b c : View) → staged.block < volume g
+    → place ≡ block_place g staged.block → at_parity ≡ parity_member g place.row
     → b.tells ≡ a.tells → (IsTrue a.tells → Torn (InCounted g lost rebuilt place.row place.member) a.now b.now) → (IsTrue b.tells → Torn (InCounted g lost rebuilt place.row at_parity) b.now c.now)
     → IsTrue a.tells → Torn (InDrained g lost rebuilt (staged ∷ [])) a.now c.now
 slot_torn g lost rebuilt staged place at_parity a b c below is_place is_parity tells first second =
     torn_again (InDrained g lost rebuilt (staged ∷ [])) a b c tells (block_torn g lost rebuilt staged place a b below is_place first)
-    (λ told. torn_mono (InCounted g lost rebuilt place.row at_parity) (InDrained g lost rebuilt (staged ∷ [])) b.now c.now (parity_in g lost rebuilt staged place at_parity below is_place is_parity) (second told))
+    (λ told. torn_mono (InCounted g lost rebuilt place.row at_parity) (InDrained g lost rebuilt (staged ∷ [])) b.now c.now
+    (parity_in g lost rebuilt staged place at_parity below is_place is_parity) (second told))
 
 -- a member that fails in a place of a write is one that the write goes to
-pub block_fails : (g : Geometry) (lost : Option ℕ) (rebuilt : ℕ) (staged : Staged) (place : Place) (failed : ℕ) → staged.block < volume g → place ≡ block_place g staged.block → (failed ≡ place.member) × Counts lost rebuilt place.row place.member → IsDrainedTo g lost rebuilt (staged ∷ []) failed
+pub block_fails : (g : Geometry) (lost : Option ℕ) (rebuilt : ℕ) (staged : Staged) (place : Place) (failed : ℕ) → staged.block < volume g
+    → place ≡ block_place g staged.block → (failed ≡ place.member) × Counts lost rebuilt place.row place.member → IsDrainedTo g lost rebuilt (staged ∷ []) failed
 block_fails g lost rebuilt staged place failed below is_place at = record {
   at = row_at g place.row;
   place = block_in g lost rebuilt staged place below is_place (failed + 1) (row_at g place.row) (first_counted g lost rebuilt place.row place.member failed at.0 at.1);
 }
 
-pub parity_fails : (g : Geometry) (lost : Option ℕ) (rebuilt : ℕ) (staged : Staged) (place : Place) (at_parity failed : ℕ) → staged.block < volume g → place ≡ block_place g staged.block → at_parity ≡ parity_member g place.row → (failed ≡ at_parity) × Counts lost rebuilt place.row at_parity → IsDrainedTo g lost rebuilt (staged ∷ []) failed
+pub parity_fails : (g : Geometry) (lost : Option ℕ) (rebuilt : ℕ) (staged : Staged) (place : Place) (at_parity failed : ℕ) → staged.block < volume g
+    → place ≡ block_place g staged.block → at_parity ≡ parity_member g place.row → (failed ≡ at_parity) × Counts lost rebuilt place.row at_parity → IsDrainedTo g lost rebuilt (staged ∷ []) failed
 parity_fails g lost rebuilt staged place at_parity failed below is_place is_parity at = record {
   at = row_at g place.row;
   place = parity_in g lost rebuilt staged place at_parity below is_place is_parity (failed + 1) (row_at g place.row) (first_counted g lost rebuilt place.row at_parity failed at.0 at.1);
@@ -119,7 +130,8 @@ parity_fails g lost rebuilt staged place at_parity failed below is_place is_pari
 
 -- ---- one write after the other
 -- the writes up to a number are the last of those up to a later one
-pub writes_to-split : (stage : Stage) (number upto : ℕ) → number ≤ upto → number ≤ last_of stage → writes_to stage upto ≡ take (min upto (last_of stage) - number) (writes_to stage upto) ++ writes_to stage number
+pub writes_to-split : (stage : Stage) (number upto : ℕ) → number ≤ upto → number ≤ last_of stage
+    → writes_to stage upto ≡ take (min upto (last_of stage) - number) (writes_to stage upto) ++ writes_to stage number
 writes_to-split stage number upto low high =
     let newer = min upto (last_of stage) - number in
     sym (take-append-drop newer (writes_to stage upto))
@@ -140,14 +152,16 @@ pub writes_to-none : (stage : Stage) → writes_to stage stage.drained ≡ []
 writes_to-none stage = ap (λ (n : ℕ). drop n stage.pending) (omega arith) ∙ drop-length stage.pending
 
 -- all of them, where a run over the numbers has ended
-pub writes_to-end : (stage : Stage) (number upto : ℕ) → stage.drained ≤ number → min upto (last_of stage) ≤ number → number ≤ max stage.drained (min upto (last_of stage)) → writes_to stage number ≡ writes_to stage upto
+pub writes_to-end : (stage : Stage) (number upto : ℕ) → stage.drained ≤ number → min upto (last_of stage) ≤ number → number ≤ max stage.drained (min upto (last_of stage))
+    → writes_to stage number ≡ writes_to stage upto
 writes_to-end stage number upto low end high = elim (cases_lt upto stage.drained) [
   | inl none ↦ drop_all (last_of stage - number) stage.pending (omega arith) ∙ sym (drop_all (last_of stage - upto) stage.pending (omega arith))
   | inr some ↦ ap (λ (n : ℕ). drop n stage.pending) (omega arith)
 ]
 
 -- no write yet
-pub drain_start : (g : Geometry) (lost : Option ℕ) (rebuilt : ℕ) (stage : Stage) (upto : ℕ) (v : View) → Moves v v (Differs (InDrained g lost rebuilt (writes_to stage upto))) (Drains g lost rebuilt (writes_to stage stage.drained))
+pub drain_start : (g : Geometry) (lost : Option ℕ) (rebuilt : ℕ) (stage : Stage) (upto : ℕ) (v : View)
+    → Moves v v (Differs (InDrained g lost rebuilt (writes_to stage upto))) (Drains g lost rebuilt (writes_to stage stage.drained))
 drain_start g lost rebuilt stage upto v = no_moves v (Differs (InDrained g lost rebuilt (writes_to stage upto))) (Drains g lost rebuilt (writes_to stage stage.drained))
     (λ x was. subst (λ (writes : List Staged). Drains g lost rebuilt writes x.disks x.disks) (sym (writes_to-none stage)) (drains_none g lost rebuilt x.disks))
 
@@ -198,7 +212,8 @@ module _ (g : Geometry) (lost : Option ℕ) (rebuilt : ℕ) (stage : Stage) (num
       → Moves a c (Differs (InDrained g lost rebuilt (writes_to stage upto))) (Differs (InDrained g lost rebuilt (writes_to stage upto)))
   drain_torn a b c first second =
       moves_again (InDrained g lost rebuilt (writes_to stage upto)) a b c
-      (moves_weaken a b (Differs (InDrained g lost rebuilt (writes_to stage upto))) (Drains g lost rebuilt (writes_to stage number)) (Differs (InDrained g lost rebuilt (writes_to stage upto))) (Differs (InDrained g lost rebuilt (writes_to stage upto))) first
+      (moves_weaken a b (Differs (InDrained g lost rebuilt (writes_to stage upto))) (Drains g lost rebuilt (writes_to stage number))
+      (Differs (InDrained g lost rebuilt (writes_to stage upto))) (Differs (InDrained g lost rebuilt (writes_to stage upto))) first
       (λ x y was torn. torn) (λ x y was left drains. so_far x.disks y.disks drains))
       (moves_mono (InDrained g lost rebuilt (staged_numbered stage (number + 1) ∷ [])) (InDrained g lost rebuilt (writes_to stage upto)) b c next_in second)
 
@@ -213,7 +228,8 @@ module _ (g : Geometry) (lost : Option ℕ) (rebuilt : ℕ) (stage : Stage) (num
   drain_fails member to = record { at = to.at; place = next_in (member + 1) to.at to.place }
 
 -- all were written
-pub drain_moves : (g : Geometry) (lost : Option ℕ) (rebuilt : ℕ) (writes : List Staged) (a b : View) → Moves a b (Differs (InDrained g lost rebuilt writes)) (Drains g lost rebuilt writes) → Moves a b (Differs (InDrained g lost rebuilt writes)) (Differs (InDrained g lost rebuilt writes))
+pub drain_moves : (g : Geometry) (lost : Option ℕ) (rebuilt : ℕ) (writes : List Staged) (a b : View)
+    → Moves a b (Differs (InDrained g lost rebuilt writes)) (Drains g lost rebuilt writes) → Moves a b (Differs (InDrained g lost rebuilt writes)) (Differs (InDrained g lost rebuilt writes))
 drain_moves g lost rebuilt writes a b moves =
     moves_weaken a b (Differs (InDrained g lost rebuilt writes)) (Drains g lost rebuilt writes) (Differs (InDrained g lost rebuilt writes)) (Differs (InDrained g lost rebuilt writes)) moves
     (λ x y was torn. torn) (λ x y was left drains. drains.differs)

@@ -36,12 +36,14 @@ pub counts_first : (lost : Option ℕ) (rebuilt row member : ℕ) → Counts los
 counts_first lost rebuilt row member counts = λ gone. let below = counts gone in omega arith
 
 -- a place that counts fits where the members that count have all rows
-pub row_fits : (g : Geometry) (lost : Option ℕ) (rebuilt : ℕ) (v : View) (row member : ℕ) → MembersFit g lost rebuilt v → row < g.rows → member < g.members → Counts lost rebuilt row member → RowFits g v row member
+pub row_fits : (g : Geometry) (lost : Option ℕ) (rebuilt : ℕ) (v : View) (row member : ℕ) → MembersFit g lost rebuilt v → row < g.rows → member < g.members
+    → Counts lost rebuilt row member → RowFits g v row member
 row_fits g lost rebuilt v row member fit below inside counts =
     in_row g v row member below (fit member inside (counts_first lost rebuilt row member counts))
 
 -- so do the disks that stand for any place
-pub place_fits : (g : Geometry) (lost : Option ℕ) (rebuilt : ℕ) (writes : List Staged) (v : View) (row member : ℕ) → MembersFit g lost rebuilt v → row < g.rows → member < g.members → PlaceFits g lost writes v row member
+pub place_fits : (g : Geometry) (lost : Option ℕ) (rebuilt : ℕ) (writes : List Staged) (v : View) (row member : ℕ) → MembersFit g lost rebuilt v → row < g.rows
+    → member < g.members → PlaceFits g lost writes v row member
 place_fits g lost rebuilt writes v row member fit below inside = record {
   own = λ apart bare. row_fits g lost rebuilt v row member fit below inside (others_count lost rebuilt row member apart);
   others = λ gone none m less other bare. row_fits g lost rebuilt v row m fit below less (others_count lost rebuilt row m (λ e. other (same_lost m e gone)));
@@ -76,7 +78,8 @@ pub drain_fits : (g : Geometry) (lost : Option ℕ) (rebuilt : ℕ) (writes : Li
 drain_fits g lost rebuilt writes v fit row m bytes below inside counts found = row_fits g lost rebuilt v row m fit below inside counts
 
 -- a call that keeps the sizes leaves them so
-pub drain_fits_along : (g : Geometry) (lost : Option ℕ) (rebuilt : ℕ) (writes : List Staged) (old new : View) → ((e : ℕ) → new.sizes e ≡ old.sizes e) → DrainFits g lost rebuilt writes old → DrainFits g lost rebuilt writes new
+pub drain_fits_along : (g : Geometry) (lost : Option ℕ) (rebuilt : ℕ) (writes : List Staged) (old new : View) → ((e : ℕ) → new.sizes e ≡ old.sizes e)
+    → DrainFits g lost rebuilt writes old → DrainFits g lost rebuilt writes new
 drain_fits_along g lost rebuilt writes old new sizes fits row m bytes below inside counts found =
     let there = fits row m bytes below inside counts found in
     (there.0, sizes (m + 1) ∙ there.1, there.2)
@@ -96,14 +99,16 @@ fits_older g lost rebuilt newer older v fits row m bytes below inside counts fou
     still_some (Some more) = (more, refl)
 
 -- the two places of a write
-pub block_place_fits : (g : Geometry) (lost : Option ℕ) (rebuilt : ℕ) (staged : Staged) (place : Place) (v : View) → staged.block < volume g → place ≡ block_place g staged.block → DrainFits g lost rebuilt (staged ∷ []) v → Counts lost rebuilt place.row place.member → RowFits g v place.row place.member
+pub block_place_fits : (g : Geometry) (lost : Option ℕ) (rebuilt : ℕ) (staged : Staged) (place : Place) (v : View) → staged.block < volume g
+    → place ≡ block_place g staged.block → DrainFits g lost rebuilt (staged ∷ []) v → Counts lost rebuilt place.row place.member → RowFits g v place.row place.member
 block_place_fits g lost rebuilt staged place v below is_place fits =
     let here = block_place g staged.block in
     subst (λ (p : Place). Counts lost rebuilt p.row p.member → RowFits g v p.row p.member) (sym is_place)
     (λ counts. fits here.row here.member staged.bytes (row_of-within g staged.block below) (member_within g staged.block) counts
     (ap (λ (o : Option (List ℕ)). option_or o None) (staged_at_block g staged here.row here.member refl refl)))
 
-pub parity_place_fits : (g : Geometry) (lost : Option ℕ) (rebuilt : ℕ) (staged : Staged) (place : Place) (at_parity : ℕ) (v : View) → staged.block < volume g → place ≡ block_place g staged.block → at_parity ≡ parity_member g place.row → DrainFits g lost rebuilt (staged ∷ []) v → Counts lost rebuilt place.row at_parity → RowFits g v place.row at_parity
+pub parity_place_fits : (g : Geometry) (lost : Option ℕ) (rebuilt : ℕ) (staged : Staged) (place : Place) (at_parity : ℕ) (v : View) → staged.block < volume g
+    → place ≡ block_place g staged.block → at_parity ≡ parity_member g place.row → DrainFits g lost rebuilt (staged ∷ []) v → Counts lost rebuilt place.row at_parity → RowFits g v place.row at_parity
 parity_place_fits g lost rebuilt staged place at_parity v below is_place is_parity fits =
     let here = block_place g staged.block in
     let there : Counts lost rebuilt here.row (parity_member g here.row) → RowFits g v here.row (parity_member g here.row) =

@@ -1,4 +1,5 @@
 pub mod OptionLemmas
+pub mod PoolLemmas
 pub mod ReadLemmas
 pub mod TableLemmas
 pub mod StandingLemmas

@@ -56,7 +56,8 @@ module _ (g : Geometry) (lost : Option ℕ) (rebuilt : ℕ) (area : Area) (x y :
   out_after m out = ⊎_elim inl (λ none. inr (still_absent (y (m + 1)) (x (m + 1)) (sym (differs.sizes (m + 1))) none)) out
 
   -- what the members hold stays
-  pub members_stay : (writes : List Staged) (image : List (List ℕ)) → ((e i : ℕ) → InPlaces g lost rebuilt writes e i → area e i → ⊥) → MembersHold g lost rebuilt writes image x → MembersHold g lost rebuilt writes image y
+  pub members_stay : (writes : List Staged) (image : List (List ℕ)) → ((e i : ℕ) → InPlaces g lost rebuilt writes e i → area e i → ⊥)
+      → MembersHold g lost rebuilt writes image x → MembersHold g lost rebuilt writes image y
   members_stay writes image places holds = record {
     one_out = λ m k in_m in_k out_m out_k. holds.one_out m k in_m in_k (out_before m out_m) (out_before k out_k);
     made = λ m inside here.
@@ -82,7 +83,8 @@ module _ (g : Geometry) (lost : Option ℕ) (rebuilt : ℕ) (area : Area) (x y :
 
 -- ---- over a drain and over a write
 -- the older writes are on the members
-pub drained_members : (g : Geometry) (lost : Option ℕ) (rebuilt : ℕ) (newer older : List Staged) (image : List (List ℕ)) (x : Disks) → MembersHold g lost rebuilt (newer ++ older) image x → AreDrained g lost rebuilt older x → MembersHold g lost rebuilt newer image x
+pub drained_members : (g : Geometry) (lost : Option ℕ) (rebuilt : ℕ) (newer older : List Staged) (image : List (List ℕ)) (x : Disks)
+    → MembersHold g lost rebuilt (newer ++ older) image x → AreDrained g lost rebuilt older x → MembersHold g lost rebuilt newer image x
 drained_members g lost rebuilt newer older image x holds drained = record {
   one_out = holds.one_out;
   made = holds.made;
@@ -98,7 +100,10 @@ drained_members g lost rebuilt newer older image x holds drained = record {
     on_members (Some bytes) held same = same bytes refl
 
 -- one more write is pending
-pub written_members : (g : Geometry) (lost : Option ℕ) (rebuilt : ℕ) (writes : List Staged) (image : List (List ℕ)) (staged : Staged) (x : Disks) → MembersHold g lost rebuilt writes image x → IsImage g image → staged.block < volume g → staged.parity ≡ row_parity g (slice_set image staged.block staged.bytes) (block_place g staged.block).row → MembersHold g lost rebuilt (staged ∷ writes) (slice_set image staged.block staged.bytes) x
+pub written_members : (g : Geometry) (lost : Option ℕ) (rebuilt : ℕ) (writes : List Staged) (image : List (List ℕ)) (staged : Staged) (x : Disks)
+    → MembersHold g lost rebuilt writes image x → IsImage g image → staged.block < volume g
+    → staged.parity ≡ row_parity g (slice_set image staged.block staged.bytes) (block_place g staged.block).row
+    → MembersHold g lost rebuilt (staged ∷ writes) (slice_set image staged.block staged.bytes) x
 written_members g lost rebuilt writes image staged x holds is_image below parity = record {
   one_out = holds.one_out;
   made = holds.made;
@@ -107,7 +112,8 @@ written_members g lost rebuilt writes image staged x holds is_image below parity
 }
 
 -- a place that older writes cover is none of those that count and for which nothing is pending, nor a header, nor on disk 0
-pub covered_apart : (g : Geometry) (lost : Option ℕ) (rebuilt : ℕ) (newer older : List Staged) (e i : ℕ) → Covered g older e i → (InPlaces g lost rebuilt (newer ++ older) e i → ⊥) × (InHeaders g lost rebuilt e i → ⊥) × (e ≢ 0)
+pub covered_apart : (g : Geometry) (lost : Option ℕ) (rebuilt : ℕ) (newer older : List Staged) (e i : ℕ) → Covered g older e i
+    → (InPlaces g lost rebuilt (newer ++ older) e i → ⊥) × (InHeaders g lost rebuilt e i → ⊥) × (e ≢ 0)
 covered_apart g lost rebuilt newer older e i covered = (
   (λ bare.
       let over = covered_older g newer older e i covered in
@@ -120,13 +126,16 @@ covered_apart g lost rebuilt newer older e i covered = (
 
 -- ---- for a call that reads
 -- a member that isn't lost is there whatever a crash leaves
-pub members_there : (g : Geometry) (lost : Option ℕ) (rebuilt : ℕ) (v : View) (w : Contents) → IsLawful v → MayLeave v w → MembersFit g lost rebuilt v → (m : ℕ) → m < g.members → lost ≢ Some m → w.disks (m + 1) ≢ None
+pub members_there : (g : Geometry) (lost : Option ℕ) (rebuilt : ℕ) (v : View) (w : Contents) → IsLawful v → MayLeave v w → MembersFit g lost rebuilt v → (m : ℕ)
+    → m < g.members → lost ≢ Some m → w.disks (m + 1) ≢ None
 members_there g lost rebuilt v w lawful left fit m inside apart =
     let there = fit m inside (others_count lost rebuilt 0 m apart) in
     there_by_size (w.disks (m + 1)) there.0 (left.torn.disks.sizes (m + 1) ∙ lawful.sized left.told (m + 1) ∙ there.1)
 
 -- the places stand for the image's table
-pub stand_for : (g : Geometry) (lost : Option ℕ) (rebuilt : ℕ) (writes : List Staged) (before image : List (List ℕ)) (x : Disks) → MembersHold g lost rebuilt writes image x → IsImage g before → AreWrites g before writes → image ≡ image_after_writes before writes → ((m : ℕ) → m < g.members → lost ≢ Some m → x (m + 1) ≢ None) → HoldImage g lost writes (member_place g x) image
+pub stand_for : (g : Geometry) (lost : Option ℕ) (rebuilt : ℕ) (writes : List Staged) (before image : List (List ℕ)) (x : Disks)
+    → MembersHold g lost rebuilt writes image x → IsImage g before → AreWrites g before writes → image ≡ image_after_writes before writes
+    → ((m : ℕ) → m < g.members → lost ≢ Some m → x (m + 1) ≢ None) → HoldImage g lost writes (member_place g x) image
 stand_for g lost rebuilt writes before image x holds is_image are after there =
     let P : List (List ℕ) → Type 0 = λ (other : List (List ℕ)). HoldImage g lost writes (member_place g x) other in
     subst P (sym after)
@@ -147,7 +156,8 @@ some_same : (a b : ℕ) → Some a ≡ Some b → a ≡ b
 some_same a b e = cc
 
 -- a member is recorded lost, with nothing rebuilt
-pub lost_members : (g : Geometry) (lost : Option ℕ) (rebuilt : ℕ) (writes : List Staged) (image : List (List ℕ)) (x : Disks) (m : ℕ) → MembersHold g lost rebuilt writes image x → NoneOutBut g lost x m → MembersHold g (Some m) 0 writes image x
+pub lost_members : (g : Geometry) (lost : Option ℕ) (rebuilt : ℕ) (writes : List Staged) (image : List (List ℕ)) (x : Disks) (m : ℕ)
+    → MembersHold g lost rebuilt writes image x → NoneOutBut g lost x m → MembersHold g (Some m) 0 writes image x
 lost_members g lost rebuilt writes image x m holds none = record {
   one_out = λ a b in_a in_b out_a out_b. only_it a in_a out_a ∙ sym (only_it b in_b out_b);
   made = λ k inside here. holds.made k inside (λ out. here (inl (ap (λ (n : ℕ). Some n) (sym (none k inside out)))));
@@ -165,11 +175,13 @@ lost_members g lost rebuilt writes image x m holds none = record {
     no_row row h = omega arith
 
 -- where a member is recorded lost, no other is out
-pub none_out_but_lost : (g : Geometry) (lost : Option ℕ) (rebuilt : ℕ) (writes : List Staged) (image : List (List ℕ)) (x : Disks) (m : ℕ) → MembersHold g lost rebuilt writes image x → m < g.members → lost ≡ Some m → NoneOutBut g lost x m
+pub none_out_but_lost : (g : Geometry) (lost : Option ℕ) (rebuilt : ℕ) (writes : List Staged) (image : List (List ℕ)) (x : Disks) (m : ℕ)
+    → MembersHold g lost rebuilt writes image x → m < g.members → lost ≡ Some m → NoneOutBut g lost x m
 none_out_but_lost g lost rebuilt writes image x m holds within gone k inside out = holds.one_out k m inside within out (inl gone)
 
 -- its rebuilt rows are forgotten
-pub forgotten_members : (g : Geometry) (lost : Option ℕ) (rebuilt : ℕ) (writes : List Staged) (image : List (List ℕ)) (x : Disks) (m : ℕ) → MembersHold g lost rebuilt writes image x → m < g.members → lost ≡ Some m → MembersHold g (Some m) 0 writes image x
+pub forgotten_members : (g : Geometry) (lost : Option ℕ) (rebuilt : ℕ) (writes : List Staged) (image : List (List ℕ)) (x : Disks) (m : ℕ)
+    → MembersHold g lost rebuilt writes image x → m < g.members → lost ≡ Some m → MembersHold g (Some m) 0 writes image x
 forgotten_members g lost rebuilt writes image x m holds within gone =
     lost_members g lost rebuilt writes image x m holds (none_out_but_lost g lost rebuilt writes image x m holds within gone)
 
@@ -182,7 +194,9 @@ none_out g rebuilt v w m lawful left fit k inside out =
     no_member gone = cc
 
 -- only the disk of a member changed that is out and of which no place is trusted
-pub beside_members : (g : Geometry) (lost : Option ℕ) (rebuilt : ℕ) (writes : List Staged) (image : List (List ℕ)) (x y : Disks) (m : ℕ) → MembersHold g lost rebuilt writes image x → NoneOutBut g lost x m → ((e : ℕ) → e ≢ m + 1 → y e ≡ x e) → IsOut lost y m → ((row : ℕ) → IsTrusted g lost rebuilt y row m → ⊥) → MembersHold g lost rebuilt writes image y
+pub beside_members : (g : Geometry) (lost : Option ℕ) (rebuilt : ℕ) (writes : List Staged) (image : List (List ℕ)) (x y : Disks) (m : ℕ)
+    → MembersHold g lost rebuilt writes image x → NoneOutBut g lost x m → ((e : ℕ) → e ≢ m + 1 → y e ≡ x e) → IsOut lost y m
+    → ((row : ℕ) → IsTrusted g lost rebuilt y row m → ⊥) → MembersHold g lost rebuilt writes image y
 beside_members g lost rebuilt writes image x y m holds none others out untrusted = record {
   one_out = λ a b in_a in_b out_a out_b. only_it a in_a out_a ∙ sym (only_it b in_b out_b);
   made = λ k inside here.
@@ -222,14 +236,16 @@ beside_members g lost rebuilt writes image x y m holds none others out untrusted
     }
 
 -- a member's disk is removed
-pub gone_members : (g : Geometry) (lost : Option ℕ) (rebuilt : ℕ) (writes : List Staged) (image : List (List ℕ)) (x y : Disks) (m : ℕ) → MembersHold g lost rebuilt writes image x → NoneOutBut g lost x m → ((e : ℕ) → e ≢ m + 1 → y e ≡ x e) → y (m + 1) ≡ None → MembersHold g lost rebuilt writes image y
+pub gone_members : (g : Geometry) (lost : Option ℕ) (rebuilt : ℕ) (writes : List Staged) (image : List (List ℕ)) (x y : Disks) (m : ℕ)
+    → MembersHold g lost rebuilt writes image x → NoneOutBut g lost x m → ((e : ℕ) → e ≢ m + 1 → y e ≡ x e) → y (m + 1) ≡ None → MembersHold g lost rebuilt writes image y
 gone_members g lost rebuilt writes image x y m holds none others absent =
     beside_members g lost rebuilt writes image x y m holds none others (inr absent)
     (λ row trusted. there_by_size (y (m + 1)) _ trusted.made.size absent)
 
 -- ---- a drain over what the members hold
 -- stopped within a drain, they hold what they held
-pub torn_members : (g : Geometry) (lost : Option ℕ) (rebuilt : ℕ) (newer older : List Staged) (image : List (List ℕ)) (x y : Disks) → MembersHold g lost rebuilt (newer ++ older) image x → Differs (Covered g older) x y → MembersHold g lost rebuilt (newer ++ older) image y
+pub torn_members : (g : Geometry) (lost : Option ℕ) (rebuilt : ℕ) (newer older : List Staged) (image : List (List ℕ)) (x y : Disks)
+    → MembersHold g lost rebuilt (newer ++ older) image x → Differs (Covered g older) x y → MembersHold g lost rebuilt (newer ++ older) image y
 torn_members g lost rebuilt newer older image x y holds differs =
     members_stay g lost rebuilt (Covered g older) x y differs
     (λ e i header covered. let apart = covered_apart g lost rebuilt newer older e i covered in apart.1 header)
@@ -237,6 +253,8 @@ torn_members g lost rebuilt newer older image x y holds differs =
     (λ e i bare covered. let apart = covered_apart g lost rebuilt newer older e i covered in apart.0 bare) holds
 
 -- after it they hold the same with the newer writes alone pending
-pub members_after_drain : (g : Geometry) (lost : Option ℕ) (rebuilt : ℕ) (newer older : List Staged) (image : List (List ℕ)) (x y : Disks) → MembersHold g lost rebuilt (newer ++ older) image x → Drains g lost rebuilt older x y → MembersHold g lost rebuilt newer image y
+pub members_after_drain : (g : Geometry) (lost : Option ℕ) (rebuilt : ℕ) (newer older : List Staged) (image : List (List ℕ)) (x y : Disks)
+    → MembersHold g lost rebuilt (newer ++ older) image x → Drains g lost rebuilt older x y → MembersHold g lost rebuilt newer image y
 members_after_drain g lost rebuilt newer older image x y holds drains =
-    drained_members g lost rebuilt newer older image y (torn_members g lost rebuilt newer older image x y holds (differs_mono (InDrained g lost rebuilt older) (Covered g older) x y (λ e i drained. drained.covered) drains.differs)) drains.there
+    drained_members g lost rebuilt newer older image y (torn_members g lost rebuilt newer older image x y holds
+    (differs_mono (InDrained g lost rebuilt older) (Covered g older) x y (λ e i drained. drained.covered) drains.differs)) drains.there

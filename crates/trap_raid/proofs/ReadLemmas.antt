@@ -20,7 +20,8 @@ still_tells old new reads told = subst IsTrue (sym reads.moves.tells) told
 pub row_fits_along : (g : Geometry) (old new : View) (row member : ℕ) → OnlyReads old new → RowFits g old row member → RowFits g new row member
 row_fits_along g old new row member reads fits = (fits.0, reads.sizes (member + 1) ∙ fits.1, fits.2)
 
-pub place_fits_along : (g : Geometry) (lost : Option ℕ) (writes : List Staged) (old new : View) (row member : ℕ) → OnlyReads old new → PlaceFits g lost writes old row member → PlaceFits g lost writes new row member
+pub place_fits_along : (g : Geometry) (lost : Option ℕ) (writes : List Staged) (old new : View) (row member : ℕ) → OnlyReads old new
+    → PlaceFits g lost writes old row member → PlaceFits g lost writes new row member
 place_fits_along g lost writes old new row member reads fits = record {
   own = λ apart bare. row_fits_along g old new row member reads (fits.own apart bare);
   others = λ gone none m inside other bare. row_fits_along g old new row m reads (fits.others gone none m inside other bare);
@@ -41,7 +42,8 @@ pub others_more : (g : Geometry) (writes : List Staged) (old mid : View) (row on
     → next ≡ xor so_far block
     → IsTrue old.tells → next ≡ xor_but g.block one (laid_over g writes (member_place g old.now.disks) row) (member + 1)
 others_more g writes old mid row one member so_far block next reads other before read is_next told =
-    let here : block ≡ laid_over g writes (member_place g old.now.disks) row member = read (still_tells old mid reads told) ∙ ap (λ (c : Contents). laid_over g writes (member_place g c.disks) row member) (reads.same told) in
+    let here : block ≡ laid_over g writes (member_place g old.now.disks) row member = read (still_tells old mid reads told)
+    ∙ ap (λ (c : Contents). laid_over g writes (member_place g c.disks) row member) (reads.same told) in
     is_next
     ∙ ap (λ (b : List ℕ). xor b block) (before told)
     ∙ ap (λ (b : List ℕ). xor (xor_but g.block one (laid_over g writes (member_place g old.now.disks) row) member) b) here
@@ -52,7 +54,8 @@ pub others_but : (size one n : ℕ) (block_of : ℕ → List ℕ) → n ≡ one 
 others_but size one n block_of e = rw add-one (xor_but_here size one n block_of e)
 
 -- the same place by other names
-pub place_fits_at : (g : Geometry) (lost : Option ℕ) (writes : List Staged) (v : View) (row member row' member' : ℕ) → row ≡ row' → member ≡ member' → PlaceFits g lost writes v row member → PlaceFits g lost writes v row' member'
+pub place_fits_at : (g : Geometry) (lost : Option ℕ) (writes : List Staged) (v : View) (row member row' member' : ℕ) → row ≡ row' → member ≡ member'
+    → PlaceFits g lost writes v row member → PlaceFits g lost writes v row' member'
 place_fits_at g lost writes v row member row' member' e f fits =
     let P : ℕ → Type 0 = λ r. PlaceFits g lost writes v r member' in
     let Q : ℕ → Type 0 = λ m. PlaceFits g lost writes v row m in

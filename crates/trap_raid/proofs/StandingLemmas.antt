@@ -26,26 +26,30 @@ apart_is (Some one) member apart = ne_eqb one member (λ e. apart (ap (λ (n : �
 
 -- ---- what stands there
 -- pending bytes
-pub standing_pending : (g : Geometry) (lost : Option ℕ) (writes : List Staged) (place : ℕ → ℕ → List ℕ) (row member : ℕ) (bytes : List ℕ) → newest_at g writes row member ≡ Some bytes → bytes ≡ standing_at g lost writes place row member
+pub standing_pending : (g : Geometry) (lost : Option ℕ) (writes : List Staged) (place : ℕ → ℕ → List ℕ) (row member : ℕ) (bytes : List ℕ)
+    → newest_at g writes row member ≡ Some bytes → bytes ≡ standing_at g lost writes place row member
 standing_pending g lost writes place row member bytes found =
     sym (ap (λ (o : Option (List ℕ)). unwrap_or o (if is_lost lost member then xor_but g.block member (laid_over g writes place row) g.members else place row member)) found)
 
 -- the member's own bytes
-pub standing_own : (g : Geometry) (lost : Option ℕ) (writes : List Staged) (place : ℕ → ℕ → List ℕ) (row member : ℕ) → newest_at g writes row member ≡ None → lost ≢ Some member → place row member ≡ standing_at g lost writes place row member
+pub standing_own : (g : Geometry) (lost : Option ℕ) (writes : List Staged) (place : ℕ → ℕ → List ℕ) (row member : ℕ) → newest_at g writes row member ≡ None
+    → lost ≢ Some member → place row member ≡ standing_at g lost writes place row member
 standing_own g lost writes place row member none apart =
     let others = xor_but g.block member (laid_over g writes place row) g.members in
     sym (ap (λ (o : Option (List ℕ)). unwrap_or o (if is_lost lost member then others else place row member)) none
     ∙ ap (λ (b : Bool). if b then others else place row member) (apart_is lost member apart))
 
 -- what the others give
-pub standing_others : (g : Geometry) (lost : Option ℕ) (writes : List Staged) (place : ℕ → ℕ → List ℕ) (row member : ℕ) → newest_at g writes row member ≡ None → lost ≡ Some member → xor_but g.block member (laid_over g writes place row) g.members ≡ standing_at g lost writes place row member
+pub standing_others : (g : Geometry) (lost : Option ℕ) (writes : List Staged) (place : ℕ → ℕ → List ℕ) (row member : ℕ) → newest_at g writes row member ≡ None
+    → lost ≡ Some member → xor_but g.block member (laid_over g writes place row) g.members ≡ standing_at g lost writes place row member
 standing_others g lost writes place row member none gone =
     let others = xor_but g.block member (laid_over g writes place row) g.members in
     sym (ap (λ (o : Option (List ℕ)). unwrap_or o (if is_lost lost member then others else place row member)) none
     ∙ ap (λ (b : Bool). if b then others else place row member) (lost_is lost member gone))
 
 -- what two reads give, of disks that only were read
-pub plan_by_reads : (g : Geometry) (lost : Option ℕ) (writes : List Staged) (old mid : Contents) (block : ℕ) (place : Place) (member : ℕ) (fresh first second delta parity : List ℕ) → mid ≡ old → place ≡ block_place g block → member ≡ parity_member g place.row
+pub plan_by_reads : (g : Geometry) (lost : Option ℕ) (writes : List Staged) (old mid : Contents) (block : ℕ) (place : Place) (member : ℕ)
+    (fresh first second delta parity : List ℕ) → mid ≡ old → place ≡ block_place g block → member ≡ parity_member g place.row
     → first ≡ standing_at g lost writes (member_place g old.disks) place.row place.member → delta ≡ xor first fresh
     → second ≡ standing_at g lost writes (member_place g mid.disks) place.row member → parity ≡ xor second delta
     → IsPlanFrom g (standing_at g lost writes (member_place g old.disks)) block fresh delta parity
@@ -76,7 +80,8 @@ reads_own g lost writes row member none apart =
     ap (λ (o : Option (List ℕ)). calls_for o * many) none ∙ one_times many
     ∙ ap (λ (b : Bool). if b then bare_others g writes row member g.members else 1) (apart_is lost member apart)
 
-pub reads_others : (g : Geometry) (lost : Option ℕ) (writes : List Staged) (row member : ℕ) → newest_at g writes row member ≡ None → lost ≡ Some member → reads_of g lost writes row member ≡ bare_others g writes row member g.members
+pub reads_others : (g : Geometry) (lost : Option ℕ) (writes : List Staged) (row member : ℕ) → newest_at g writes row member ≡ None → lost ≡ Some member
+    → reads_of g lost writes row member ≡ bare_others g writes row member g.members
 reads_others g lost writes row member none gone =
     let many = if is_lost lost member then bare_others g writes row member g.members else 1 in
     ap (λ (o : Option (List ℕ)). calls_for o * many) none ∙ one_times many

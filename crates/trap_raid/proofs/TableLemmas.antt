@@ -18,7 +18,8 @@ use Rattle.trap_raid.specs.Plan.{IsPlan}
 
 -- ---- from places that stand for the table
 -- what stands at a member that isn't lost
-pub laid_over_stands : (g : Geometry) (lost : Option ℕ) (writes : List Staged) (place : ℕ → ℕ → List ℕ) (image : List (List ℕ)) → HoldImage g lost writes place image → (row member : ℕ) → row < g.rows → member < g.members → lost ≢ Some member → laid_over g writes place row member ≡ table g image row member
+pub laid_over_stands : (g : Geometry) (lost : Option ℕ) (writes : List Staged) (place : ℕ → ℕ → List ℕ) (image : List (List ℕ)) → HoldImage g lost writes place image
+    → (row member : ℕ) → row < g.rows → member < g.members → lost ≢ Some member → laid_over g writes place row member ≡ table g image row member
 laid_over_stands g lost writes place image stands row member below inside apart =
     either (newest_at g writes row member) (place row member) (table g image row member) (lost ≢ Some member) apart (stands row member below inside)
   where
@@ -27,7 +28,9 @@ laid_over_stands g lost writes place image stands row member below inside apart 
     either (Some z) x y P p h = h
 
 -- the others' places give the lost member's place
-pub others_stand : (g : Geometry) (lost : Option ℕ) (writes : List Staged) (place : ℕ → ℕ → List ℕ) (image : List (List ℕ)) → IsImage g image → HoldImage g lost writes place image → (row member : ℕ) → row < g.rows → member < g.members → lost ≡ Some member → xor_but g.block member (laid_over g writes place row) g.members ≡ table g image row member
+pub others_stand : (g : Geometry) (lost : Option ℕ) (writes : List Staged) (place : ℕ → ℕ → List ℕ) (image : List (List ℕ)) → IsImage g image
+    → HoldImage g lost writes place image → (row member : ℕ) → row < g.rows → member < g.members → lost ≡ Some member
+    → xor_but g.block member (laid_over g writes place row) g.members ≡ table g image row member
 others_stand g lost writes place image is_image stands row member below inside gone =
     xor_but_same g.block member g.members (laid_over g writes place row) (table g image row)
     (λ m less apart. laid_over_stands g lost writes place image stands row m below less (λ e. apart (same_lost lost m member e gone)))
@@ -37,12 +40,14 @@ others_stand g lost writes place image is_image stands row member below inside g
     same_lost lost m n e f = cc
 
 -- pending bytes
-pub pending_stands : (g : Geometry) (lost : Option ℕ) (writes : List Staged) (place : ℕ → ℕ → List ℕ) (image : List (List ℕ)) → HoldImage g lost writes place image → (row member : ℕ) (bytes : List ℕ) → row < g.rows → member < g.members → newest_at g writes row member ≡ Some bytes → bytes ≡ table g image row member
+pub pending_stands : (g : Geometry) (lost : Option ℕ) (writes : List Staged) (place : ℕ → ℕ → List ℕ) (image : List (List ℕ)) → HoldImage g lost writes place image
+    → (row member : ℕ) (bytes : List ℕ) → row < g.rows → member < g.members → newest_at g writes row member ≡ Some bytes → bytes ≡ table g image row member
 pending_stands g lost writes place image stands row member bytes below inside found =
     MatchOption-at_some (lost ≢ Some member → place row member ≡ table g image row member) (λ (b : List ℕ). b ≡ table g image row member) bytes found (stands row member below inside)
 
 -- a member's bytes, where none are pending
-pub member_stands : (g : Geometry) (lost : Option ℕ) (writes : List Staged) (place : ℕ → ℕ → List ℕ) (image : List (List ℕ)) → HoldImage g lost writes place image → (row member : ℕ) → row < g.rows → member < g.members → newest_at g writes row member ≡ None → lost ≢ Some member → place row member ≡ table g image row member
+pub member_stands : (g : Geometry) (lost : Option ℕ) (writes : List Staged) (place : ℕ → ℕ → List ℕ) (image : List (List ℕ)) → HoldImage g lost writes place image
+    → (row member : ℕ) → row < g.rows → member < g.members → newest_at g writes row member ≡ None → lost ≢ Some member → place row member ≡ table g image row member
 member_stands g lost writes place image stands row member below inside none apart =
     MatchOption-at_none (lost ≢ Some member → place row member ≡ table g image row member) (λ (b : List ℕ). b ≡ table g image row member) none (stands row member below inside) apart
 
@@ -58,7 +63,9 @@ members_apart g block place member is_place is_member same =
     (ap (λ (p : Place). p.member) (sym is_place) ∙ same ∙ is_member ∙ ap (λ (p : Place). parity_member g p.row) is_place)
 
 -- the plan, from what its two reads gave
-pub plan_from_reads : (g : Geometry) (image : List (List ℕ)) (block : ℕ) (place : Place) (member : ℕ) (fresh first second delta parity : List ℕ) → IsImage g image → block < volume g → length fresh ≡ g.block → place ≡ block_place g block → member ≡ parity_member g place.row → first ≡ table g image place.row place.member → delta ≡ xor first fresh → second ≡ table g image place.row member → parity ≡ xor second delta → IsPlan g image block fresh delta parity
+pub plan_from_reads : (g : Geometry) (image : List (List ℕ)) (block : ℕ) (place : Place) (member : ℕ) (fresh first second delta parity : List ℕ) → IsImage g image
+    → block < volume g → length fresh ≡ g.block → place ≡ block_place g block → member ≡ parity_member g place.row → first ≡ table g image place.row place.member
+    → delta ≡ xor first fresh → second ≡ table g image place.row member → parity ≡ xor second delta → IsPlan g image block fresh delta parity
 plan_from_reads g image block place member fresh first second delta parity is_image below size is_place is_member is_first is_delta is_second is_parity =
     let at_row : row_parity g image place.row ≡ row_parity g image (block_place g block).row = ap (λ p. row_parity g image p.row) is_place in
     let old : delta ≡ xor (get_or image block []) fresh = is_delta ∙ ap (λ b. xor b fresh) (is_first ∙ table_at_place g image place block is_place) in
@@ -71,7 +78,8 @@ plan_from_reads g image block place member fresh first second delta parity is_im
     }
 
 -- places of disks that were only read stand for what they stood for
-pub stand_along : (g : Geometry) (lost : Option ℕ) (writes : List Staged) (old new : Contents) (image : List (List ℕ)) → new ≡ old → HoldImage g lost writes (member_place g old.disks) image → HoldImage g lost writes (member_place g new.disks) image
+pub stand_along : (g : Geometry) (lost : Option ℕ) (writes : List Staged) (old new : Contents) (image : List (List ℕ)) → new ≡ old
+    → HoldImage g lost writes (member_place g old.disks) image → HoldImage g lost writes (member_place g new.disks) image
 stand_along g lost writes old new image same stands =
     let P : Contents → Type 0 = λ (c : Contents). HoldImage g lost writes (member_place g c.disks) image in
     subst P (sym same) stands

@@ -44,7 +44,8 @@ zero_table g row m below inside =
     ]
 
 -- members that are made, and of which each place is zero, hold the zero image with nothing pending
-pub zero_members : (g : Geometry) (x : Disks) → ((m : ℕ) → m < g.members → IsMember g x m) → ((row m : ℕ) → row < g.rows → m < g.members → member_place g x row m ≡ zeros g.block) → MembersHold g None 0 [] (zero_image g) x
+pub zero_members : (g : Geometry) (x : Disks) → ((m : ℕ) → m < g.members → IsMember g x m)
+    → ((row m : ℕ) → row < g.rows → m < g.members → member_place g x row m ≡ zeros g.block) → MembersHold g None 0 [] (zero_image g) x
 zero_members g x made places = record {
   one_out = λ m k in_m in_k out_m out_k. absurd (none_out m in_m out_m);
   made = λ m inside here. made m inside;
@@ -71,6 +72,6 @@ zero_place g x row m made below =
     ∙ take-replicate g.block (member_size g - row_at g row) 0 (omega arith)
 
 -- the header's bytes are none of a place's
-pub places_behind_header : (g : Geometry) (x y : Disks) (row member m : ℕ) → Differs (Within (m + 1) 0 16) x y → member_place g y row member ≡ member_place g x row member
-places_behind_header g x y row member m differs =
+pub places_after_header : (g : Geometry) (x y : Disks) (row member m : ℕ) → Differs (Within (m + 1) 0 16) x y → member_place g y row member ≡ member_place g x row member
+places_after_header g x y row member m differs =
     region_apart (Within (m + 1) 0 16) x y (member + 1) (row_at g row) g.block differs (λ i low high within. omega (arith, low, within.to))

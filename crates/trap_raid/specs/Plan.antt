@@ -1,16 +1,9 @@
 -- What a write of one block changes in its row.
-use Rattle.std.specs.Prelude.{◌≡◌, ℕ, List, [], length, slice_index_or, slice_set}
+use Rattle.std.specs.Prelude.{◌≡◌, ℕ, List, [], slice_index_or, slice_set}
 use Rattle.trap_block.specs.Xor.{xor}
 use Rattle.trap_model.specs.declared.numbers.Geometry.{Geometry}
 use Rattle.trap_map.specs.Layout.{parity_member, block_place}
 use Rattle.trap_map.specs.Table.{row_parity}
-
--- the four buffers of a plan are blocks
-pub record AreBlocks (g : Geometry) (fresh delta parity scratch : List ℕ) : Type 0 where
-  pub fresh_size : length fresh ≡ g.block
-  pub delta_size : length delta ≡ g.block
-  pub parity_size : length parity ≡ g.block
-  pub scratch_size : length scratch ≡ g.block
 
 -- the write's parity is old xor fresh, and the row's is that of the image with the block written
 pub record IsPlan (g : Geometry) (image : List (List ℕ)) (block : ℕ)

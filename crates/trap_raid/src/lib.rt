@@ -6,6 +6,8 @@ mod pending_tests;
 mod raid;
 mod reads;
 #[cfg(test)]
+mod test_blocks;
+#[cfg(test)]
 mod tests;
 mod writes;
 

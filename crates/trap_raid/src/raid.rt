@@ -1,6 +1,6 @@
 //! The members of an array, of which one may be lost.
 
-ghost use Rattle.std.specs.Prelude.{◌≡◌, ◌<◌, ◌≤◌, ℕ, List, Option, Some, None, length, IsTrue, OnOk, IfErr};
+ghost use Rattle.std.specs.Prelude.{◌≡◌, ◌<◌, ◌≤◌, ℕ, List, [], ◌∷◌, Option, Some, None, IsTrue, OnOk, IfErr};
 ghost use Rattle.std.specs.Option.{ForSome};
 ghost use Rattle.trap_model.specs.Image.{volume};
 ghost use Rattle.trap_map.specs.Table.{table};
@@ -8,20 +8,22 @@ ghost use Rattle.trap_bank.specs.Called.{TakesCalls};
 ghost use Rattle.trap_bank.specs.Disks.{Differs, Torn};
 ghost use Rattle.trap_bank.specs.Steps.{Moves};
 ghost use Rattle.trap_model.specs.Image.{IsImage};
+ghost use Rattle.trap_pool.specs.Frames.{AreLeases, Only};
+ghost use Rattle.trap_pool.specs.Pooled.{pool_block};
 ghost use Rattle.trap_raid.specs.Members.{Counts, IsPlace, PlaceFits, BlockFits, DrainFits, HoldImage, member_place};
 ghost use Rattle.trap_raid.specs.Draining.{writes_to, Drains, InDrained, IsDrainedTo, drain_calls};
 ghost use Rattle.trap_raid.specs.Reads.{OnlyReads, FailedMember, IsReadFor, IsReadForBlock};
 ghost use Rattle.trap_raid.specs.Standing.{standing_at, reads_of, plan_reads};
-ghost use Rattle.trap_raid.specs.Plan.{AreBlocks, IsPlan, IsPlanFrom};
+ghost use Rattle.trap_raid.specs.Plan.{IsPlan, IsPlanFrom};
 
 use crate::MemberFailed;
 use crate::reads::{read_member, read_others};
 use crate::writes::write_slot;
 use std::marker::Model;
 use trap_bank::Bank;
-use trap_block::xor_into;
 use trap_map::{Place, parity_of, place_of};
 use trap_model::Geometry;
+use trap_pool::{Lease, Pool};
 use trap_stage::Stage;
 
 /// The numbers of an array, and the member that is lost. A contract sees them as a `Condition`. The
@@ -80,30 +82,35 @@ impl Raid {
 
     /// Reads what stands at a place: the newest pending bytes, else its member's, or where that
     /// member is lost, the exclusive-or of what stands at the other members' places of the row.
-    /// `into` and `scratch` are blocks; after a failure they hold any bytes.
+    /// After a failure `into` and `scratch` hold any bytes.
     pub fn read_place<B: Bank>(
         &self,
         bank: &mut B,
         stage: &Stage,
+        pool: &mut Pool,
         place: Place,
-        into: &mut [u8],
-        scratch: &mut [u8],
+        into: &Lease,
+        scratch: &Lease,
     ) -> Result<(), MemberFailed>
         requires stage { stage.now.g ≡ self.now.g }
         requires place { IsPlace self.now.g place }
         requires disks { PlaceFits self.now.g self.now.lost stage.now.pending (B.view bank.old)
             place.row place.member }
-        requires into { length into.old ≡ self.now.g.block }
-        requires scratch { length scratch.old ≡ self.now.g.block }
+        requires size { pool.old.size ≡ self.now.g.block }
+        requires leases { AreLeases pool.old (into.now ∷ scratch.now ∷ []) }
         ensures bytes { IsTrue (B.view bank.old).tells
-            → OnOk result (into.new ≡ standing_at self.now.g
+            → OnOk result (pool_block pool.new into.now ≡ standing_at self.now.g
             self.now.lost stage.now.pending (member_place self.now.g (B.view bank.old).now.disks)
             place.row place.member) }
         ensures table { IsTrue (B.view bank.old).tells → (image : List (List ℕ))
             → IsImage self.now.g image
             → HoldImage self.now.g self.now.lost stage.now.pending
             (member_place self.now.g (B.view bank.old).now.disks) image
-            → OnOk result (into.new ≡ table self.now.g image place.row place.member) }
+            → OnOk result
+            (pool_block pool.new into.now ≡ table self.now.g image place.row place.member) }
+
+        // No other block changes, whatever the answer.
+        ensures rest { Only (into.now ∷ scratch.now ∷ []) pool.old pool.new }
         ensures cause { IfErr result (λ failed.
             FailedMember self.now.g self.now.lost (B.view bank.old) (B.view bank.new)
             failed.member) }
@@ -117,43 +124,51 @@ impl Raid {
         ensures any_moment { OnlyReads (B.view bank.old) (B.view bank.new) }
     {
         if let Some(bytes) = stage.pending_at(place) {
-            into.copy_from_slice(bytes);
+            pool.bytes_mut(into).copy_from_slice(bytes);
             return Ok(());
         }
         if self.lost == Some(place.member) {
-            read_others(&self.g, bank, stage, place, into, scratch)
+            read_others(&self.g, bank, stage, pool, place, into, scratch)
         } else {
-            read_member(&self.g, bank, place, into)
+            read_member(&self.g, bank, place, pool.bytes_mut(into))
         }
     }
 
     /// What a write of `fresh` to the block changes: `delta` becomes the old bytes xor the fresh
-    /// ones, and `parity` the parity of the block's row after the write. All four are blocks; after
-    /// a failure `delta`, `parity` and `scratch` hold any bytes.
+    /// ones, and `parity` the parity of the block's row after the write. After a failure `delta`,
+    /// `parity` and `scratch` hold any bytes.
     pub fn write_plan<B: Bank>(
         &self,
         bank: &mut B,
         stage: &Stage,
+        pool: &mut Pool,
         block: u32,
-        fresh: &[u8],
-        delta: &mut [u8],
-        parity: &mut [u8],
-        scratch: &mut [u8],
+        fresh: &Lease,
+        delta: &Lease,
+        parity: &Lease,
+        scratch: &Lease,
     ) -> Result<(), MemberFailed>
         requires stage { stage.now.g ≡ self.now.g }
         requires block { block < volume self.now.g }
         requires disks { BlockFits self.now.g self.now.lost stage.now.pending (B.view bank.old)
             block }
-        requires blocks { AreBlocks self.now.g fresh.now delta.old parity.old scratch.old }
+        requires size { pool.old.size ≡ self.now.g.block }
+        requires leases { AreLeases pool.old
+            (fresh.now ∷ delta.now ∷ parity.now ∷ scratch.now ∷ []) }
         ensures bytes { IsTrue (B.view bank.old).tells → OnOk result (IsPlanFrom self.now.g
             (standing_at self.now.g self.now.lost stage.now.pending
             (member_place self.now.g (B.view bank.old).now.disks))
-            block fresh.now delta.new parity.new) }
+            block (pool_block pool.old fresh.now) (pool_block pool.new delta.now)
+            (pool_block pool.new parity.now)) }
         ensures plan { IsTrue (B.view bank.old).tells → (image : List (List ℕ))
             → IsImage self.now.g image
             → HoldImage self.now.g self.now.lost stage.now.pending
             (member_place self.now.g (B.view bank.old).now.disks) image
-            → OnOk result (IsPlan self.now.g image block fresh.now delta.new parity.new) }
+            → OnOk result (IsPlan self.now.g image block (pool_block pool.old fresh.now)
+            (pool_block pool.new delta.now) (pool_block pool.new parity.now)) }
+
+        // No other block changes, whatever the answer; so `fresh` stays.
+        ensures rest { Only (delta.now ∷ parity.now ∷ scratch.now ∷ []) pool.old pool.new }
         ensures cause { IfErr result (λ failed.
             FailedMember self.now.g self.now.lost (B.view bank.old) (B.view bank.new)
             failed.member) }
@@ -165,15 +180,17 @@ impl Raid {
         // Stopped at any moment, the disks are as they were.
         ensures any_moment { OnlyReads (B.view bank.old) (B.view bank.new) }
     {
+        // Each block of the pool has the array's size.
+        prove!(pool.bytes(fresh).len() == self.g.block as usize);
         let place = place_of(&self.g, block);
-        self.read_place(bank, stage, place, delta, scratch)?;
-        xor_into(delta, fresh);
+        self.read_place(bank, stage, pool, place, delta, scratch)?;
+        pool.xor(delta, fresh);
         let parity_place = Place {
             member: parity_of(&self.g, place.row),
             row: place.row,
         };
-        self.read_place(bank, stage, parity_place, parity, scratch)?;
-        xor_into(parity, delta);
+        self.read_place(bank, stage, pool, parity_place, parity, scratch)?;
+        pool.xor(parity, delta);
         Ok(())
     }
 

@@ -1,18 +1,20 @@
 //! What stands at a place, from the pending writes and the members' disks.
 
-ghost use Rattle.std.specs.Prelude.{◌≡◌, ◌≢◌, ℕ, ◌<◌, Option, Some, None, length, IsTrue, OnOk, IfErr};
+ghost use Rattle.std.specs.Prelude.{◌≡◌, ◌≢◌, ℕ, ◌<◌, [], ◌∷◌, Option, Some, None, length, IsTrue, OnOk, IfErr};
 ghost use Rattle.trap_bank.specs.Called.{CalledTimes, TakesCalls};
 ghost use Rattle.trap_block.specs.Xor.{xor_but};
+ghost use Rattle.trap_pool.specs.Frames.{AreLeases, Only};
+ghost use Rattle.trap_pool.specs.Pooled.{pool_block};
 ghost use Rattle.trap_stage.specs.Staged.{newest_at, laid_over};
 ghost use Rattle.trap_raid.specs.Members.{IsPlace, RowFits, BareFits, member_place};
 ghost use Rattle.trap_raid.specs.Reads.{OnlyReads, FailedMember};
 ghost use Rattle.trap_raid.specs.Standing.{calls_for, bare_others};
 
 use trap_bank::{Bank, Failed};
-use trap_block::xor_into;
 use trap_format::layout::MEMBER_HEADER_BYTES;
 use trap_map::Place;
 use trap_model::Geometry;
+use trap_pool::{Lease, Pool};
 use trap_stage::Stage;
 
 /// A member failed in the call: the count of faults of its disk rose.
@@ -89,20 +91,22 @@ pub(crate) fn read_others<B: Bank>(
     g: &Geometry,
     bank: &mut B,
     stage: &Stage,
+    pool: &mut Pool,
     place: Place,
-    into: &mut [u8],
-    scratch: &mut [u8],
+    into: &Lease,
+    scratch: &Lease,
 ) -> Result<(), MemberFailed>
     requires stage { stage.now.g ≡ g.now }
     requires place { IsPlace g.now place }
     requires disks { (m : ℕ) → m < g.now.members → m ≢ place.member
         → BareFits g.now stage.now.pending (B.view bank.old) place.row m }
-    requires into { length into.old ≡ g.now.block }
-    requires scratch { length scratch.old ≡ g.now.block }
-    ensures others { IsTrue (B.view bank.old).tells → OnOk result (into.new ≡ xor_but g.now.block
-        place.member (laid_over g.now stage.now.pending
+    requires size { pool.old.size ≡ g.now.block }
+    requires leases { AreLeases pool.old (into.now ∷ scratch.now ∷ []) }
+    ensures others { IsTrue (B.view bank.old).tells → OnOk result (pool_block pool.new into.now
+        ≡ xor_but g.now.block place.member (laid_over g.now stage.now.pending
         (member_place g.now (B.view bank.old).now.disks)
         place.row) g.now.members) }
+    ensures rest { Only (into.now ∷ scratch.now ∷ []) pool.old pool.new }
     ensures cause { IfErr result (λ failed.
         FailedMember g.now (Some place.member) (B.view bank.old) (B.view bank.new) failed.member) }
     ensures bare { IfErr result (λ failed.
@@ -112,15 +116,15 @@ pub(crate) fn read_others<B: Bank>(
         result (B.view bank.old) (B.view bank.new) }
     ensures any_moment { OnlyReads (B.view bank.old) (B.view bank.new) }
 {
-    into.fill(0);
+    pool.bytes_mut(into).fill(0);
     for member in 0..g.members {
         if member != place.member {
             let other = Place {
                 member,
                 row: place.row,
             };
-            read_standing(g, bank, stage, other, scratch)?;
-            xor_into(into, scratch);
+            read_standing(g, bank, stage, other, pool.bytes_mut(scratch))?;
+            pool.xor(into, scratch);
         }
     }
     Ok(())

@@ -1,10 +1,12 @@
-ghost use Rattle.std.specs.Prelude.{◌≡◌, ◌≢◌, ◌+◌, ◌*◌, ◌<◌, ◌≤◌, [], Some, length, IsTrue, IfOk};
+ghost use Rattle.std.specs.Prelude.{◌≡◌, ◌≢◌, ◌+◌, ◌*◌, ◌<◌, ◌≤◌, [], ◌∷◌, Some, length, IsTrue, IfOk};
 ghost use Rattle.trap_format.specs.LogDisk.{ring_at};
 ghost use Rattle.std.specs.Option.{ForSome};
 ghost use Rattle.trap_bank.specs.Calls.{Fits};
 ghost use Rattle.trap_model.specs.Image.{volume};
+ghost use Rattle.trap_pool.specs.Frames.{AreLeases, Only};
 ghost use Rattle.trap_raid.specs.Members.{MembersFit};
 
+use crate::test_blocks::Blocks;
 use crate::{MemberFailed, Raid};
 use std::alloc::Global;
 use std::process::Abort;
@@ -12,6 +14,7 @@ use std::test::Fail;
 use trap_bank::{Bank, Failed, MemoryBank};
 use trap_map::Place;
 use trap_model::Geometry;
+use trap_pool::Pool;
 use trap_stage::{Stage, StageFault};
 
 /// Stands for parity in the tables below, which have the rows one after the other.
@@ -171,6 +174,8 @@ fn read_all<B: Bank>(
     rt: &impl Abort,
     bank: &mut B,
     stage: &Stage,
+    pool: &mut Pool,
+    blocks: &Blocks,
     g: &Geometry,
     lost: Option<u8>,
     table: &[u32],
@@ -178,19 +183,26 @@ fn read_all<B: Bank>(
     requires stage { stage.now.g ≡ g.now }
     requires lost { ForSome lost (λ member. member < g.now.members) }
     requires block { g.now.block ≡ 16 }
+    requires size { pool.old.size ≡ 16 }
+    requires leases { AreLeases pool.old (blocks.now.parity ∷ blocks.now.scratch ∷ []) }
+    ensures { Only (blocks.now.parity ∷ blocks.now.scratch ∷ []) pool.old pool.new }
 {
     let raid = Raid::new(*g, lost, 0);
     let members = usize::from(g.members);
-    let mut into = [0; 16];
-    let mut scratch = [0; 16];
     for row in 0..g.rows {
         let from = row as usize * members;
         assert!(rt; from + members <= table.len());
         for member in 0..g.members {
             assert!(rt; members_fit(g, lost, bank));
-            raid.read_place(bank, stage, Place { member, row }, &mut into, &mut scratch)?;
+            let place = Place { member, row };
+            raid.read_place(bank, stage, pool, place, &blocks.parity, &blocks.scratch)?;
             let wanted = place_bytes(rt, &table[from..from + members], usize::from(member));
-            assert_eq!(rt; into, wanted, "member {member}, row {row}, lost {:?}", lost);
+            assert_eq!(rt;
+                pool.bytes(&blocks.parity),
+                wanted.as_slice(),
+                "member {member}, row {row}, lost {:?}",
+                lost
+            );
         }
     }
     Ok(())
@@ -201,6 +213,8 @@ fn plan_all<B: Bank>(
     rt: &impl Abort,
     bank: &mut B,
     stage: &Stage,
+    pool: &mut Pool,
+    blocks: &Blocks,
     g: &Geometry,
     lost: Option<u8>,
     table: &[u32],
@@ -208,12 +222,14 @@ fn plan_all<B: Bank>(
     requires stage { stage.now.g ≡ g.now }
     requires lost { ForSome lost (λ member. member < g.now.members) }
     requires block { g.now.block ≡ 16 }
+    requires size { pool.old.size ≡ 16 }
+    requires leases { AreLeases pool.old (blocks.now.fresh ∷ blocks.now.delta
+        ∷ blocks.now.parity ∷ blocks.now.scratch ∷ []) }
+    ensures { Only (blocks.now.fresh ∷ blocks.now.delta ∷ blocks.now.parity
+        ∷ blocks.now.scratch ∷ []) pool.old pool.new }
 {
     let raid = Raid::new(*g, lost, 0);
     let members = usize::from(g.members);
-    let mut delta = [0; 16];
-    let mut parity = [0; 16];
-    let mut scratch = [0; 16];
     for (at, block) in table.iter().enumerate() {
         if *block != P {
             assert!(rt; *block < 100);
@@ -222,20 +238,32 @@ fn plan_all<B: Bank>(
             let from = at - at % members;
             assert!(rt; from + members <= table.len());
             assert!(rt; members_fit(g, lost, bank));
+            pool.bytes_mut(&blocks.fresh).copy_from_slice(&fresh);
             raid.write_plan(
                 bank,
                 stage,
+                pool,
                 *block,
-                &fresh,
-                &mut delta,
-                &mut parity,
-                &mut scratch,
+                &blocks.fresh,
+                &blocks.delta,
+                &blocks.parity,
+                &blocks.scratch,
             )?;
             let wanted = parity_of_row(rt, &table[from..from + members], *block, fresh);
             let mut changed = contents(*block);
             add(&mut changed, &fresh);
-            assert_eq!(rt; delta, changed, "block {block}, lost {:?}", lost);
-            assert_eq!(rt; parity, wanted, "block {block}, lost {:?}", lost);
+            assert_eq!(rt;
+                pool.bytes(&blocks.delta),
+                changed.as_slice(),
+                "block {block}, lost {:?}",
+                lost
+            );
+            assert_eq!(rt;
+                pool.bytes(&blocks.parity),
+                wanted.as_slice(),
+                "block {block}, lost {:?}",
+                lost
+            );
         }
     }
     Ok(())
@@ -255,8 +283,13 @@ fn try_all(
     let mut bank = MemoryBank::new(alloc)?;
     make_disks(rt, &mut bank, g, lost, table)?;
     let stage = mount_empty(rt, alloc, &mut bank, g)?;
-    read_all(rt, &mut bank, &stage, g, lost, table)?;
-    plan_all(rt, &mut bank, &stage, g, lost, table)?;
+    let mut pool = Pool::new(alloc, 4, 16)?;
+    let blocks = Blocks::take(&mut pool);
+    let read = read_all(rt, &mut bank, &stage, &mut pool, &blocks, g, lost, table);
+    let planned = plan_all(rt, &mut bank, &stage, &mut pool, &blocks, g, lost, table);
+    blocks.give(&mut pool);
+    read?;
+    planned?;
     Ok(())
 }
 
@@ -334,8 +367,20 @@ fn a_member_that_fails_is_named(rt: HostRuntime) -> Result<(), Fail> {
     // A call that makes each of three disks, and four that write each of two members' rows.
     make_disks(&rt, &mut bank, &g, Some(0), &THREE)?;
     let stage = mount_empty(&rt, rt.alloc(), &mut bank, &g)?;
+    let mut pool = Pool::new(rt.alloc(), 4, 16)?;
+    let blocks = Blocks::take(&mut pool);
     bank.fail_at(13);
-    let answer = read_all(&rt, &mut bank, &stage, &g, Some(0), &THREE);
+    let answer = read_all(
+        &rt,
+        &mut bank,
+        &stage,
+        &mut pool,
+        &blocks,
+        &g,
+        Some(0),
+        &THREE,
+    );
+    blocks.give(&mut pool);
     assert_eq!(rt; answer, Err(MemberFailed { member: 2 }));
     Ok(())
 }

@@ -1,11 +1,14 @@
 use Rattle.std.proofs.Common.{arith}
+use Rattle.trap_past.proofs.Leased.{only_both, xored}
 use Rattle.trap_past.proofs.Tracing.{trace_begins, trace_retained, trace_retained_in, trace_counts, trace_falls, trace_faulty, trace_goes_on, trace_turns, trace_at_most, trace_ends}
 use Rattle.trap_past.proofs.undo.block_at.Goals as goal
 
 pub loop-number-init : goal.loop-number-init
 loop-number-init g c = (
-  trace_begins _ _ _ _ _ _ _ c.requires.index c.present.ensures.told c.requires.instant.high c.newest-number.ensures.newest c.present.ensures.call c.present.ensures.blame.cause.later c.in_ok-present.ensures.present,
+  trace_begins _ _ _ _ _ _ _ c.requires.index c.present.ensures.told c.requires.instant.high c.newest-number.ensures.newest
+      c.present.ensures.call c.present.ensures.blame.cause.later c.in_ok-present.ensures.present,
   c.present.ensures.goes,
+  c.present.ensures.rest,
 )
 
 pub parity-requires-clause-retained : goal.parity-requires-clause-retained
@@ -35,8 +38,11 @@ loop-number-smaller g c =
 
 pub loop-number-preserved : goal.loop-number-preserved
 loop-number-preserved g c = (
-  trace_goes_on _ _ _ _ _ _ _ c.newest-number.ensures.indexed c.loop-number.invariant.0 _ _ _ _ c.requires.index c.present.ensures.told c.requires.instant.block (omega arith) c.previous-number.ensures c.parity.ensures.call c.parity.ensures.blame.cause.later c.in_ok-parity.ensures.parity c.xor_into.ensures,
+  trace_goes_on _ _ _ _ _ _ _ c.newest-number.ensures.indexed c.loop-number.invariant.0 _ _ _ _ c.requires.index c.present.ensures.told c.requires.instant.block
+      (omega arith) c.previous-number.ensures c.parity.ensures.call c.parity.ensures.blame.cause.later c.in_ok-parity.ensures.parity
+      (xored _ _ _ _ _ _ c.requires.leases c.loop-number.invariant.2 c.parity.ensures.rest c.xor.ensures.xor),
   g.met.P.Present.goes_then _ _ _ c.loop-number.invariant.1 c.parity.ensures.goes,
+  only_both _ _ _ _ _ _ c.loop-number.invariant.2 c.parity.ensures.rest c.xor.ensures.rest,
 )
 
 pub returns-clause-contents : goal.returns-clause-contents

@@ -1,8 +1,12 @@
-use Rattle.std.proofs.Common.{◌≡◌, ◌+◌, Err, sym, subst, ◌∙◌, arith, rules}
+use Rattle.std.proofs.Common.{◌≡◌, ◌+◌, [], ◌∷◌, length, Err, ap, sym, subst, ◌∙◌, arith, rules}
+use Rattle.trap_pool.specs.Frames.{Only}
+use Rattle.trap_pool.specs.Pooled.{Pooled, pool_block}
 use Rattle.trap_bank.proofs.OnlyReads.{reads_then}
 use Rattle.trap_bank.specs.Called.{CalledTimes}
 use Rattle.trap_raid.specs.Reads.{OnlyReads}
 use Rattle.trap_raid.specs.Standing.{bare_others}
+use Rattle.trap_pool.proofs.Leases.{leases_changed}
+use Rattle.trap_raid.proofs.PoolLemmas.{only_then, only_joined, joined}
 use Rattle.trap_raid.proofs.ReadLemmas.{row_fits_along, others_more, others_but}
 use Rattle.trap_raid.proofs.CostLemmas.{others_next, others_skip, others_failed, others_done}
 use Rattle.trap_raid.proofs.reads.read_others.Goals as goal
@@ -24,18 +28,30 @@ loop-member-preserved g c =
     elim c.if-member-place.branch [
       | then-member-place+in_ok-read_standing w ↦
           let new = g.B.Bank.view w.read_standing.new.bank in
+          let pool = c.loop-member.pool in
+          let into = c.args.into.now in
+          let scratch = c.args.scratch.now in
+          let block = w.read_standing.new.into in
+          let are = leases_changed (into ∷ scratch ∷ []) (into ∷ scratch ∷ []) c.args.pool.now pool c.loop-member.invariant.rest c.requires.leases in
+          let fits : length block ≡ pool.size = w.read_standing.auto.into ∙ w.bytes_mut-then-member-place.ensures.size in
           record {
-            so_far = λ told. w.into-is ∙ others_more c.args.g.now writes old mid c.args.place.row one member c.loop-member.into w.read_standing.new.into w.xor_into.new.dst
-                c.loop-member.invariant.reads w.if-member-place.true c.loop-member.invariant.so_far w.in_ok-read_standing.ensures.bytes w.xor_into.ensures told;
+            so_far = λ told. ap (λ (p : Pooled). pool_block p into) w.pool-is
+                ∙ others_more c.args.g.now writes old mid row one member (pool_block pool into) block (pool_block w.xor.new.self into)
+                c.loop-member.invariant.reads w.if-member-place.true c.loop-member.invariant.so_far w.in_ok-read_standing.ensures.bytes
+                (joined pool w.xor.new.self into scratch block are fits w.xor.ensures.xor) told;
             reads = subst (λ b. OnlyReads old (g.B.Bank.view b)) (sym w.bank-is)
                 (reads_then old mid new c.loop-member.invariant.reads w.read_standing.ensures.any_moment);
+            rest = subst (Only (into ∷ scratch ∷ []) c.args.pool.now) (sym w.pool-is)
+                (only_then (into ∷ scratch ∷ []) c.args.pool.now pool w.xor.new.self c.loop-member.invariant.rest (only_joined pool w.xor.new.self into scratch block _ fits w.xor.ensures.xor));
             calls = subst (λ b. CalledTimes (bare_others c.args.g.now writes row one (member + 1)) old (g.B.Bank.view b)) (sym w.bank-is)
                 (others_next c.args.g.now writes row one member old mid c.loop-member.invariant.calls new w.if-member-place.true w.read_standing.ensures.calls);
           }
       | else-member-place w ↦
           record {
-            so_far = λ told. w.into-is ∙ c.loop-member.invariant.so_far told ∙ sym (others_but c.args.g.now.block one member _ w.if-member-place.false);
+            so_far = λ told. ap (λ (p : Pooled). pool_block p c.args.into.now) w.pool-is
+                ∙ c.loop-member.invariant.so_far told ∙ sym (others_but c.args.g.now.block one member _ w.if-member-place.false);
             reads = subst (λ b. OnlyReads old (g.B.Bank.view b)) (sym w.bank-is) c.loop-member.invariant.reads;
+            rest = subst (Only (c.args.into.now ∷ c.args.scratch.now ∷ []) c.args.pool.now) (sym w.pool-is) c.loop-member.invariant.rest;
             calls = subst (λ b. CalledTimes (bare_others c.args.g.now writes row one (member + 1)) old (g.B.Bank.view b)) (sym w.bank-is)
                 (others_skip c.args.g.now writes row one member old mid c.loop-member.invariant.calls w.if-member-place.false);
           }

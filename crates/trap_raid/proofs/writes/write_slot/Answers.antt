@@ -10,7 +10,8 @@ use Rattle.trap_raid.proofs.writes.write_slot.Goals as goal
 
 pub write_place-requires-clause-disk : goal.write_place-requires-clause-disk
 write_place-requires-clause-disk g c =
-    block_place_fits c.args.g.now c.args.lost c.args.rebuilt (record { block = c.args.block; bytes = c.args.bytes.now; parity = c.args.parity.now }) c.place_of-place.result (g.B.Bank.view c.args.bank.now)
+    block_place_fits c.args.g.now c.args.lost c.args.rebuilt (record { block = c.args.block; bytes = c.args.bytes.now; parity = c.args.parity.now })
+    c.place_of-place.result (g.B.Bank.view c.args.bank.now)
     c.requires.block c.place_of-place.ensures.place c.requires.disks
 
 pub write_place-requires-2-clause-disk : goal.write_place-requires-2-clause-disk
@@ -32,13 +33,15 @@ returns-clause-any_moment g c =
 
 pub returns-clause-ok : goal.returns-clause-ok
 returns-clause-ok g c = on_ok_weaker c.write_place-2.result
-    (λ second. slot_steps c.args.g.now c.args.lost c.args.rebuilt (record { block = c.args.block; bytes = c.args.bytes.now; parity = c.args.parity.now }) c.place_of-place.result c.parity_of.result _ _ _
+    (λ second. slot_steps c.args.g.now c.args.lost c.args.rebuilt (record { block = c.args.block; bytes = c.args.bytes.now; parity = c.args.parity.now })
+    c.place_of-place.result c.parity_of.result _ _ _
     c.requires.block c.place_of-place.ensures.place c.parity_of.ensures.parity c.in_ok-write_place.ensures.ok second)
     c.write_place-2.ensures.ok
 
 pub returns-in_err-write_place-clause-contents : goal.returns-in_err-write_place-clause-contents
 returns-in_err-write_place-clause-contents g c =
-    block_torn c.args.g.now c.args.lost c.args.rebuilt (record { block = c.args.block; bytes = c.args.bytes.now; parity = c.args.parity.now }) c.place_of-place.result (g.B.Bank.view c.args.bank.now) (g.B.Bank.view c.write_place.new.bank)
+    block_torn c.args.g.now c.args.lost c.args.rebuilt (record { block = c.args.block; bytes = c.args.bytes.now; parity = c.args.parity.now }) c.place_of-place.result
+    (g.B.Bank.view c.args.bank.now) (g.B.Bank.view c.write_place.new.bank)
     c.requires.block c.place_of-place.ensures.place c.write_place.ensures.contents
 
 pub returns-clause-contents : goal.returns-clause-contents

@@ -14,14 +14,16 @@ returns-clause-is c =
     let writes : c.kept.result.now.rec.block ≡ (entry_at (state_of (past_memory_of c.self.inside)) c.args.seq).block =
     ap (λ (e : Entry). e.block) c.kept.ensures.is ∙ sym (ap (λ (m : PastInMemory). (entry_at (state_of m) c.args.seq).block) c.self.view_is) in
     subst (λ (m : PastInMemory). c.contents_after.result.now ≡ block_of (image_at (state_of m) (c.args.seq - 1)) (entry_at (state_of m) c.args.seq).block) c.self.view_is
-    (before_is (past_memory_of c.self.inside) c.args.seq (c.args.seq - c.self.inside.first - 1) c.kept.result.now.rec.block c.deref.result.now c.deref-2.result.now c.contents_after.result.now c.deref.ensures.value c.deref-2.ensures.value refl writes c.contents_after.ensures)
+    (before_is (past_memory_of c.self.inside) c.args.seq (c.args.seq - c.self.inside.first - 1) c.kept.result.now.rec.block
+    c.deref.result.now c.deref-2.result.now c.contents_after.result.now c.deref.ensures.value c.deref-2.ensures.value refl writes c.contents_after.ensures)
 
 pub returns-clause-size : goal.returns-clause-size
 returns-clause-size c =
     let m = past_memory_of c.self.inside in
     let writes : c.kept.result.now.rec.block ≡ (entry_at (state_of m) c.args.seq).block =
     ap (λ (e : Entry). e.block) c.kept.ensures.is ∙ sym (ap (λ (m : PastInMemory). (entry_at (state_of m) c.args.seq).block) c.self.view_is) in
-    let same = before_is m c.args.seq (c.args.seq - c.self.inside.first - 1) c.kept.result.now.rec.block c.deref.result.now c.deref-2.result.now c.contents_after.result.now c.deref.ensures.value c.deref-2.ensures.value refl writes c.contents_after.ensures in
+    let same = before_is m c.args.seq (c.args.seq - c.self.inside.first - 1) c.kept.result.now.rec.block
+    c.deref.result.now c.deref-2.result.now c.contents_after.result.now c.deref.ensures.value c.deref-2.ensures.value refl writes c.contents_after.ensures in
     let g = ap (λ (m : PastInMemory). m.g) c.self.view_is in
     let within = c.kept.ensures.block in
     let inside : (entry_at (state_of m) c.args.seq).block < volume m.g = subst (λ (b : ℕ). b < volume m.g) writes (subst (λ (g : Geometry). c.kept.result.now.rec.block < volume g) (sym g) within) in

@@ -23,7 +23,7 @@ copy_from_slice-requires c =
     let m = past_memory_of c.self-2.inside in
     let g : m.g ≡ c.args.self.now.g = ap (λ (m : PastInMemory). m.g) c.self-2.view_is ∙ ap (λ (m : PastInMemory). m.g) c.strike.ensures.counts ∙ ap (λ (m : PastInMemory). m.g) c.self.view_is in
     let inside : c.args.block < volume m.g = subst (λ (g : Geometry). c.args.block < volume g) (sym g) c.requires.block in
-    let is = c.as_slice.ensures ∙ c.contents_after.ensures
+    let is = c.as_slice.ensures ∙ c.contents_after-contents.ensures
     ∙ ap (λ (b : List (List ℕ)). block_of (image_after b (map kept_entry c.deref-2.result.now)) c.args.block) c.deref.ensures.value
     ∙ ap (λ (l : List Kept). block_of (image_after m.base (map kept_entry l)) c.args.block) c.deref-2.ensures.value in
-    c.requires.into ∙ sym (ap length is ∙ sized_now m c.args.block c.self-2.invariant inside ∙ ap (λ (g : Geometry). g.block) g)
+    c.bytes_mut.ensures.size ∙ c.requires.size ∙ sym (ap length is ∙ sized_now m c.args.block c.self-2.invariant inside ∙ ap (λ (g : Geometry). g.block) g)

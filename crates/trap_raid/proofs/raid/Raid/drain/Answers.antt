@@ -25,15 +25,19 @@ write_slot-requires-clause-disks g c =
     let Q : Staged → Type 0 = λ one. DrainFits here.g here.lost here.rebuilt (one ∷ []) mid in
     subst P (sym c.self.view_is) (subst Q (sym c.slot-block.ensures.is)
     (drain_fits_along here.g here.lost here.rebuilt (staged_numbered c.args.stage.now (c.loop-number.number + 1) ∷ []) old mid c.loop-number.invariant.sizes
-    (fits_next here.g here.lost here.rebuilt c.args.stage.now c.loop-number.number c.args.upto (omega (arith, c.loop-number.auto.number, c.drained-number.ensures)) (omega arith) (omega arith) old c.requires.disks)))
+    (fits_next here.g here.lost here.rebuilt c.args.stage.now c.loop-number.number c.args.upto (omega (arith, c.loop-number.auto.number, c.drained-number.ensures))
+    (omega arith) (omega arith) old c.requires.disks)))
 
 pub loop-number-init : goal.loop-number-init
 loop-number-init g c = record {
   moves = subst (λ (n : ℕ). Moves (g.B.Bank.view c.args.bank.now) (g.B.Bank.view c.args.bank.now)
-      (Differs (InDrained c.args.self.now.g c.args.self.now.lost c.args.self.now.rebuilt (writes_to c.args.stage.now c.args.upto))) (Drains c.args.self.now.g c.args.self.now.lost c.args.self.now.rebuilt (writes_to c.args.stage.now n)))
+      (Differs (InDrained c.args.self.now.g c.args.self.now.lost c.args.self.now.rebuilt (writes_to c.args.stage.now c.args.upto)))
+      (Drains c.args.self.now.g c.args.self.now.lost c.args.self.now.rebuilt (writes_to c.args.stage.now n)))
       (sym c.drained-number.ensures) (drain_start c.args.self.now.g c.args.self.now.lost c.args.self.now.rebuilt c.args.stage.now c.args.upto (g.B.Bank.view c.args.bank.now));
-  contents = torn_same (InDrained c.args.self.now.g c.args.self.now.lost c.args.self.now.rebuilt (writes_to c.args.stage.now c.args.upto)) (g.B.Bank.view c.args.bank.now) (g.B.Bank.view c.args.bank.now) (λ told. refl);
-  calls = subst (λ (writes : List Staged). CalledTimes (drain_calls c.args.self.now.g c.args.self.now.lost c.args.self.now.rebuilt writes) (g.B.Bank.view c.args.bank.now) (g.B.Bank.view c.args.bank.now))
+  contents = torn_same (InDrained c.args.self.now.g c.args.self.now.lost c.args.self.now.rebuilt (writes_to c.args.stage.now c.args.upto)) (g.B.Bank.view c.args.bank.now)
+      (g.B.Bank.view c.args.bank.now) (λ told. refl);
+  calls = subst (λ (writes : List Staged). CalledTimes (drain_calls c.args.self.now.g c.args.self.now.lost c.args.self.now.rebuilt writes) (g.B.Bank.view c.args.bank.now)
+      (g.B.Bank.view c.args.bank.now))
       (sym (ap (λ (n : ℕ). writes_to c.args.stage.now n) c.drained-number.ensures ∙ writes_to-none c.args.stage.now)) (not_called (g.B.Bank.view c.args.bank.now));
   within = omega (arith, c.drained-number.ensures);
   sizes = λ e. refl;
@@ -53,13 +57,16 @@ loop-number-preserved g c =
     let T : Condition → Type 0 = λ k. CalledTimes (write_calls k.g k.lost k.rebuilt staged) mid new in
     let U : Staged → Type 0 = λ one. CalledTimes (write_calls here.g here.lost here.rebuilt one) mid new in
     record {
-      moves = drain_more here.g here.lost here.rebuilt c.args.stage.now c.loop-number.number c.args.upto (omega (arith, c.loop-number.auto.number, c.drained-number.ensures)) (omega arith) (omega arith)
+      moves = drain_more here.g here.lost here.rebuilt c.args.stage.now c.loop-number.number c.args.upto
+          (omega (arith, c.loop-number.auto.number, c.drained-number.ensures)) (omega arith) (omega arith)
           (g.B.Bank.view c.args.bank.now) mid new c.loop-number.invariant.moves
           (subst Q c.slot-block.ensures.is (subst P c.self.view_is c.in_ok-write_slot.ensures.ok));
-      contents = drain_given here.g here.lost here.rebuilt c.args.stage.now c.loop-number.number c.args.upto (omega (arith, c.loop-number.auto.number, c.drained-number.ensures)) (omega arith) (omega arith)
+      contents = drain_given here.g here.lost here.rebuilt c.args.stage.now c.loop-number.number c.args.upto
+          (omega (arith, c.loop-number.auto.number, c.drained-number.ensures)) (omega arith) (omega arith)
           (g.B.Bank.view c.args.bank.now) mid new c.loop-number.invariant.moves.tells c.loop-number.invariant.contents
           (subst R c.slot-block.ensures.is (subst S c.self.view_is c.write_slot.ensures.contents));
-      calls = drain_costs here.g here.lost here.rebuilt c.args.stage.now c.loop-number.number c.args.upto (omega (arith, c.loop-number.auto.number, c.drained-number.ensures)) (omega arith) (omega arith)
+      calls = drain_costs here.g here.lost here.rebuilt c.args.stage.now c.loop-number.number c.args.upto
+          (omega (arith, c.loop-number.auto.number, c.drained-number.ensures)) (omega arith) (omega arith)
           (g.B.Bank.view c.args.bank.now) mid new c.loop-number.invariant.calls
           (subst U c.slot-block.ensures.is (subst T c.self.view_is c.in_ok-write_slot.ensures.calls.ok));
       within = omega (arith, c.min-number-end.ensures, c.last.ensures.is, c.drained-number.ensures);
@@ -122,8 +129,10 @@ returns-in_err-write_slot-clause-calls g c =
 pub returns-clause-ok : goal.returns-clause-ok
 returns-clause-ok g c =
     let here = c.args.self.now in
-    subst (λ (writes : List Staged). Moves (g.B.Bank.view c.args.bank.now) (g.B.Bank.view c.loop-number.bank) (Differs (InDrained here.g here.lost here.rebuilt (writes_to c.args.stage.now c.args.upto))) (Drains here.g here.lost here.rebuilt writes))
-    (writes_to-end c.args.stage.now c.loop-number.number c.args.upto (omega (arith, c.loop-number.auto.number, c.drained-number.ensures)) (omega (arith, c.loop-number-test.false, c.min-number-end.ensures, c.last.ensures.is)) c.loop-number.invariant.within)
+    subst (λ (writes : List Staged). Moves (g.B.Bank.view c.args.bank.now) (g.B.Bank.view c.loop-number.bank)
+    (Differs (InDrained here.g here.lost here.rebuilt (writes_to c.args.stage.now c.args.upto))) (Drains here.g here.lost here.rebuilt writes))
+    (writes_to-end c.args.stage.now c.loop-number.number c.args.upto (omega (arith, c.loop-number.auto.number, c.drained-number.ensures))
+    (omega (arith, c.loop-number-test.false, c.min-number-end.ensures, c.last.ensures.is)) c.loop-number.invariant.within)
     c.loop-number.invariant.moves
 
 -- it was called for each write
@@ -133,5 +142,6 @@ returns-clause-calls g c =
     let calls = drain_calls here.g here.lost here.rebuilt (writes_to c.args.stage.now c.args.upto) in
     takes_always calls _ (g.B.Bank.view c.args.bank.now) (g.B.Bank.view c.loop-number.bank)
     (subst (λ (writes : List Staged). CalledTimes (drain_calls here.g here.lost here.rebuilt writes) (g.B.Bank.view c.args.bank.now) (g.B.Bank.view c.loop-number.bank))
-    (writes_to-end c.args.stage.now c.loop-number.number c.args.upto (omega (arith, c.loop-number.auto.number, c.drained-number.ensures)) (omega (arith, c.loop-number-test.false, c.min-number-end.ensures, c.last.ensures.is)) c.loop-number.invariant.within)
+    (writes_to-end c.args.stage.now c.loop-number.number c.args.upto (omega (arith, c.loop-number.auto.number, c.drained-number.ensures))
+    (omega (arith, c.loop-number-test.false, c.min-number-end.ensures, c.last.ensures.is)) c.loop-number.invariant.within)
     c.loop-number.invariant.calls)

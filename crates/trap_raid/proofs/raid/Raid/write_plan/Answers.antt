@@ -1,8 +1,15 @@
-use Rattle.std.proofs.Common.{Err, ◌≡◌, ℕ, refl, ap, sym, ◌∙◌, arith, rules}
+use Rattle.std.proofs.Common.{Err, ◌≡◌, ℕ, Option, length, refl, subst, ap, sym, ◌∙◌, arith, rules}
+use Rattle.std.specs.Prelude.{Result, IfErr}
+use Rattle.trap_bank.specs.Disks.{View}
+use Rattle.trap_model.specs.declared.numbers.Geometry.{Geometry}
+use Rattle.trap_raid.specs.declared.reads.MemberFailed.{MemberFailed}
+use Rattle.trap_raid.specs.Reads.{OnlyReads, FailedMember}
 use Rattle.trap_map.specs.declared.places.Place.{Place}
 use Rattle.trap_map.specs.Layout.{parity_member, block_place}
+use Rattle.trap_pool.specs.Pooled.{pool_block}
 use Rattle.trap_raid.specs.Condition.{Condition}
-use Rattle.trap_raid.proofs.ReadLemmas.{still_tells, place_fits_along, place_fits_at}
+use Rattle.trap_raid.proofs.PoolLemmas.{plan_holds, only_planned, only_planning}
+use Rattle.trap_raid.proofs.ReadLemmas.{still_tells, place_fits_along, place_fits_at, failed_after}
 use Rattle.trap_raid.proofs.TableLemmas.{stand_along, plan_from_reads}
 use Rattle.trap_bank.proofs.OnlyReads.{reads_then}
 use Rattle.trap_raid.specs.Standing.{plan_reads}
@@ -18,9 +25,11 @@ read_place-requires-2-clause-disks g c =
     let is_row : c.place_of-place.result.row ≡ (block_place c.args.self.now.g c.args.block).row = ap (λ (p : Place). p.row) is_place in
     let is_member : c.parity_of.result ≡ parity_member c.args.self.now.g (block_place c.args.self.now.g c.args.block).row =
     c.parity_of.ensures.parity ∙ ap (λ h. parity_member h c.place_of-place.result.row) is_g ∙ ap (λ (r : ℕ). parity_member c.args.self.now.g r) is_row in
-    place_fits_along c.args.self.now.g c.args.self.now.lost c.args.stage.now.pending (g.B.Bank.view c.args.bank.now) (g.B.Bank.view c.read_place.new.bank) c.place_of-place.result.row c.parity_of.result
+    place_fits_along c.args.self.now.g c.args.self.now.lost c.args.stage.now.pending (g.B.Bank.view c.args.bank.now) (g.B.Bank.view c.read_place.new.bank)
+    c.place_of-place.result.row c.parity_of.result
     c.read_place.ensures.any_moment
-    (place_fits_at c.args.self.now.g c.args.self.now.lost c.args.stage.now.pending (g.B.Bank.view c.args.bank.now) (block_place c.args.self.now.g c.args.block).row (parity_member c.args.self.now.g (block_place c.args.self.now.g c.args.block).row)
+    (place_fits_at c.args.self.now.g c.args.self.now.lost c.args.stage.now.pending (g.B.Bank.view c.args.bank.now) (block_place c.args.self.now.g c.args.block).row
+    (parity_member c.args.self.now.g (block_place c.args.self.now.g c.args.block).row)
     c.place_of-place.result.row c.parity_of.result (sym is_row) (sym is_member) c.requires.disks.parity)
 
 pub returns-in_err-read_place-2-clause-any_moment : goal.returns-in_err-read_place-2-clause-any_moment
@@ -39,11 +48,15 @@ returns-clause-plan g c = λ told image is_image stands.
     let is_member : c.parity_of.result ≡ parity_member c.args.self.now.g c.place_of-place.result.row =
     c.parity_of.ensures.parity ∙ ap (λ h. parity_member h c.place_of-place.result.row) is_g in
     let again = stand_along c.args.self.now.g c.args.self.now.lost c.args.stage.now.pending old.now mid.now image (c.read_place.ensures.any_moment.same told) stands in
-    plan_from_reads c.args.self.now.g image c.args.block c.place_of-place.result c.parity_of.result c.args.fresh.now
-    c.read_place.new.into c.read_place-2.new.into c.xor_into.new.dst c.xor_into-2.new.dst
-    is_image c.requires.block c.requires.blocks.fresh_size is_place is_member
-    (c.in_ok-read_place.ensures.table told image is_image stands) c.xor_into.ensures
-    (c.in_ok-read_place-2.ensures.table (still_tells old mid c.read_place.ensures.any_moment told) image is_image again) c.xor_into-2.ensures
+    let holds = plan_holds c.args.pool.now c.read_place.new.pool c.xor.new.self c.read_place-2.new.pool c.xor-2.new.self c.args.fresh.now c.args.delta.now c.args.parity.now c.args.scratch.now
+    c.requires.leases c.read_place.ensures.rest c.xor.ensures.xor c.read_place-2.ensures.rest c.xor-2.ensures.xor in
+    let size : length (pool_block c.args.pool.now c.args.fresh.now) ≡ c.args.self.now.g.block = ap length (sym c.bytes.ensures.bytes) ∙ c.bytes.ensures.size ∙ c.requires.size in
+    plan_from_reads c.args.self.now.g image c.args.block c.place_of-place.result c.parity_of.result (pool_block c.args.pool.now c.args.fresh.now)
+    (pool_block c.read_place.new.pool c.args.delta.now) (pool_block c.read_place-2.new.pool c.args.parity.now)
+    (pool_block c.xor-2.new.self c.args.delta.now) (pool_block c.xor-2.new.self c.args.parity.now)
+    is_image c.requires.block size is_place is_member
+    (c.in_ok-read_place.ensures.table told image is_image stands) holds.delta_is
+    (c.in_ok-read_place-2.ensures.table (still_tells old mid c.read_place.ensures.any_moment told) image is_image again) holds.parity_is
 
 -- each read gives what stands there
 pub returns-clause-bytes : goal.returns-clause-bytes
@@ -54,11 +67,14 @@ returns-clause-bytes g c = λ told.
     let is_place : c.place_of-place.result ≡ block_place c.args.self.now.g c.args.block = c.place_of-place.ensures.place ∙ ap (λ h. block_place h c.args.block) is_g in
     let is_member : c.parity_of.result ≡ parity_member c.args.self.now.g c.place_of-place.result.row =
     c.parity_of.ensures.parity ∙ ap (λ h. parity_member h c.place_of-place.result.row) is_g in
-    plan_by_reads c.args.self.now.g c.args.self.now.lost c.args.stage.now.pending old.now mid.now c.args.block c.place_of-place.result c.parity_of.result c.args.fresh.now
-    c.read_place.new.into c.read_place-2.new.into c.xor_into.new.dst c.xor_into-2.new.dst
+    let holds = plan_holds c.args.pool.now c.read_place.new.pool c.xor.new.self c.read_place-2.new.pool c.xor-2.new.self c.args.fresh.now c.args.delta.now c.args.parity.now c.args.scratch.now
+    c.requires.leases c.read_place.ensures.rest c.xor.ensures.xor c.read_place-2.ensures.rest c.xor-2.ensures.xor in
+    plan_by_reads c.args.self.now.g c.args.self.now.lost c.args.stage.now.pending old.now mid.now c.args.block c.place_of-place.result c.parity_of.result (pool_block c.args.pool.now c.args.fresh.now)
+    (pool_block c.read_place.new.pool c.args.delta.now) (pool_block c.read_place-2.new.pool c.args.parity.now)
+    (pool_block c.xor-2.new.self c.args.delta.now) (pool_block c.xor-2.new.self c.args.parity.now)
     (c.read_place.ensures.any_moment.same told) is_place is_member
-    (c.in_ok-read_place.ensures.bytes told) c.xor_into.ensures
-    (c.in_ok-read_place-2.ensures.bytes (still_tells old mid c.read_place.ensures.any_moment told)) c.xor_into-2.ensures
+    (c.in_ok-read_place.ensures.bytes told) holds.delta_is
+    (c.in_ok-read_place-2.ensures.bytes (still_tells old mid c.read_place.ensures.any_moment told)) holds.parity_is
 
 pub returns-in_err-read_place-clause-calls : goal.returns-in_err-read_place-clause-calls
 returns-in_err-read_place-clause-calls g c =
@@ -76,9 +92,11 @@ returns-in_err-read_place-2-clause-calls g c =
     c.parity_of.ensures.parity ∙ ap (λ h. parity_member h c.place_of-place.result.row) is_g in
     let whole = plan_reads c.args.self.now.g c.args.self.now.lost c.args.stage.now.pending c.args.block in
     let is : Err c.in_err-read_place-2.field-0.0 ≡ c.from_residual-in_err-read_place-2.result = search rules in
-    takes_failed whole whole c.read_place-2.result c.from_residual-in_err-read_place-2.result c.in_err-read_place-2.field-0.0 (g.B.Bank.view c.args.bank.now) (g.B.Bank.view c.read_place-2.new.bank) (omega arith) is
+    takes_failed whole whole c.read_place-2.result c.from_residual-in_err-read_place-2.result c.in_err-read_place-2.field-0.0 (g.B.Bank.view c.args.bank.now)
+    (g.B.Bank.view c.read_place-2.new.bank) (omega arith) is
     (plan_both c.args.self.now.g c.args.self.now.lost c.args.stage.now.pending c.args.block c.place_of-place.result c.parity_of.result is_place is_member
-    c.read_place-2.result (g.B.Bank.view c.args.bank.now) (g.B.Bank.view c.read_place.new.bank) (g.B.Bank.view c.read_place-2.new.bank) c.in_ok-read_place.ensures.calls.ok c.read_place-2.ensures.calls)
+    c.read_place-2.result (g.B.Bank.view c.args.bank.now) (g.B.Bank.view c.read_place.new.bank) (g.B.Bank.view c.read_place-2.new.bank)
+    c.in_ok-read_place.ensures.calls.ok c.read_place-2.ensures.calls)
 
 pub returns-clause-calls : goal.returns-clause-calls
 returns-clause-calls g c =
@@ -88,3 +106,27 @@ returns-clause-calls g c =
     c.parity_of.ensures.parity ∙ ap (λ h. parity_member h c.place_of-place.result.row) is_g in
     plan_done c.args.self.now.g c.args.self.now.lost c.args.stage.now.pending c.args.block c.place_of-place.result c.parity_of.result is_place is_member
     _ (g.B.Bank.view c.args.bank.now) (g.B.Bank.view c.read_place.new.bank) (g.B.Bank.view c.read_place-2.new.bank) c.in_ok-read_place.ensures.calls.ok c.in_ok-read_place-2.ensures.calls.ok
+
+pub returns-clause-rest : goal.returns-clause-rest
+returns-clause-rest g c =
+    only_planned c.args.pool.now c.read_place.new.pool c.xor.new.self c.read_place-2.new.pool c.xor-2.new.self c.args.delta.now c.args.parity.now c.args.scratch.now
+    c.read_place.ensures.rest c.xor.ensures.rest c.read_place-2.ensures.rest c.xor-2.ensures.rest
+
+pub returns-in_err-read_place-2-clause-rest : goal.returns-in_err-read_place-2-clause-rest
+returns-in_err-read_place-2-clause-rest g c =
+    only_planning c.args.pool.now c.read_place.new.pool c.xor.new.self c.read_place-2.new.pool c.args.delta.now c.args.parity.now c.args.scratch.now
+    c.read_place.ensures.rest c.xor.ensures.rest c.read_place-2.ensures.rest
+
+-- the second read's failure is the plan's
+failed_in : {T : Type 0} (g : Geometry) (lost : Option ℕ) (old mid new : View) (result : Result T MemberFailed) (failed : MemberFailed)
+    → Err failed ≡ result → OnlyReads old mid → FailedMember g lost mid new failed.member
+    → IfErr result (λ f. FailedMember g lost old new f.member)
+failed_in {T} g lost old mid new result failed is reads rose =
+    let P : Result T MemberFailed → Type 0 = λ r. IfErr r (λ f. FailedMember g lost old new f.member) in
+    subst P is (failed_after g lost old mid new failed.member reads rose)
+
+pub returns-in_err-read_place-2-clause-cause : goal.returns-in_err-read_place-2-clause-cause
+returns-in_err-read_place-2-clause-cause g c =
+    let is : Err c.in_err-read_place-2.field-0.0 ≡ c.from_residual-in_err-read_place-2.result = search rules in
+    failed_in c.args.self.now.g c.args.self.now.lost (g.B.Bank.view c.args.bank.now) (g.B.Bank.view c.read_place.new.bank) (g.B.Bank.view c.read_place-2.new.bank)
+    c.from_residual-in_err-read_place-2.result c.in_err-read_place-2.field-0.0 is c.read_place.ensures.any_moment c.in_err-read_place-2.ensures.cause
