@@ -16,7 +16,7 @@ use Rattle.trap_raid.proofs.MemberLemmas.{members_stay}
 use Rattle.trap_ring.specs.Ring.{RingHas, InRing, ring_pos}
 use Rattle.trap_stage.specs.Pending.{pending}
 use Rattle.trap_stage.specs.Slots.{InSlots}
-use Rattle.trap_stage.proofs.SlotAreas.{slots_stay, slot_behind_cell}
+use Rattle.trap_stage.proofs.SlotAreas.{slots_stay, slot_after_cell}
 use Rattle.trap_mount.specs.Holding.{head_place, log_ring, HasLog, MatchesHead, HoldsBy, Matters, InCell, Outside}
 
 module _ (area : Area) (x y : Disks) (differs : Differs area x y) (g : Geometry) where
@@ -32,7 +32,8 @@ module _ (area : Area) (x y : Disks) (differs : Differs area x y) (g : Geometry)
   -- bytes in the ring
   pub ring_stays : (from : ℕ) (bytes : List ℕ) → ((e i : ℕ) → InRing (log_ring g) from (length bytes) e i → area e i → ⊥) → RingHas (log_ring g) from bytes x → RingHas (log_ring g) from bytes y
   ring_stays from bytes apart has k below =
-      differs.bytes 0 (ring_pos (log_ring g) (from + k)) (apart 0 (ring_pos (log_ring g) (from + k)) (record { disk = refl; offset = from + k; low = omega arith; high = omega (arith, below); place = refl }))
+      differs.bytes 0 (ring_pos (log_ring g) (from + k))
+      (apart 0 (ring_pos (log_ring g) (from + k)) (record { disk = refl; offset = from + k; low = omega arith; high = omega (arith, below); place = refl }))
       ∙ has k below
 
   -- all parts but the head's cell
@@ -85,7 +86,7 @@ beside_cell g h s e i matters cell =
     in_ring ring = omega (arith, ring.place, cell.to)
 
     in_slots : InSlots g h.drained (last s) e i → ⊥
-    in_slots slots = omega (arith, slot_behind_cell g slots.number, slots.within.from, cell.to)
+    in_slots slots = omega (arith, slot_after_cell g slots.number, slots.within.from, cell.to)
 
     in_headers : InHeaders g h.lost h.rebuilt e i → ⊥
     in_headers headers = omega (arith, headers.within.disk, cell.disk)

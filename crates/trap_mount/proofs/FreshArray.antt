@@ -1,19 +1,21 @@
 -- New disks hold the fresh array, and how the calls that make them follow one another.
 use Rattle.std.proofs.Common.{◌≡◌, ◌≢◌, ◌⊎◌, ℕ, ◌+◌, ◌*◌, ◌<◌, List, [], take, drop, replicate, Option, Some, None, IsTrue, inl, inr, ⊎_elim, refl, sym, ap, subst, ◌∙◌, arith}
 use Rattle.std.proofs.lemmas.List.{length-append, length-replicate}
+use Rattle.std.proofs.lemmas.Option.{none-some}
 use Rattle.trap_bank.specs.Disks.{Contents, View, Disks, Quiet, bytes_of, size_of}
 use Rattle.trap_bank.specs.Calls.{MayLeave, IsLawful}
 use Rattle.trap_bank.specs.Steps.{Moves, Always}
-use Rattle.trap_bank.proofs.Moves.{moves_then, moves_weaken, read_is_left}
+use Rattle.trap_bank.proofs.Moves.{moves_then, moves_weaken, no_moves, read_is_left}
+use Rattle.trap_cell.specs.Slots.{Stands, begun}
 use Rattle.trap_format.specs.MemberDisk.{member_header}
 use Rattle.trap_model.specs.Image.{zero_image}
 use Rattle.trap_model.specs.State.{fresh}
 use Rattle.trap_model.specs.declared.numbers.Geometry.{Geometry}
 use Rattle.trap_model.proofs.KeptValid.{fresh_valid}
 use Rattle.trap_raid.specs.Members.{IsMember, IsOut, MembersHold}
-use Rattle.trap_mount.specs.Holding.{IsHeadOf, Holds, HoldsBy}
-use Rattle.trap_mount.specs.CreateEnds.{IsMaking, StaysBeyond, OthersStay}
-use Rattle.trap_mount.specs.Creating.{Creates, HasCreated, NoneIsThere, OnlyDisk, OnlyMembers, new_member, HasMembers, fresh_head, IsGateOff, IsNewLog, MakesLog, HasNewLog}
+use Rattle.trap_mount.specs.Holding.{head_place, IsHeadOf, Holds, HoldsBy}
+use Rattle.trap_mount.specs.CreateEnds.{IsMaking, KeepsOrder, StaysBeyond, DisksBeyondStay}
+use Rattle.trap_mount.specs.Creating.{Creates, HasCreated, NoneIsThere, OnlyDisk, OnlyMembers, new_member, HasNewMembers, MembersFirst, fresh_head, IsLogGateOff, IsNewLog, MakesLog, HasNewLog}
 use Rattle.trap_mount.proofs.Zeros.{zero_table, zero_place}
 use Rattle.trap_mount.proofs.LogGate.{off_no_array, absent_off}
 
@@ -27,10 +29,7 @@ module _ (g : Geometry) (x : Disks) (made : (m : ℕ) → m < g.members → x (m
 
   -- no new member is out
   none_out : (m : ℕ) → m < g.members → IsOut None x m → ⊥
-  none_out m inside out = ⊎_elim (λ (lost : None ≡ Some m). cc) (λ (absent : x (m + 1) ≡ None). some_none (new_member g m) (sym (made m inside) ∙ absent)) out
-    where
-      some_none : (bytes : List ℕ) → Some bytes ≡ None → ⊥
-      some_none bytes same = cc
+  none_out m inside out = ⊎_elim (λ (lost : None ≡ Some m). cc) (λ (absent : x (m + 1) ≡ None). none-some (new_member g m) (sym absent ∙ made m inside)) out
 
   -- new members hold the zero image
   new_members : MembersHold g None 0 [] (zero_image g) x
@@ -92,10 +91,10 @@ module _ (g : Geometry) (a : View) (lawful : IsLawful a) (none : NoneIsThere g a
   before_log : (x y : Contents) → MayLeave a x → OnlyMembers g x.disks y.disks → Creates g x.disks y.disks
   before_log x y left only = inl (off_no_array y.disks (absent_off y.disks (only 0 (inl refl) ∙ absent x left)))
 
-  with_log : (x y z : Contents) → MayLeave a x → HasMembers g g.members x.disks y.disks → MakesLog g y.disks z.disks → Creates g x.disks z.disks
+  with_log : (x y z : Contents) → MayLeave a x → HasNewMembers g g.members x.disks y.disks → MakesLog g y.disks z.disks → Creates g x.disks z.disks
   with_log x y z left members makes = ⊎_elim
       (λ (same : z.disks 0 ≡ y.disks 0). inl (off_no_array z.disks (absent_off z.disks (same ∙ members.others 0 (inl refl) ∙ absent x left))))
-      (λ rest. ⊎_elim (λ (off : IsGateOff z.disks). inl (off_no_array z.disks off))
+      (λ rest. ⊎_elim (λ (off : IsLogGateOff z.disks). inl (off_no_array z.disks off))
       (λ (new : IsNewLog g z.disks). inr (fresh_held g z.disks (λ m inside. makes.others (m + 1) (λ log. omega (arith, log)) ∙ members.disks m inside) new)) rest)
       makes.disk
 
@@ -104,24 +103,28 @@ module _ (g : Geometry) (a : View) (lawful : IsLawful a) (none : NoneIsThere g a
       (λ x y was step. before_log x y was step)
       (λ x y was left step. before_log x y was step)
 
-  pub create_log_part : (b c : View) → Moves a b (OnlyMembers g) (HasMembers g g.members) → Moves b c (MakesLog g) (MakesLog g) → Moves a c (Creates g) (Creates g)
-  create_log_part b c members log = moves_then a b c (OnlyMembers g) (HasMembers g g.members) (MakesLog g) (MakesLog g) (Creates g) (Creates g) members log
+  pub create_log_part : (b c : View) → Moves a b (OnlyMembers g) (HasNewMembers g g.members) → Moves b c (MakesLog g) (MakesLog g) → Moves a c (Creates g) (Creates g)
+  create_log_part b c members log = moves_then a b c (OnlyMembers g) (HasNewMembers g g.members) (MakesLog g) (MakesLog g) (Creates g) (Creates g) members log
       (λ x y was step. before_log x y was step)
       (λ x y z was step mid makes. with_log x y z was step makes)
       (λ x y z was step mid makes. with_log x y z was step makes)
 
-  pub create_done : (b c : View) → Moves a b (OnlyMembers g) (HasMembers g g.members) → Moves b c (MakesLog g) (HasNewLog g) → Moves a c (Creates g) (HasCreated g)
-  create_done b c members log = moves_then a b c (OnlyMembers g) (HasMembers g g.members) (MakesLog g) (HasNewLog g) (Creates g) (HasCreated g) members log
+  pub create_done : (b c : View) → Moves a b (OnlyMembers g) (HasNewMembers g g.members) → Moves b c (MakesLog g) (HasNewLog g) → Moves a c (Creates g) (HasCreated g)
+  create_done b c members log = moves_then a b c (OnlyMembers g) (HasNewMembers g g.members) (MakesLog g) (HasNewLog g) (Creates g) (HasCreated g) members log
       (λ x y was step. before_log x y was step)
       (λ x y z was step mid makes. with_log x y z was step makes)
       (λ x y z was step mid new. fresh_held g z.disks (λ m inside. new.others (m + 1) (λ log. omega (arith, log)) ∙ step.disks m inside) new.log)
 
 -- every crash after it leaves the fresh array
-pub create_holds : (g : Geometry) (a b c : View) → Moves a b (OnlyMembers g) (HasMembers g g.members) → Moves b c (MakesLog g) (HasNewLog g) → Always c (HoldsBy g fresh_head (fresh g))
+pub create_holds : (g : Geometry) (a b c : View) → Moves a b (OnlyMembers g) (HasNewMembers g g.members) → Moves b c (MakesLog g) (HasNewLog g) → Always c (HoldsBy g fresh_head (fresh g))
 create_holds g a b c members log z left =
     let from = log.now z left in
     let made = (members.now from.origin from.was).by.disks in
     fresh_by g z.disks (λ m inside. from.by.disks.others (m + 1) (λ zero_. omega (arith, zero_)) ∙ made.disks m inside) from.by.disks.log
+
+-- with the head's cell as it begins
+pub create_cell : (g : Geometry) (b c : View) → Moves b c (MakesLog g) (HasNewLog g) → Always c (Stands (begun head_place))
+create_cell g b c log z left = let from = log.now z left in from.by.disks.log.cell
 
 -- what a read gives is among what a crash leaves
 create_contents : (g : Geometry) (a b : View) → Moves a b (Creates g) (Creates g) → IsTrue a.tells → Quiet (Creates g) a.now b.now
@@ -133,9 +136,49 @@ create_contents g a b moves told =
 pub is_making : (g : Geometry) (a b : View) → Moves a b (Creates g) (Creates g) → IsMaking g a b
 is_making g a b moves = record { contents = create_contents g a b moves; any_moment = moves }
 
+-- Disk 0 stays where nothing is done,
+pub order_none : (g : Geometry) (a : View) → KeepsOrder g a a
+order_none g a = record {
+  contents = λ told. record { disks = inl refl; said = refl };
+  any_moment = no_moves a (MembersFirst g) (MembersFirst g) (λ x was. inl refl);
+}
+
+-- while the members' disks are made,
+pub order_members : (g : Geometry) (a b : View) → (IsTrue a.tells → OnlyMembers g a.now.disks b.now.disks) → Moves a b (OnlyMembers g) (OnlyMembers g) → KeepsOrder g a b
+order_members g a b touches members = record {
+  contents = λ told.
+      let from = members.now b.now (read_is_left b (subst IsTrue (sym members.tells) told)) in
+      record { disks = inl (touches told 0 (inl refl)); said = from.by.said ∙ from.was.torn.said };
+  any_moment = moves_weaken a b (OnlyMembers g) (OnlyMembers g) (MembersFirst g) (MembersFirst g) members
+      (λ x y was step. inl (step 0 (inl refl)))
+      (λ x y was left step. inl (step 0 (inl refl)));
+}
+
+-- and when the log is made, each member's disk is new.
+pub order_log : (g : Geometry) (a b c : View) → Moves a b (OnlyMembers g) (HasNewMembers g g.members) → (IsTrue b.tells → OnlyDisk 0 b.now.disks c.now.disks)
+    → Moves b c (MakesLog g) (MakesLog g) → KeepsOrder g a c
+order_log g a b c members touches log = record {
+  contents = λ told.
+      let told_mid = subst IsTrue (sym members.tells) told in
+      let made = members.now b.now (read_is_left b told_mid) in
+      let from = log.now c.now (read_is_left c (subst IsTrue (sym log.tells) told_mid)) in
+      let mid = members.now from.origin from.was in
+      record {
+        disks = inr (λ m inside. touches told_mid (m + 1) (λ zero_. omega (arith, zero_)) ∙ made.by.disks.disks m inside);
+        said = from.by.said ∙ mid.by.said ∙ mid.was.torn.said;
+      };
+  any_moment = moves_then a b c (OnlyMembers g) (HasNewMembers g g.members) (MakesLog g) (MakesLog g) (MembersFirst g) (MembersFirst g) members log
+      (λ x y was step. inl (step 0 (inl refl)))
+      (λ x y z was step mid makes. inr (new x.disks y.disks z.disks step makes))
+      (λ x y z was step mid makes. inr (new x.disks y.disks z.disks step makes));
+}
+  where
+    new : (x y z : Disks) → HasNewMembers g g.members x y → MakesLog g y z → (m : ℕ) → m < g.members → z (m + 1) ≡ Some (new_member g m)
+    new x y z made makes m inside = makes.others (m + 1) (λ zero_. omega (arith, zero_)) ∙ made.disks m inside
+
 -- The disks beyond the members stay while the members' disks are made,
 pub others_members : (g : Geometry) (a b : View) → ((e : ℕ) → (e ≡ 0) ⊎ (g.members < e) → b.sizes e ≡ a.sizes e) → (IsTrue a.tells → OnlyMembers g a.now.disks b.now.disks)
-    → Moves a b (OnlyMembers g) (OnlyMembers g) → OthersStay g a b
+    → Moves a b (OnlyMembers g) (OnlyMembers g) → DisksBeyondStay g a b
 others_members g a b sizes touches moves = record {
   sizes = λ e beyond. sizes e (inr beyond);
   contents = λ told e beyond. touches told e (inr beyond);
@@ -146,12 +189,12 @@ others_members g a b sizes touches moves = record {
 
 -- and while the log is made after them.
 pub others_log : (g : Geometry) (a b c : View) → ((e : ℕ) → (e ≡ 0) ⊎ (g.members < e) → b.sizes e ≡ a.sizes e) → (IsTrue a.tells → OnlyMembers g a.now.disks b.now.disks)
-    → Moves a b (OnlyMembers g) (HasMembers g g.members) → ((e : ℕ) → e ≢ 0 → c.sizes e ≡ b.sizes e) → (IsTrue b.tells → OnlyDisk 0 b.now.disks c.now.disks)
-    → Moves b c (MakesLog g) (MakesLog g) → OthersStay g a c
+    → Moves a b (OnlyMembers g) (HasNewMembers g g.members) → ((e : ℕ) → e ≢ 0 → c.sizes e ≡ b.sizes e) → (IsTrue b.tells → OnlyDisk 0 b.now.disks c.now.disks)
+    → Moves b c (MakesLog g) (MakesLog g) → DisksBeyondStay g a c
 others_log g a b c member_sizes member_touches members sizes touches log = record {
   sizes = λ e beyond. sizes e (no_log e beyond) ∙ member_sizes e (inr beyond);
   contents = λ told e beyond. touches (subst IsTrue (sym members.tells) told) e (no_log e beyond) ∙ member_touches told e (inr beyond);
-  any_moment = moves_then a b c (OnlyMembers g) (HasMembers g g.members) (MakesLog g) (MakesLog g) (StaysBeyond g) (StaysBeyond g) members log
+  any_moment = moves_then a b c (OnlyMembers g) (HasNewMembers g g.members) (MakesLog g) (MakesLog g) (StaysBeyond g) (StaysBeyond g) members log
       (λ x y was step e beyond. step e (inr beyond))
       (λ x y z was step mid makes e beyond. makes.others e (no_log e beyond) ∙ step.others e (inr beyond))
       (λ x y z was step mid makes e beyond. makes.others e (no_log e beyond) ∙ step.others e (inr beyond));

@@ -8,7 +8,7 @@ mod MountHistory
 mod MountMembers
 mod MountRecords
 mod MountPuts
-mod MountReads
+pub mod MountReads
 mod MountRefusals
 mod MountStands
 mod OneRefusal

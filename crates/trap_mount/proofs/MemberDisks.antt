@@ -8,7 +8,7 @@ use Rattle.trap_bank.proofs.Regions.{disk_beside, disk_ext, byte_beside, byte_in
 use Rattle.trap_bank.proofs.Moves.{moves_then, moves_weaken}
 use Rattle.trap_format.specs.MemberDisk.{member_size, member_header}
 use Rattle.trap_model.specs.declared.numbers.Geometry.{Geometry}
-use Rattle.trap_mount.specs.Creating.{OnlyDisk, OnlyMembers, new_member, HasMember, HasMembers, AreSized}
+use Rattle.trap_mount.specs.Creating.{OnlyDisk, OnlyMembers, new_member, HasMember, HasNewMembers, AreSized}
 use Rattle.trap_mount.proofs.Zeros.{below_or, zero_byte}
 
 -- a change of one disk and then another
@@ -16,7 +16,8 @@ pub only_then : (d : ℕ) (x y z : Disks) → OnlyDisk d x y → OnlyDisk d y z 
 only_then d x y z first second e other = second e other ∙ first e other
 
 -- what a read gives of the other disks
-pub touches_then : (d at n : ℕ) (a b c : View) → b.tells ≡ a.tells → (IsTrue a.tells → OnlyDisk d a.now.disks b.now.disks) → (IsTrue b.tells → Torn (Within d at n) b.now c.now) → IsTrue a.tells → OnlyDisk d a.now.disks c.now.disks
+pub touches_then : (d at n : ℕ) (a b c : View) → b.tells ≡ a.tells → (IsTrue a.tells → OnlyDisk d a.now.disks b.now.disks) → (IsTrue b.tells → Torn (Within d at n) b.now c.now) → IsTrue a.tells
+    → OnlyDisk d a.now.disks c.now.disks
 touches_then d at n a b c tells first second told e other =
     disk_beside d at n b.now.disks c.now.disks e (second (subst IsTrue (sym tells) told)).disks other ∙ first told e other
 
@@ -32,11 +33,13 @@ only_written d n at len a b c made written = moves_then a b c (RemadeDisk d n) (
     (λ x y z was step mid differs. only_then d x.disks y.disks z.disks step.others (λ e other. disk_beside d at len y.disks z.disks e differs other))
 
 -- zeros with a header over their first bytes
-headed : (d n rest : ℕ) (header : List ℕ) (x y : Disks) → n ≡ length header + rest → x d ≡ Some (replicate n 0) → Differs (Within d 0 (length header)) x y → region y d 0 (length header) ≡ header → y d ≡ Some (header ++ replicate rest 0)
+headed : (d n rest : ℕ) (header : List ℕ) (x y : Disks) → n ≡ length header + rest → x d ≡ Some (replicate n 0) → Differs (Within d 0 (length header)) x y → region y d 0 (length header) ≡ header
+    → y d ≡ Some (header ++ replicate rest 0)
 headed d n rest header x y size made differs there = disk_ext (y d) (Some (header ++ replicate rest 0)) sizes each
   where
     sizes : size_of (y d) ≡ size_of (Some (header ++ replicate rest 0))
-    sizes = differs.sizes d ∙ ap size_of made ∙ ap {B = Option ℕ} Some (length-replicate n 0 ∙ size ∙ ap (λ (k : ℕ). length header + k) (sym (length-replicate rest 0)) ∙ sym (length-append header (replicate rest 0)))
+    sizes = differs.sizes d ∙ ap size_of made
+        ∙ ap {B = Option ℕ} Some (length-replicate n 0 ∙ size ∙ ap (λ (k : ℕ). length header + k) (sym (length-replicate rest 0)) ∙ sym (length-append header (replicate rest 0)))
 
     zero : (i : ℕ) → byte x d i ≡ 0
     zero i = ap (λ (disk : Option (List ℕ)). get_or (bytes_of disk) i 0) made ∙ zero_byte n i
@@ -44,14 +47,16 @@ headed d n rest header x y size made differs there = disk_ext (y d) (Some (heade
     each : (i : ℕ) → byte y d i ≡ get_or (header ++ replicate rest 0) i 0
     each i = ⊎_elim
         (λ (inside : i < length header). byte_in_region y d 0 (length header) i i header (omega arith) there inside ∙ sym (get_or_append_left header (replicate rest 0) 0 i inside))
-        (λ (behind : length header ≤ i). byte_beside d 0 (length header) x y i differs (inr (omega (arith, behind))) ∙ zero i ∙ sym (get_or-append_right header (replicate rest 0) (length header) i 0 refl behind ∙ zero_byte rest (i - length header)))
+        (λ (behind : length header ≤ i). byte_beside d 0 (length header) x y i differs (inr (omega (arith, behind))) ∙ zero i
+        ∙ sym (get_or-append_right header (replicate rest 0) (length header) i 0 refl behind ∙ zero_byte rest (i - length header)))
         (below_or i (length header))
 
 module _ (g : Geometry) (m : ℕ) where
   -- a member's disk is made with its header
   pub member_made : (n : ℕ) (header : List ℕ) (a b c : View) → n ≡ member_size g → header ≡ member_header g.id m → Moves a b (RemadeDisk (m + 1) n) (MadeDisk (m + 1) n)
       → Moves b c (Differs (Within (m + 1) 0 (length header))) (PlacedThrough c (m + 1) 0 header) → Moves a c (OnlyDisk (m + 1)) (HasMember g m)
-  member_made n header a b c size is made written = moves_then a b c (RemadeDisk (m + 1) n) (MadeDisk (m + 1) n) (Differs (Within (m + 1) 0 (length header))) (PlacedThrough c (m + 1) 0 header) (OnlyDisk (m + 1)) (HasMember g m) made written
+  member_made n header a b c size is made written =
+      moves_then a b c (RemadeDisk (m + 1) n) (MadeDisk (m + 1) n) (Differs (Within (m + 1) 0 (length header))) (PlacedThrough c (m + 1) 0 header) (OnlyDisk (m + 1)) (HasMember g m) made written
       (λ x y was step. step.others)
       (λ x y z was step mid differs. only_then (m + 1) x.disks y.disks z.disks step.others (λ e other. disk_beside (m + 1) 0 (length header) y.disks z.disks e differs other))
       (λ x y z was step mid placed. record {
@@ -65,8 +70,8 @@ module _ (g : Geometry) (m : ℕ) where
   beside_members inside x y only e out = only e (λ is. ⊎_elim (λ (log : e ≡ 0). omega (arith, is, log)) (λ (beyond : g.members < e). omega (arith, is, beyond, inside)) out)
 
   -- the next member's disk is made
-  pub members_more : (a b c : View) → m < g.members → Moves a b (OnlyMembers g) (HasMembers g m) → Moves b c (OnlyDisk (m + 1)) (HasMember g m) → Moves a c (OnlyMembers g) (HasMembers g (m + 1))
-  members_more a b c inside before next = moves_then a b c (OnlyMembers g) (HasMembers g m) (OnlyDisk (m + 1)) (HasMember g m) (OnlyMembers g) (HasMembers g (m + 1)) before next
+  pub members_more : (a b c : View) → m < g.members → Moves a b (OnlyMembers g) (HasNewMembers g m) → Moves b c (OnlyDisk (m + 1)) (HasMember g m) → Moves a c (OnlyMembers g) (HasNewMembers g (m + 1))
+  members_more a b c inside before next = moves_then a b c (OnlyMembers g) (HasNewMembers g m) (OnlyDisk (m + 1)) (HasMember g m) (OnlyMembers g) (HasNewMembers g (m + 1)) before next
       (λ x y was step. step)
       (λ x y z was step mid only e out. beside_members inside y.disks z.disks only e out ∙ step.others e out)
       (λ x y z was step mid made. record {
@@ -78,7 +83,8 @@ module _ (g : Geometry) (m : ℕ) where
       })
 
   -- what a read gives of the other disks
-  pub members_touch : (a b c : View) → m < g.members → b.tells ≡ a.tells → (IsTrue a.tells → OnlyMembers g a.now.disks b.now.disks) → (IsTrue b.tells → OnlyDisk (m + 1) b.now.disks c.now.disks) → IsTrue a.tells → OnlyMembers g a.now.disks c.now.disks
+  pub members_touch : (a b c : View) → m < g.members → b.tells ≡ a.tells → (IsTrue a.tells → OnlyMembers g a.now.disks b.now.disks) → (IsTrue b.tells → OnlyDisk (m + 1) b.now.disks c.now.disks)
+      → IsTrue a.tells → OnlyMembers g a.now.disks c.now.disks
   members_touch a b c inside tells first second told e out = beside_members inside b.now.disks c.now.disks (second (subst IsTrue (sym tells) told)) e out ∙ first told e out
 
 -- a disk beside the members' isn't a member's

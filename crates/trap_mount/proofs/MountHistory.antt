@@ -3,6 +3,7 @@ use Rattle.std.proofs.Common.{◌≡◌, ℕ, ◌+◌, ◌-◌, List, slice_inde
 use Rattle.trap_bank.specs.Disks.{View, Disks}
 use Rattle.trap_bank.proofs.Moves.{always_same}
 use Rattle.trap_bank.specs.Steps.{OnlyReads}
+use Rattle.trap_bank.proofs.OnlyReads.{reads_then}
 use Rattle.trap_cell.specs.Slots.{Slots, Stands, cell_value}
 use Rattle.trap_format.specs.HeadValue.{IsHead, IsHeadValue, head_value}
 use Rattle.trap_format.specs.declared.head.Head.{Head}
@@ -20,11 +21,11 @@ use Rattle.trap_stage.specs.Slots.{Stage, last_of}
 use Rattle.trap_stage.specs.Found.{IsFound, IsStage, IsDamagedSlot}
 use Rattle.trap_stage.proofs.OneAnswer.{each_is_slot}
 use Rattle.trap_mount.specs.Holding.{head_place, log_ring}
-use Rattle.trap_mount.specs.Mounting.{HasHeader, HasHead, HasSlots, HasRecords, IsDamage, Refuses, history_of}
+use Rattle.trap_mount.specs.Mounting.{HasHeader, HasHead, HasSlots, HasRecords, IsDamage, Refuses, head_history}
 use Rattle.trap_mount.specs.MountSteps.{ReadsHeader, ReadsHead, ReadsStage, ReadsLog}
 use Rattle.trap_mount.specs.Reading.{AreRecordsRead, HasTaken, ReadsIndex}
 use Rattle.trap_mount.specs.declared.fault.MountFault.{MountFault}
-use Rattle.trap_mount.proofs.MountReads.{reads_then, told_after, disks_same, stable_reads, refused_before}
+use Rattle.trap_mount.proofs.MountReads.{told_after, disks_same, stable_reads, refused_before}
 
 -- what a call left open at the exit of a `?`
 pub exit : {T E : Type 0} (P : E → Type 0) (r : Result T E) (e : E) → IsErrAnd r (λ y. y ≡ e) → P e → IfErr r P
@@ -76,7 +77,8 @@ abbrev asked : Geometry → Head → Expected
 asked g h = record { size = g.block; volume = volume g; first = h.first; base_time = h.base_time; first_off = h.first_off; last = h.last; last_time = h.last_time; end_off = h.end_off }
 
 asked_is : (g : Geometry) (h : Head) (e : Expected) → AsksFor g h e → e ≡ asked g h
-asked_is g h e asks = same e.size e.volume e.first e.base_time e.first_off e.last e.last_time e.end_off asks.size asks.volume_ asks.first asks.base_time asks.first_off asks.last asks.last_time asks.end_off
+asked_is g h e asks =
+    same e.size e.volume e.first e.base_time e.first_off e.last e.last_time e.end_off asks.size asks.volume_ asks.first asks.base_time asks.first_off asks.last asks.last_time asks.end_off
   where
     same : (a b c d e f i j : ℕ) → a ≡ g.block → b ≡ volume g → c ≡ h.first → d ≡ h.base_time → e ≡ h.first_off → f ≡ h.last → i ≡ h.last_time → j ≡ h.end_off
         → ◌≡◌ {A = Expected} (record { size = a; volume = b; first = c; base_time = d; first_off = e; last = f; last_time = i; end_off = j }) (asked g h)
@@ -104,7 +106,7 @@ module _ (g : Geometry) (h : Head) (e : Expected) (r : RingPlace) (disks : Disks
       by_ring : (bytes : List ℕ) → IsWindow (log_ring g) e.first_off e.end_off bytes disks → AreExpected e bytes
       by_ring = subst (λ (q : RingPlace). (bytes : List ℕ) → IsWindow q e.first_off e.end_off bytes disks → AreExpected e bytes) ring right
 
-      here : (bytes : List ℕ) → IsWindow (log_ring g) h.first_off h.end_off bytes disks → AreRecords (history_of g h) h.first h.base_time (h.last - h.first) bytes
+      here : (bytes : List ℕ) → IsWindow (log_ring g) h.first_off h.end_off bytes disks → AreRecords (head_history g h) h.first h.base_time (h.last - h.first) bytes
       here = subst (λ (x : Expected). (bytes : List ℕ) → IsWindow (log_ring g) x.first_off x.end_off bytes disks → AreExpected x bytes) (asked_is g h e asks) by_ring
 
   -- one of them isn't
@@ -164,7 +166,8 @@ index_before g h i a b reads known = record {
 -- ---- all that stands on the log's disk
 
 -- the slots hold what the stage has
-pub slots_found : (g : Geometry) (h : Head) (stage : Stage) (disks : Disks) → HasHead g h disks → IsHead g h → last_of stage ≡ h.last → stage.drained ≡ h.drained → IsStage stage → IsFound g h.drained h.last disks stage → HasSlots g h disks
+pub slots_found : (g : Geometry) (h : Head) (stage : Stage) (disks : Disks) → HasHead g h disks → IsHead g h → last_of stage ≡ h.last → stage.drained ≡ h.drained → IsStage stage
+    → IsFound g h.drained h.last disks stage → HasSlots g h disks
 slots_found g h stage disks head is last drained sound found = record {
   head = head;
   slots = λ q low high. each_is_slot g h.drained stage.pending disks (subst (λ (k : Geometry). All (IsStaged k) stage.pending) found.g_ sound.writes) found.slots q low (omega (arith, high));

@@ -1,5 +1,5 @@
 -- What mounting finds of the members' disks.
-use Rattle.std.proofs.Common.{◌≡◌, ◌≢◌, ◌⊎◌, ℕ, ◌+◌, ◌<◌, ◌≤◌, List, Option, Some, None, Bool, true, false, not, eqb, IsTrue, inl, inr, ⊎_elim, refl, sym, ap, subst, ◌∙◌, arith}
+use Rattle.std.proofs.Common.{◌≡◌, ◌≢◌, ◌⊎◌, ℕ, ◌+◌, ◌<◌, ◌≤◌, List, Option, Some, None, true, false, not, eqb, IsTrue, inl, inr, ⊎_elim, refl, sym, ap, subst, ◌∙◌, arith}
 use Rattle.std.proofs.lemmas.Bool.{cases_eq}
 use Rattle.std.proofs.lemmas.Bool.Decides.{nat_tests}
 use Rattle.std.specs.Option.{option_eq}
@@ -164,9 +164,6 @@ option_same (Some k) n e = ap {B = Option ℕ} Some same
     same : k ≡ n
     same = grind (arith, nat_tests)
 
-pub false_true : (b : Bool) → b ≡ false → b ≡ true → ⊥
-false_true b first second = cc
-
 -- ---- all members
 
 module _ (g : Geometry) (h : Head) (lost : Option ℕ) (rebuilt : ℕ) (a b c : View) (to_b : OnlyReads a b) (to_c : OnlyReads b c) (head : IsHead g h)
@@ -207,7 +204,11 @@ module _ (g : Geometry) (h : Head) (lost : Option ℕ) (rebuilt : ℕ) (a b c : 
           → (rebuilt ≡ h.rebuilt) ⊎ ((rebuilt ≡ 0) × ((m : ℕ) → lost ≡ Some m → Rose (a.faults (m + 1)) (c.faults (m + 1)) ⊎ (IsMember g a.now.disks m → ⊥)))
       by_recorded None zero_ keeps still before = inl (zero_ refl ∙ sym (before refl))
       by_recorded (Some k) zero_ keeps still before = ⊎_elim (λ same. inl same)
-          (λ rest. inr (rest.0, λ m is. subst (λ (n : ℕ). Rose (a.faults (n + 1)) (c.faults (n + 1)) ⊎ (IsMember g a.now.disks n → ⊥)) (one m (sym (still k refl) ∙ is)) (at k (rest.1 (told_after a b to_b told)))))
+          (λ rest. inr (
+            rest.0,
+            λ m is. subst
+                (λ (n : ℕ). Rose (a.faults (n + 1)) (c.faults (n + 1)) ⊎ (IsMember g a.now.disks n → ⊥)) (one m (sym (still k refl) ∙ is)) (at k (rest.1 (told_after a b to_b told))),
+          ))
           (keeps k refl).mark
         where
           one : (m : ℕ) → Some k ≡ Some m → k ≡ m

@@ -1,11 +1,13 @@
 -- What mounting leaves, from what it found and the put of its head.
 use Rattle.std.proofs.Common.{◌≡◌, ◌≢◌, ℕ, ◌+◌, ◌<◌, ◌≤◌, List, length, Option, Some, None, Bool, true, false, IsTrue, inl, inr, ⊎_elim, refl, sym, ap, subst, ◌∙◌, arith}
+use Rattle.std.proofs.lemmas.Option.{same_Some}
 use Rattle.trap_bank.specs.Disks.{Contents, View, Disks, Quiet, Differs, size_of}
 use Rattle.trap_bank.specs.Calls.{MayLeave, IsLawful}
 use Rattle.trap_bank.specs.Faults.{Rose}
 use Rattle.trap_bank.specs.Steps.{Moves, Same, Always, OnlyReads}
 use Rattle.trap_bank.proofs.Regions.{region_of_disk, disk_apart}
 use Rattle.trap_bank.proofs.Moves.{moves_then, moves_weaken, always_same, read_is_left}
+use Rattle.trap_bank.proofs.OnlyReads.{reads_then}
 use Rattle.trap_cell.specs.Slots.{Place, Slots, Stands, slot_at, value_at, current_slot, cell_value, other_slot}
 use Rattle.trap_cell.specs.Steps.{PutsIn, IsPut}
 use Rattle.trap_format.specs.LogDisk.{log_size}
@@ -24,7 +26,8 @@ use Rattle.trap_stage.specs.Found.{IsFound}
 use Rattle.trap_stage.proofs.FurtherSlots.{found_pending}
 use Rattle.trap_mount.specs.Holding.{head_place, MatchesHead, Holds, HoldsBy}
 use Rattle.trap_mount.specs.Mounted.{Mounted, StandsFor, IsReady}
-use Rattle.trap_mount.specs.Mounting.{KeepsWhoIsLost, Mounts, KeepsEachState, HasRecords, HasMembers, FoundLost, HasFound, IsFailing, Refuses, MountFails, is_refusal, PutsHead, MayPutHead, HasPutHead, WritesHead}
+use Rattle.trap_mount.specs.Mounting.{KeepsWhoIsLost, Mounts, KeepsEachState, HasRecords, HasMembers, FoundLost, HasFound, IsFailing, Refuses, MountFails, is_refusal, PutsHead, MayPutHead, HasPutHead}
+use Rattle.trap_mount.specs.Mounting.{WritesHead}
 use Rattle.trap_mount.specs.MountEnds.{KnowsDisks}
 use Rattle.trap_mount.specs.MountSteps.{ReadsLog, ReadsStage, ReadsMember, FindsMembers, MayPut, HasPut}
 use Rattle.trap_mount.specs.Reading.{ReadsIndex}
@@ -32,7 +35,7 @@ use Rattle.trap_mount.specs.declared.fault.MountFault.{MountFault}
 use Rattle.trap_mount.specs.declared.fault.MountFault.TheVariants.{NotAnArray, BadVersion, WrongMember, TooManyLost, Damaged, LogFault, MemberFault, OutOfMemory}
 use Rattle.trap_mount.proofs.MountRecords.{read_described}
 use Rattle.trap_mount.proofs.Puts.{put_in_cell, fits_put, held_by_read}
-use Rattle.trap_mount.proofs.MountReads.{reads_then, told_before, told_after, disks_same, stable_reads, rose_later, rose_before, refused_before}
+use Rattle.trap_mount.proofs.MountReads.{told_before, told_after, disks_same, stable_reads, rose_later, rose_before, refused_before}
 use Rattle.trap_mount.proofs.MountRefusals.{never_refused}
 use Rattle.trap_mount.proofs.MountMembers.{absent_disk, is_some_or_not, finds_only, finds_one}
 use Rattle.trap_mount.proofs.MountStands.{one_array, fits_agree, fits_changed}
@@ -55,13 +58,10 @@ members_refused g h cell stage a b why reads log refused told =
 pub put_failed : (a c d : View) (why : MountFault) → OnlyReads a c → Rose (c.faults 0) (d.faults 0) → ◌≡◌ {A = MountFault} LogFault why → MountFails why a d
 put_failed a c d why reads rose is = subst (λ (w : MountFault). MountFails w a d) is (rose_later _ _ _ (reads.moves.faults 0) rose)
 
-some_same : (xs ys : List ℕ) → Some xs ≡ Some ys → xs ≡ ys
-some_same xs ys e = cc
-
 -- one value of the head's cell is that of one head
 one_head : (g : Geometry) (h k : Head) (s t : State) (x y : Disks) → HoldsBy g h s x → HoldsBy g k t y → cell_value head_place y ≡ cell_value head_place x → h ≡ k
 one_head g h k s t x y by also same = heads_same g h k (head_value h) (record { head = by.fits.head.head; spelled = refl })
-    (record { head = also.fits.head.head; spelled = some_same (head_value h) (head_value k) (sym by.value ∙ sym same ∙ also.value) })
+    (record { head = also.fits.head.head; spelled = same_Some (head_value h) (head_value k) (sym by.value ∙ sym same ∙ also.value) })
 
 -- over disks that hold a state nothing is refused, and a member that fails is one that isn't out
 module _ (a b : View) (g : Geometry) (h : Head) (s : State) (told : IsTrue a.tells) (by : HoldsBy g h s a.now.disks) (log : Rose (a.faults 0) (b.faults 0) → ⊥)
@@ -111,10 +111,7 @@ keeps_read a b reads = record {
   lost = read_lost a b reads;
 }
 
--- the disks hold each state still, whoever is lost
-pub keeps_states : (v w : View) (new : Disks) → KeepsWhoIsLost v w new → (g : Geometry) (s : State) → Holds g s v.now.disks → Holds g s new
-keeps_states v w new keeps g s holds = let kept = keeps g holds.head s holds.by in record { head = kept.0; by = kept.1 }
-
+-- no disk but the log changes
 pub read_others : (a b : View) → OnlyReads a b → IsTrue a.tells → (e : ℕ) → e ≢ 0 → b.now.disks e ≡ a.now.disks e
 read_others a b reads told e other = ap (λ (x : Disks). x e) (disks_same a b reads told)
 
@@ -180,7 +177,12 @@ module _ (g : Geometry) (h k : Head) (cell : Slots) (stage : Stage) (a b c : Vie
         same = found.same;
         lost = λ m is. ⊎_elim inl (λ absent. inr (absent.0, sym (to_b.sizes (m + 1)) ∙ absent.1)) (found.lost m is);
         still = found.still;
-        mark = ⊎_elim inl (λ rest. inr (rest.0, λ m is. ⊎_elim (λ rose. inl (rose_later _ _ _ (to_b.moves.faults (m + 1)) rose)) (λ not. inr (subst (λ (x : Disks). IsMember g x m → ⊥) same not)) (rest.1 m is))) found.mark;
+        mark = ⊎_elim inl
+            (λ rest. inr (
+              rest.0,
+              λ m is. ⊎_elim (λ rose. inl (rose_later _ _ _ (to_b.moves.faults (m + 1)) rose))
+                  (λ not. inr (subst (λ (x : Disks). IsMember g x m → ⊥) same not)) (rest.1 m is),
+            )) found.mark;
       }
 
   -- and until a later moment
@@ -215,7 +217,12 @@ module _ (g : Geometry) (h k : Head) (cell : Slots) (stage : Stage) (a b c : Vie
       let found = found_entry told in
       let by = held_by_read g h s a.now.disks holds (log.head.value told) log.head.head in
       fits_changed g h k s a.now.disks log.head.head members.head found.same found.still members.lost.inside
-      (λ m is. ⊎_elim inl (λ absent. inr (absent.0, subst (λ (x : Disks). x (m + 1) ≡ None) (disks_same a b to_b told) (absent_disk _ (lawful.sized (told_after a b to_b told) (m + 1) ∙ to_b.sizes (m + 1) ∙ absent.1)))) (found.lost m is))
+      (λ m is. ⊎_elim inl
+      (λ absent. inr (
+        absent.0,
+        subst
+            (λ (x : Disks). x (m + 1) ≡ None) (disks_same a b to_b told) (absent_disk _ (lawful.sized (told_after a b to_b told) (m + 1) ∙ to_b.sizes (m + 1) ∙ absent.1)),
+      )) (found.lost m is))
       (⊎_elim inl (λ rest. inr rest.0) found.mark) by.fits
 
   -- and so it does whatever a crash leaves before the put
@@ -235,7 +242,7 @@ module _ (g : Geometry) (h k : Head) (cell : Slots) (stage : Stage) (a b c : Vie
   -- the head that was found is that of a state held on entry
   found_is : IsTrue a.tells → (t : Head) (s : State) → HoldsBy g t s a.now.disks → h ≡ t
   found_is told t s by = heads_same g h t (head_value h) (record { head = log.head.head; spelled = refl })
-      (record { head = by.fits.head.head; spelled = some_same (head_value h) (head_value t) (sym (log.head.value told) ∙ by.value) })
+      (record { head = by.fits.head.head; spelled = same_Some (head_value h) (head_value t) (sym (log.head.value told) ∙ by.value) })
 
   -- the new head holds each state
   put_keeps : (w : View) → ((e : ℕ) → c.faults e ≤ w.faults e) → (y : Contents) (z : Disks) → MayLeave c y → Differs (other_slot cell) y.disks z
@@ -340,7 +347,7 @@ module _ (g : Geometry) (h k : Head) (cell : Slots) (stage : Stage) (a b c : Vie
             let one : n ≡ g = header_entry told n s (record { head = l; by = by }) in
             let before : h ≡ l = found_is told l s (subst (λ (q : Geometry). HoldsBy q l s a.now.disks) one by) in
             let now : k ≡ t = heads_same g k t (head_value k) (record { head = members.head; spelled = refl })
-            (record { head = subst (λ (q : Geometry). IsHead q t) one also.fits.head.head; spelled = some_same (head_value k) (head_value t) (sym value ∙ also.value) }) in
+            (record { head = subst (λ (q : Geometry). IsHead q t) one also.fits.head.head; spelled = same_Some (head_value k) (head_value t) (sym value ∙ also.value) }) in
             subst (λ (q : Geometry). FoundLost q l t a d) (sym one)
             (subst (λ (q : Head). FoundLost g q t a d) before (subst (λ (q : Head). FoundLost g h q a d) now (found_until d later told)))
 
@@ -445,13 +452,13 @@ module _ (g : Geometry) (h k : Head) (cell : Slots) (stage : Stage) (a b c : Vie
 
       pub mount_ready : IsReady (mounted_by g k after stage index) d
       mount_ready = record {
-        sizes = λ going. record {
+        sizes = λ running. record {
           log = (log_size g, sizes 0 ∙ reads.sizes 0 ∙ log.header.size, omega arith);
           members = λ m inside counts. (member_size g, sizes (m + 1) ∙ to_c.sizes (m + 1) ∙ (member_read m inside counts).size, omega arith);
         };
-        stands = λ going. cell_after;
-        value = λ going w left. let from = put.now w left in (done_head from.origin w.disks from.was from.by.disks).1;
-        count = λ going. mount_knows.count;
+        stands = λ running. cell_after;
+        value = λ running w left. let from = put.now w left in (done_head from.origin w.disks from.was from.by.disks).1;
+        count = λ running. mount_knows.count;
       }
 
       pub mount_found : HasFound (mounted_by g k after stage index) a d

@@ -1,27 +1,15 @@
 -- Runs of calls that only read, and disks of which a crash leaves what a read gives.
-use Rattle.std.proofs.Common.{◌≡◌, ℕ, ◌+◌, ◌≤◌, Bool, true, false, IsTrue, Ok, refl, sym, ap, subst, ◌∙◌, arith}
+use Rattle.std.proofs.Common.{◌≡◌, ℕ, ◌+◌, ◌≤◌, Bool, true, false, IsTrue, Ok, sym, ap, subst, ◌∙◌, arith}
 use Rattle.trap_bank.specs.Disks.{Contents, View, Disks}
 use Rattle.trap_bank.specs.Calls.{Syncs}
 use Rattle.trap_bank.specs.Faults.{Rose}
 use Rattle.trap_bank.specs.Steps.{Moves, Same, OnlyReads}
-use Rattle.trap_bank.proofs.Moves.{synced_steps, same_then, no_moves}
+use Rattle.trap_bank.proofs.Moves.{synced_steps}
 use Rattle.trap_model.specs.declared.numbers.Geometry.{Geometry}
 use Rattle.trap_mount.specs.MountSteps.{IsStable}
 use Rattle.trap_mount.specs.Mounting.{Refuses, RefusesAs, MountFails, SizesShow}
 use Rattle.trap_mount.specs.declared.fault.MountFault.{MountFault}
 use Rattle.trap_mount.specs.declared.fault.MountFault.TheVariants.{NotAnArray, BadVersion, WrongMember, TooManyLost, Damaged, LogFault, MemberFault, OutOfMemory}
-
--- one run and then another
-pub reads_then : (a b c : View) → OnlyReads a b → OnlyReads b c → OnlyReads a c
-reads_then a b c first second = record {
-  same = λ told. second.same (subst IsTrue (sym first.moves.tells) told) ∙ first.same told;
-  sizes = λ e. second.sizes e ∙ first.sizes e;
-  moves = same_then a b c first.moves second.moves;
-}
-
--- no call at all
-pub reads_none : (v : View) → OnlyReads v v
-reads_none v = record { same = λ told. refl; sizes = λ e. refl; moves = no_moves v Same Same (λ x was. refl) }
 
 -- a bank that tells still does
 pub told_before : (a b : View) → OnlyReads a b → IsTrue b.tells → IsTrue a.tells
@@ -98,6 +86,6 @@ sizes_before g a b LogFault same shown = tt
 sizes_before g a b (MemberFault first second) same shown = (shown.0, sym (same (second + 1)) ∙ shown.1)
 sizes_before g a b OutOfMemory same shown = tt
 
--- a truth value is one
-pub one_bit : (b : Bool) → b ≡ false → b ≡ true → ⊥
-one_bit b first second = cc
+-- false isn't true
+pub false_true : (b : Bool) → b ≡ false → b ≡ true → ⊥
+false_true b first second = cc

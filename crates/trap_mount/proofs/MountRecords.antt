@@ -3,9 +3,10 @@ use Rattle.std.proofs.Common.{◌≡◌, ℕ, ◌+◌, ◌^◌, ◌<◌, ◌≤�
 use Rattle.std.proofs.lemmas.List.Elements.{All-head, All-tail}
 use Rattle.std.proofs.lemmas.List.{append_assoc}
 use Rattle.trap_bank.specs.Disks.{View, Disks}
+use Rattle.trap_bank.specs.Steps.{OnlyReads}
 use Rattle.trap_format.specs.declared.head.Head.{Head}
 use Rattle.trap_index.specs.Indexed.{Indexed, with_record, last_seq, last_time}
-use Rattle.trap_index.proofs.Numbered.{time_behind-push}
+use Rattle.trap_index.proofs.Numbered.{time_of_last-push}
 use Rattle.trap_index.proofs.Added.{IsNext}
 use Rattle.trap_index.specs.Describes.{Describes, headers_from}
 use Rattle.trap_model.specs.Image.{volume, block_of, IsImage, written}
@@ -20,13 +21,13 @@ use Rattle.trap_model.proofs.Records.{record_is_log_record, length-records}
 use Rattle.trap_model.proofs.Validity.{written_is_image}
 use Rattle.trap_model.specs.LogRecord.{IsRecordInRange}
 use Rattle.trap_ring.specs.Ring.{RingPlace}
-use Rattle.trap_scan.specs.Window.{IsWindow, IsLoaded, IsAhead, Looks}
+use Rattle.trap_scan.specs.Window.{IsWindow, IsLoaded, IsAhead}
 use Rattle.trap_scan.specs.Scan.{IsAtFirst, GivesNext, TakesNext, IsChecked}
 use Rattle.trap_scan.specs.declared.scan.Scan.{Scan}
 use Rattle.trap_scan.specs.declared.expected.Expected.{Expected}
 use Rattle.trap_scan.proofs.Chains.{Scanned, scanned_none, scanned_next}
 use Rattle.trap_mount.specs.Holding.{log_ring, HoldsBy}
-use Rattle.trap_mount.specs.Reading.{Begins, AreRecordsRead, Awaits, ReadsIndex}
+use Rattle.trap_mount.specs.Reading.{Begins, AreRecordsRead, Awaits, HasTaken, ReadsIndex}
 
 -- times that never fall end at no earlier one
 time_rises : (before : ℕ) (entries : List Entry) → NeverFall before entries → before ≤ time_after before entries
@@ -133,7 +134,7 @@ taken_may place a b old mid new i j r awaits taken more takes checked =
 
 -- one more is taken, and added
 pub taken_next : (place : RingPlace) (a b c : View) (old mid new : Scan) (i j k : Indexed) (r : LogRec) → Awaits old.expected i → Taken place a b old mid i j
-    → mid.seq < mid.expected.last → Looks b c → new.expected ≡ mid.expected → TakesNext mid new r → IsChecked mid r
+    → mid.seq < mid.expected.last → OnlyReads b c → new.expected ≡ mid.expected → TakesNext mid new r → IsChecked mid r
     → (IsTrue b.tells → IsLoaded place new.window b.now.disks) → (IsTrue b.tells → GivesNext place mid new b.now.disks r) → k ≡ with_record j r
     → Taken place a c old new i k
 taken_next place a b c old mid new i j k r awaits taken more looks expected takes checked loaded gives known = record {
@@ -146,7 +147,7 @@ taken_next place a b c old mid new i j k r awaits taken more looks expected take
 }
   where
     now : last_time k ≡ r.time
-    now = ap last_time known ∙ time_behind-push j.base_time j.recs r
+    now = ap last_time known ∙ time_of_last-push j.base_time j.recs r
 
     added_same : (i j k : Indexed) (r : LogRec) → k ≡ with_record j r → j ≡ record i { recs = j.recs } → k ≡ record i { recs = k.recs }
     added_same i j k r one two = cc
@@ -168,6 +169,19 @@ taken_next place a b c old mid new i j k r awaits taken more looks expected take
               (subst (λ (l : List LogRec). AreRecordsRead i.g.block l bytes) (sym (append_assoc j.recs (r ∷ []) records)) (reads.before (r ∷ records) (next.0, begins, is)));
         }
 
--- all are taken
+-- all are taken, and the index ends where they do
+pub has_taken : (place : RingPlace) (a b : View) (old new : Scan) (i j : Indexed) → Taken place a b old new i j → new.expected.last ≤ new.seq → HasTaken i j old.expected.last old.expected.last_time
+has_taken place a b old new i j taken done =
+    let expected = taken.scanned.expected in
+    record {
+      same = taken.same;
+      end = taken.end ∙ ends new.seq new.expected.last old.expected.last (ap (λ (e : Expected). e.last) expected) done new.numbered;
+      time_ = taken.last done ∙ ap (λ (e : Expected). e.last_time) expected;
+    }
+  where
+    ends : (seq last_ before : ℕ) → last_ ≡ before → last_ ≤ seq → seq ≤ last_ → seq ≡ before
+    ends seq last_ before same low high = omega (arith, same, low, high)
+
+-- and their records are read
 pub all_read : (place : RingPlace) (disks : Disks) (new : Scan) (size : ℕ) (recs : List LogRec) (bytes : List ℕ) → ReadsTo place disks new size recs bytes → AreRecordsRead size recs bytes
 all_read place disks new size recs bytes reads = subst (λ (l : List LogRec). AreRecordsRead size l bytes) (append-nil recs) (reads.before [] tt)

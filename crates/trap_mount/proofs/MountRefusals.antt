@@ -1,5 +1,6 @@
 -- Disks that hold a state are refused for nothing.
 use Rattle.std.proofs.Common.{◌≡◌, ◌≢◌, ◌⊎◌, ℕ, ◌+◌, ◌-◌, ◌^◌, ◌<◌, ◌≤◌, List, length, take, slice_index, Some, None, false, inl, inr, ⊎_elim, refl, sym, ap, subst, ◌∙◌, arith}
+use Rattle.std.proofs.lemmas.Option.{same_Some}
 use Rattle.trap_bank.specs.Disks.{Disks}
 use Rattle.trap_format.specs.LogDisk.{log_size}
 use Rattle.trap_format.specs.HeadValue.{lost_byte, head_value}
@@ -21,14 +22,11 @@ use Rattle.trap_stage.specs.Pending.{staged_of}
 use Rattle.trap_stage.proofs.FurtherSlots.{staged_of_sound}
 use Rattle.trap_mount.specs.Holding.{log_ring, IsHeadOf, HasLog, Holds, HoldsBy}
 use Rattle.trap_mount.specs.Creating.{BeginsLog}
-use Rattle.trap_mount.specs.Mounting.{HasHeader, HasHead, HasSlots, HasRecords, AreOut, IsDamage, IsOtherVersion, RefusesAs, is_refusal, history_of}
+use Rattle.trap_mount.specs.Mounting.{HasHeader, HasHead, HasSlots, HasRecords, AreOut, IsDamage, IsOtherVersion, RefusesAs, is_refusal, head_history}
 use Rattle.trap_mount.specs.declared.fault.MountFault.{MountFault}
 use Rattle.trap_mount.specs.declared.fault.MountFault.TheVariants.{NotAnArray, BadVersion, WrongMember, TooManyLost, Damaged, LogFault, MemberFault, OutOfMemory}
 use Rattle.trap_mount.proofs.Puts.{held_by_read}
 use Rattle.trap_mount.proofs.MountStands.{one_array}
-
-some_same : (a b : List ℕ) → Some a ≡ Some b → a ≡ b
-some_same a b e = cc
 
 -- the log's disk begins as one
 log_begins : (g : Geometry) (x : Disks) → HasLog g x → BeginsLog x
@@ -43,7 +41,7 @@ log_header_there : (g : Geometry) (x : Disks) → HasLog g x → HasHeader g x
 log_header_there g x log = record { begins = log_begins g x log; header = log.header; id = log.id; size = log.size }
 
 -- the records of a state are those that its head asks for
-records_asked : (g : Geometry) (h : Head) (s : State) → IsValid g s → IsHeadOf g s h → AreRecords (history_of g h) h.first h.base_time (h.last - h.first) (records s)
+records_asked : (g : Geometry) (h : Head) (s : State) → IsValid g s → IsHeadOf g s h → AreRecords (head_history g h) h.first h.base_time (h.last - h.first) (records s)
 records_asked g h s valid is = at h.last_time h.first h.base_time (h.last - h.first) (sym is.last_time) (sym is.first) (sym is.base_time) (count is.first is.last)
   where
     count : h.first ≡ s.first → h.last ≡ last s → length s.entries ≡ h.last - h.first
@@ -77,7 +75,7 @@ module _ (g : Geometry) (s : State) (x : Disks) (holds : Holds g s x) where
 
   other_version : (version : ℕ) → IsOtherVersion x version → ⊥
   other_version version other =
-      let same : head_value holds.head ≡ other.bytes = some_same (head_value holds.head) other.bytes (sym holds.by.value ∙ other.value) in
+      let same : head_value holds.head ≡ other.bytes = same_Some (head_value holds.head) other.bytes (sym holds.by.value ∙ other.value) in
       other.other (sym other.is ∙ ap (λ (bytes : List ℕ). slice_index bytes 0) (sym same) ∙ holds.by.fits.head.head.version)
 
   two_out : (k : Geometry) (h : Head) (first second : ℕ) → HasRecords k h x → AreOut k h x first second → ⊥
@@ -115,13 +113,13 @@ module _ (g : Geometry) (s : State) (x : Disks) (holds : Holds g s x) where
           high end most = omega arith
 
       bad_record : (k : Geometry) (h : Head) (window : List ℕ) (at : ℕ) → HasSlots k h x → IsWindow (log_ring k) h.first_off h.end_off window x
-          → IsBroken (history_of k h) h.first h.base_time (h.last - h.first) window at → ⊥
+          → IsBroken (head_history k h) h.first h.base_time (h.last - h.first) window at → ⊥
       bad_record k h window at slots is broken =
           let by = held_at k h slots.head in
           let same : window ≡ records s = window_one (log_ring k) h.first_off h.end_off window (records s) x is (records_window k h s x by) in
           let most = k.within.block_most in
-          right_unbroken (history_of k h) h.first h.base_time (h.last - h.first) (records s) at (omega arith) (records_asked k h s by.fits.valid by.fits.head)
-          (subst (λ (bytes : List ℕ). IsBroken (history_of k h) h.first h.base_time (h.last - h.first) bytes at) same broken)
+          right_unbroken (head_history k h) h.first h.base_time (h.last - h.first) (records s) at (omega arith) (records_asked k h s by.fits.valid by.fits.head)
+          (subst (λ (bytes : List ℕ). IsBroken (head_history k h) h.first h.base_time (h.last - h.first) bytes at) same broken)
 
   pub never_refused : (why : MountFault) → RefusesAs x why → is_refusal why ≡ false
   never_refused NotAnArray refused = absurd (refused (log_begins g x holds.by.fits.log))

@@ -75,7 +75,8 @@ module _ (g : Geometry) (writes : List Staged) (blocks : List (List ℕ)) (x : D
       subst (λ (n : ℕ). MembersHold g None n writes blocks x) (zero_before refl ∙ sym (zero_now refl)) holds
   members_changed None (Some m) still inside from mark zero_before zero_now holds =
       let zero_ : now ≡ 0 = ⊎_elim (λ (same : now ≡ before). same ∙ zero_before refl) (λ (none : now ≡ 0). none) mark in
-      subst (λ (n : ℕ). MembersHold g (Some m) n writes blocks x) (sym zero_) (lost_members g None before writes blocks x m holds (λ k in_k out. holds.one_out k m in_k (inside m refl) out (inr absent)))
+      subst (λ (n : ℕ). MembersHold g (Some m) n writes blocks x) (sym zero_)
+      (lost_members g None before writes blocks x m holds (λ k in_k out. holds.one_out k m in_k (inside m refl) out (inr absent)))
     where
       absent : x (m + 1) ≡ None
       absent = ⊎_elim (λ (recorded : None ≡ Some m). cc) (λ none. none.1) (from m refl)
@@ -84,7 +85,9 @@ module _ (g : Geometry) (writes : List Staged) (blocks : List (List ℕ)) (x : D
       let same : m ≡ k = one (still m refl) in
       subst (λ (n : ℕ). MembersHold g (Some n) now writes blocks x) same (⊎_elim
       (λ (kept : now ≡ before). subst (λ (n : ℕ). MembersHold g (Some m) n writes blocks x) (sym kept) holds)
-      (λ (none : now ≡ 0). subst (λ (n : ℕ). MembersHold g (Some m) n writes blocks x) (sym none) (forgotten_members g (Some m) before writes blocks x m holds (subst (λ (n : ℕ). n < g.members) (sym same) (inside k refl)) refl))
+      (λ (none : now ≡ 0). subst
+      (λ (n : ℕ). MembersHold g (Some m) n writes blocks x) (sym none)
+      (forgotten_members g (Some m) before writes blocks x m holds (subst (λ (n : ℕ). n < g.members) (sym same) (inside k refl)) refl))
       mark)
     where
       one : Some k ≡ Some m → m ≡ k

@@ -1,5 +1,6 @@
 -- Disks are refused for one thing at most: each refusal says how far mounting comes, and that it comes no further.
 use Rattle.std.proofs.Common.{◌≡◌, ◌≢◌, ◌⊎◌, ℕ, zero, suc, ◌+◌, ◌-◌, ◌<◌, ◌≤◌, List, slice_index, Some, None, Bool, true, false, inl, inr, ⊎_elim, refl, sym, ap, ap₂, subst, ◌∙◌, arith}
+use Rattle.std.proofs.lemmas.Option.{same_Some}
 use Rattle.trap_bank.specs.Disks.{Disks, region}
 use Rattle.trap_cell.specs.Slots.{cell_value}
 use Rattle.trap_format.specs.HeadValue.{lost_byte, IsHead, IsHeadValue, head_value}
@@ -16,12 +17,9 @@ use Rattle.trap_stage.specs.Found.{IsDamagedSlot}
 use Rattle.trap_stage.proofs.OneAnswer.{first_damaged}
 use Rattle.trap_mount.specs.Holding.{head_place, log_ring}
 use Rattle.trap_mount.specs.Creating.{BeginsLog}
-use Rattle.trap_mount.specs.Mounting.{HasHeader, HasHead, HasSlots, HasRecords, HasMembers, AreOut, IsWrong, IsDamage, IsOtherVersion, RefusesAs, is_refusal, history_of}
+use Rattle.trap_mount.specs.Mounting.{HasHeader, HasHead, HasSlots, HasRecords, HasMembers, AreOut, IsWrong, IsDamage, IsOtherVersion, RefusesAs, is_refusal, head_history}
 use Rattle.trap_mount.specs.declared.fault.MountFault.{MountFault}
 use Rattle.trap_mount.specs.declared.fault.MountFault.TheVariants.{NotAnArray, BadVersion, WrongMember, TooManyLost, Damaged, LogFault, MemberFault, OutOfMemory}
-
-some_list : (a b : List ℕ) → Some a ≡ Some b → a ≡ b
-some_list a b e = cc
 
 -- two numbers of which none is the lower
 by_order : (m n : ℕ) → (m < n → ⊥) → (n < m → ⊥) → m ≡ n
@@ -67,7 +65,7 @@ one_header : (g k : Geometry) (x : Disks) → HasHeader g x → HasHeader k x �
 one_header g k x a b = logs_same g k (region x 0 0 64) a.id b.id a.header b.header
 
 one_head : (g : Geometry) (h l : Head) (x : Disks) → HasHead g h x → HasHead g l x → h ≡ l
-one_head g h l x a b = heads_same g h l (head_value h) (record { head = a.head; spelled = refl }) (record { head = b.head; spelled = some_list (head_value h) (head_value l) (sym a.value ∙ b.value) })
+one_head g h l x a b = heads_same g h l (head_value h) (record { head = a.head; spelled = refl }) (record { head = b.head; spelled = same_Some (head_value h) (head_value l) (sym a.value ∙ b.value) })
 
 -- what is said of the one is said of the other
 as_one : (P : Geometry → Head → Type 0) (g k : Geometry) (h l : Head) (x : Disks) → HasHead g h x → HasHead k l x → P k l → P g h
@@ -89,7 +87,7 @@ Answer x (suc (suc (suc zero))) why =
     (g : Geometry) × (h : Head) × (offset : ℕ) × HasHead g h x × IsDamagedSlot g h.drained h.last x offset × (why ≡ Damaged offset)
 Answer x (suc (suc (suc (suc zero)))) why =
     (g : Geometry) × (h : Head) × (window : List ℕ) × (at : ℕ) × HasHead g h x × IsWindow (log_ring g) h.first_off h.end_off window x
-    × IsBroken (history_of g h) h.first h.base_time (h.last - h.first) window at × (why ≡ Damaged (ring_pos (log_ring g) (h.first_off + at)))
+    × IsBroken (head_history g h) h.first h.base_time (h.last - h.first) window at × (why ≡ Damaged (ring_pos (log_ring g) (h.first_off + at)))
 Answer x (suc (suc (suc (suc (suc zero))))) why =
     (g : Geometry) × (h : Head) × (first : ℕ) × (second : ℕ) × HasHead g h x × AreOut g h x first second × (why ≡ TooManyLost first second)
 Answer x (suc (suc (suc (suc (suc (suc zero)))))) why =
@@ -105,23 +103,24 @@ record Ends (x : Disks) (why : MountFault) (n : ℕ) : Type 0 where
 module _ (x : Disks) where
   -- ---- no further
 
-  not_head : (g : Geometry) → HasHeader g x → ((bytes : List ℕ) → cell_value head_place x ≡ Some bytes → (slice_index bytes 0 ≡ 1) × ((h : Head) → IsHeadValue g h bytes → ⊥)) → (k : Geometry) (h : Head) → HasHead k h x → ⊥
+  not_head : (g : Geometry) → HasHeader g x → ((bytes : List ℕ) → cell_value head_place x ≡ Some bytes → (slice_index bytes 0 ≡ 1) × ((h : Head) → IsHeadValue g h bytes → ⊥))
+      → (k : Geometry) (h : Head) → HasHead k h x → ⊥
   not_head g header none k h head =
       let here = subst (λ (n : Geometry). HasHead n h x) (one_header k g x head.header header) head in
       (none (head_value h) here.value).1 h (record { head = here.head; spelled = refl })
 
   not_version : (version : ℕ) → IsOtherVersion x version → (k : Geometry) (h : Head) → HasHead k h x → ⊥
   not_version version other k h head =
-      let same : head_value h ≡ other.bytes = some_list (head_value h) other.bytes (sym head.value ∙ other.value) in
+      let same : head_value h ≡ other.bytes = same_Some (head_value h) other.bytes (sym head.value ∙ other.value) in
       other.other (sym other.is ∙ ap (λ (bytes : List ℕ). slice_index bytes 0) (sym same) ∙ head.head.version)
 
   not_records : (g : Geometry) (h : Head) (window : List ℕ) (at : ℕ) → IsWindow (log_ring g) h.first_off h.end_off window x
-      → IsBroken (history_of g h) h.first h.base_time (h.last - h.first) window at → HasRecords g h x → ⊥
+      → IsBroken (head_history g h) h.first h.base_time (h.last - h.first) window at → HasRecords g h x → ⊥
   not_records g h window at is broken records =
       let same : window ≡ records.window = window_one (log_ring g) h.first_off h.end_off window records.window x is records.is in
       let most = g.within.block_most in
-      right_unbroken (history_of g h) h.first h.base_time (h.last - h.first) records.window at (omega arith) records.records
-      (subst (λ (bytes : List ℕ). IsBroken (history_of g h) h.first h.base_time (h.last - h.first) bytes at) same broken)
+      right_unbroken (head_history g h) h.first h.base_time (h.last - h.first) records.window at (omega arith) records.records
+      (subst (λ (bytes : List ℕ). IsBroken (head_history g h) h.first h.base_time (h.last - h.first) bytes at) same broken)
 
   abbrev FirstOut : Geometry → Head → ℕ → Type 0
   FirstOut g h first = (h.lost ≡ Some first) ⊎ ((h.lost ≡ None) × (first < g.members) × (x (first + 1) ≡ None) × ((m : ℕ) → m < first → x (m + 1) ≢ None))
@@ -222,15 +221,15 @@ module _ (x : Disks) where
   same_wrong g h a b wrong_a wrong_b = by_order a b (λ less_. wrong_a.wrong (wrong_b.lowest a less_ wrong_a.counts)) (λ more. wrong_b.wrong (wrong_a.lowest b more wrong_b.counts))
 
   same_version : (v w : ℕ) (bytes other : List ℕ) → cell_value head_place x ≡ Some bytes → cell_value head_place x ≡ Some other → slice_index bytes 0 ≡ v → slice_index other 0 ≡ w → v ≡ w
-  same_version v w bytes other is_v is_w at_v at_w = sym at_v ∙ ap (λ (xs : List ℕ). slice_index xs 0) (some_list bytes other (sym is_v ∙ is_w)) ∙ at_w
+  same_version v w bytes other is_v is_w at_v at_w = sym at_v ∙ ap (λ (xs : List ℕ). slice_index xs 0) (same_Some bytes other (sym is_v ∙ is_w)) ∙ at_w
 
   same_broken : (g : Geometry) (h : Head) (window other : List ℕ) (a b : ℕ) → IsWindow (log_ring g) h.first_off h.end_off window x → IsWindow (log_ring g) h.first_off h.end_off other x
-      → IsBroken (history_of g h) h.first h.base_time (h.last - h.first) window a → IsBroken (history_of g h) h.first h.base_time (h.last - h.first) other b → a ≡ b
+      → IsBroken (head_history g h) h.first h.base_time (h.last - h.first) window a → IsBroken (head_history g h) h.first h.base_time (h.last - h.first) other b → a ≡ b
   same_broken g h window other a b is_a is_b broken_a broken_b =
       let same : other ≡ window = window_one (log_ring g) h.first_off h.end_off other window x is_b is_a in
       let most = g.within.block_most in
-      one_broken (history_of g h) h.first h.base_time (h.last - h.first) window a b (omega arith) broken_a
-      (subst (λ (bytes : List ℕ). IsBroken (history_of g h) h.first h.base_time (h.last - h.first) bytes b) same broken_b)
+      one_broken (head_history g h) h.first h.base_time (h.last - h.first) window a b (omega arith) broken_a
+      (subst (λ (bytes : List ℕ). IsBroken (head_history g h) h.first h.base_time (h.last - h.first) bytes b) same broken_b)
 
   one_answer : (n : ℕ) (a b : MountFault) → Answer x n a → Answer x n b → a ≡ b
   one_answer zero a b at_a at_b = at_a ∙ sym at_b
@@ -243,7 +242,9 @@ module _ (x : Disks) where
       at_a.5 ∙ ap Damaged (first_damaged at_a.0 at_a.1.drained at_a.1.last x at_a.2 at_b.2 at_a.4
       (as_one (λ g h. IsDamagedSlot g h.drained h.last x at_b.2) at_a.0 at_b.0 at_a.1 at_b.1 x at_a.3 at_b.3 at_b.4)) ∙ sym at_b.5
   one_answer (suc (suc (suc (suc zero)))) a b at_a at_b =
-      let there = as_one (λ g h. IsWindow (log_ring g) h.first_off h.end_off at_b.2 x × IsBroken (history_of g h) h.first h.base_time (h.last - h.first) at_b.2 at_b.3 × (b ≡ Damaged (ring_pos (log_ring g) (h.first_off + at_b.3))))
+      let there = as_one
+      (λ g h. IsWindow (log_ring g) h.first_off h.end_off at_b.2 x × IsBroken (head_history g h) h.first h.base_time (h.last - h.first) at_b.2 at_b.3 ×
+      (b ≡ Damaged (ring_pos (log_ring g) (h.first_off + at_b.3))))
       at_a.0 at_b.0 at_a.1 at_b.1 x at_a.4 at_b.4 (at_b.5, at_b.6, at_b.7) in
       at_a.7 ∙ ap (λ (at : ℕ). Damaged (ring_pos (log_ring at_a.0) (at_a.1.first_off + at))) (same_broken at_a.0 at_a.1 at_a.2 at_b.2 at_a.3 at_b.3 at_a.5 there.0 at_a.6 there.1) ∙ sym there.2
   one_answer (suc (suc (suc (suc (suc zero))))) a b at_a at_b =

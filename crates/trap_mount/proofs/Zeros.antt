@@ -40,7 +40,8 @@ xor_but_zeros size one (suc n) block_of all =
     let before = xor_but_zeros size one n block_of (λ m inside apart. all m (omega (arith, inside)) apart) in
     ⊎_elim
     (λ (is : n ≡ one). rw (eq-eqb n one is) before)
-    (λ (apart : n ≢ one). rw (ne_eqb n one apart) (ap (λ (l : List ℕ). xor l (block_of n)) before ∙ ap (xor (zeros size)) (all n (omega arith) apart) ∙ xor-zeros (zeros size) size (length-replicate size 0)))
+    (λ (apart : n ≢ one). rw (ne_eqb n one apart)
+    (ap (λ (l : List ℕ). xor l (block_of n)) before ∙ ap (xor (zeros size)) (all n (omega arith) apart) ∙ xor-zeros (zeros size) size (length-replicate size 0)))
     (cases_eq n one)
 
 -- a data place of the zero image is zero
@@ -50,7 +51,8 @@ data_is_zero g row member below inside apart = get_or-replicate (volume g) (bloc
 -- each place of the zero image's table is zero
 pub zero_table : (g : Geometry) (row member : ℕ) → row < g.rows → member < g.members → table g (zero_image g) row member ≡ replicate g.block 0
 zero_table g row member below inside = ⊎_elim
-    (λ (is : member ≡ parity_member g row). table_at_parity g (zero_image g) row member is ∙ xor_but_zeros g.block (parity_member g row) g.members (data_place g (zero_image g) row) (λ m among apart. data_is_zero g row m below among apart))
+    (λ (is : member ≡ parity_member g row). table_at_parity g (zero_image g) row member is
+    ∙ xor_but_zeros g.block (parity_member g row) g.members (data_place g (zero_image g) row) (λ m among apart. data_is_zero g row m below among apart))
     (λ (apart : member ≢ parity_member g row). table_elsewhere g (zero_image g) row member apart ∙ data_is_zero g row member below inside apart)
     (cases_eq member (parity_member g row))
 

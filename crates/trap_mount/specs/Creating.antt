@@ -1,13 +1,13 @@
 -- Making an array on disks that aren't there.
-use Rattle.std.specs.Prelude.{◌≡◌, ◌≢◌, ◌⊎◌, ℕ, ◌+◌, ◌*◌, ◌<◌, ◌≤◌, List, ◌++◌, replicate, take, drop, Some, None, IsTrue}
+use Rattle.std.specs.Prelude.{◌≡◌, ◌≢◌, ◌⊎◌, ℕ, ◌+◌, ◌*◌, ◌<◌, ◌≤◌, List, ◌++◌, replicate, take, drop, Some, None}
 use Rattle.trap_bank.specs.Disks.{Disks, View, byte, region, size_of}
 use Rattle.trap_bank.specs.Faults.{Rose}
-use Rattle.trap_bank.specs.Steps.{Moves, Same}
-use Rattle.trap_cell.specs.Slots.{cell_value}
+use Rattle.trap_cell.specs.Slots.{Stands, begun, cell_value}
 use Rattle.trap_format.specs.LogDisk.{log_start, log_size, log_header, slots_at}
 use Rattle.trap_format.specs.MemberDisk.{member_size, member_header}
 use Rattle.trap_format.specs.HeadValue.{head_value}
 use Rattle.trap_format.specs.declared.head.Head.{Head}
+use Rattle.trap_model.specs.Limits.{open_gate}
 use Rattle.trap_model.specs.State.{fresh}
 use Rattle.trap_model.specs.declared.numbers.Geometry.{Geometry}
 use Rattle.trap_mount.specs.Holding.{head_place, HasLog, Holds}
@@ -44,19 +44,14 @@ pub record IsLowest (g : Geometry) (v : View) (d : ℕ) : Type 0 where
 abbrev pub NoneIsThere : Geometry → View → Type 0
 NoneIsThere g v = (d : ℕ) → d ≤ g.members → v.sizes d ≡ None
 
--- nothing was changed, by a read or by a crash
-pub record IsUntouched (old new : View) : Type 0 where
-  pub sizes : (e : ℕ) → new.sizes e ≡ old.sizes e
-  pub same : IsTrue old.tells → new.now ≡ old.now
-  pub moves : Moves old new Same Same
-
--- what failed has a count of faults that rose; a member that did has both numbers
+-- What failed has a count of faults that rose. A member that did has both numbers, and disk 0 has
+-- its size from before then: the log isn't made yet.
 abbrev pub CreateFails : Geometry → CreateFault → View → View → Type 0
 CreateFails g (Exists disk) old new = Unit {0}
 CreateFails g LogFault old new = Rose (old.faults 0) (new.faults 0)
 CreateFails g (MemberFault first second) old new =
     (first ≡ second) × (second < g.members)
-    × Rose (old.faults (second + 1)) (new.faults (second + 1))
+    × Rose (old.faults (second + 1)) (new.faults (second + 1)) × (new.sizes 0 ≡ old.sizes 0)
 
 -- every disk but this one is the same
 abbrev pub OnlyDisk : ℕ → Disks → Disks → Type 0
@@ -76,9 +71,14 @@ pub record HasMember (g : Geometry) (m : ℕ) (old new : Disks) : Type 0 where
   pub disk : new (m + 1) ≡ Some (new_member g m)
 
 -- so are the disks of the first members
-pub record HasMembers (g : Geometry) (count : ℕ) (old new : Disks) : Type 0 where
+pub record HasNewMembers (g : Geometry) (count : ℕ) (old new : Disks) : Type 0 where
   pub others : OnlyMembers g old new
   pub disks : (m : ℕ) → m < count → new (m + 1) ≡ Some (new_member g m)
+
+-- the members are made before the log: disk 0 is as it was, or each member's disk is new
+abbrev pub MembersFirst : Geometry → Disks → Disks → Type 0
+MembersFirst g old new =
+    (new 0 ≡ old 0) ⊎ ((m : ℕ) → m < g.members → new (m + 1) ≡ Some (new_member g m))
 
 -- the head before the first write
 abbrev pub fresh_head : Head
@@ -96,26 +96,28 @@ fresh_head = record {
 }
 
 -- the gate of disk 0 is off, or the disk is absent
-abbrev pub IsGateOff : Disks → Type 0
-IsGateOff disks = byte disks 0 0 ≢ 165
+abbrev pub IsLogGateOff : Disks → Type 0
+IsLogGateOff disks = byte disks 0 0 ≢ open_gate
 
 -- disk 0 is a new log but for its gate, which is off
 pub record IsShutLog (g : Geometry) (disks : Disks) : Type 0 where
-  pub gate : IsGateOff disks
+  pub gate : IsLogGateOff disks
   pub size : size_of (disks 0) ≡ Some (log_size g)
   pub rest : region disks 0 1 63 ≡ drop 1 (log_header g)
   pub value : cell_value head_place disks ≡ Some (head_value fresh_head)
+  pub cell : Stands (begun head_place) disks
 
--- disk 0 is a new log: it has its size and its header, and the cell's value is the head before the
--- first write
+-- disk 0 is a new log: it has its size and its header, and the head's cell was begun with the head
+-- before the first write
 pub record IsNewLog (g : Geometry) (disks : Disks) : Type 0 where
   pub log : HasLog g disks
   pub value : cell_value head_place disks ≡ Some (head_value fresh_head)
+  pub cell : Stands (begun head_place) disks
 
 -- while the log is made with its gate off
 pub record ShutsLog (old new : Disks) : Type 0 where
   pub others : OnlyDisk 0 old new
-  pub disk : (new 0 ≡ old 0) ⊎ IsGateOff new
+  pub disk : (new 0 ≡ old 0) ⊎ IsLogGateOff new
 
 -- and when it is made, with the gate off
 pub record HasShutLog (g : Geometry) (old new : Disks) : Type 0 where
@@ -125,7 +127,7 @@ pub record HasShutLog (g : Geometry) (old new : Disks) : Type 0 where
 -- while the log is made, with its gate last
 pub record MakesLog (g : Geometry) (old new : Disks) : Type 0 where
   pub others : OnlyDisk 0 old new
-  pub disk : (new 0 ≡ old 0) ⊎ (IsGateOff new ⊎ IsNewLog g new)
+  pub disk : (new 0 ≡ old 0) ⊎ (IsLogGateOff new ⊎ IsNewLog g new)
 
 -- and when it is made
 pub record HasNewLog (g : Geometry) (old new : Disks) : Type 0 where

@@ -30,7 +30,7 @@ pub record MountsFor (a : Mounted) (old new : View) : Type 0 where
   pub stands : (g : Geometry) (s : State) → IsTrue old.tells → Holds g s old.now.disks → (a.g ≡ g)
       × Always new (StandsFor a s)
   pub ready : IsReady a new
-  pub going : a.is_stopped ≡ false
+  pub running : a.is_stopped ≡ false
   pub found : HasFound a old new
   pub knows : KnowsDisks a old
   pub head : Moves old new (MayPutHead old new) (HasPutHead old new a.head)

@@ -1,11 +1,12 @@
 -- What the steps of mounting have found, each over the disks as they were on entry to it.
 use Rattle.std.specs.Prelude.{◌≡◌, ◌≢◌, ◌⊎◌, ℕ, ◌+◌, ◌<◌, Option, Some, None, IsTrue}
 use Rattle.trap_bank.specs.Disks.{Disks, View}
+use Rattle.trap_bank.specs.Calls.{Fits}
 use Rattle.trap_bank.specs.Faults.{Rose}
 use Rattle.trap_bank.specs.Steps.{Always}
 use Rattle.trap_cell.specs.Slots.{Slots, Stands, cell_value}
 use Rattle.trap_cell.specs.Steps.{PutsIn, IsPut}
-use Rattle.trap_format.specs.LogDisk.{log_size}
+use Rattle.trap_format.specs.LogDisk.{log_size, slots_at}
 use Rattle.trap_format.specs.MemberDisk.{member_size}
 use Rattle.trap_format.specs.HeadValue.{IsHead, head_value}
 use Rattle.trap_format.specs.declared.head.Head.{Head}
@@ -104,6 +105,12 @@ pub record FindsMembers (g : Geometry) (h k : Head) (old new : View) : Type 0 wh
   pub others : ReadsMembers g k.lost g.members old new
   pub own : (m : ℕ) → k.lost ≡ Some m → 0 < k.rebuilt → ReadsMember g m old new
   pub found : IsTrue old.tells → FoundLost g h k old new
+
+-- the head's cell is known, whatever a crash leaves, and disk 0 has room for it
+pub record IsHeadCell (cell : Slots) (v : View) : Type 0 where
+  pub place : cell.place ≡ head_place
+  pub stands : Always v (Stands cell)
+  pub room : Fits v 0 slots_at
 
 -- the head is put where it isn't the one that was found, or nothing is done
 abbrev pub MayPut : Slots → Head → Head → Disks → Disks → Type 0

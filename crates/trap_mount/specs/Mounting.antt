@@ -12,7 +12,7 @@ use Rattle.trap_model.specs.declared.history.State.{State}
 use Rattle.trap_raid.specs.Members.{IsMember, IsOut}
 use Rattle.trap_mount.specs.Holding.{head_place, HoldsBy}
 use Rattle.trap_mount.specs.Mounted.{Mounted}
-pub use Rattle.trap_mount.specs.OnDisks.{HasHeader, HasHead, HasSlots, HasRecords, HasMembers, history_of}
+pub use Rattle.trap_mount.specs.OnDisks.{HasHeader, HasHead, HasSlots, HasRecords, HasMembers, head_history}
 pub use Rattle.trap_mount.specs.Refusing.{AreOut, IsWrong, IsFailing, IsDamage, IsOtherVersion, RefusesAs, Refuses, is_refusal, names_member, AreAbsent, MountFails, SizesShow}
 
 -- nothing but the slot of the head's cell that isn't current changed, and the cell has the same

@@ -34,15 +34,15 @@ pub record HasSlots (g : Geometry) (h : Head) (disks : Disks) : Type 0 where
   pub slots : (q : ℕ) → h.drained < q → q ≤ h.last → IsSlot g q disks
 
 -- what the records of the retained entries are of
-abbrev pub history_of : Geometry → Head → History
-history_of g h = record { size = g.block; volume = volume g; last_time = h.last_time }
+abbrev pub head_history : Geometry → Head → History
+head_history g h = record { size = g.block; volume = volume g; last_time = h.last_time }
 
 -- and the records of the retained entries stand in the ring
 pub record HasRecords (g : Geometry) (h : Head) (disks : Disks) : Type 0 where
   pub slots : HasSlots g h disks
   pub window : List ℕ
   pub is : IsWindow (log_ring g) h.first_off h.end_off window disks
-  pub records : AreRecords (history_of g h) h.first h.base_time (h.last - h.first) window
+  pub records : AreRecords (head_history g h) h.first h.base_time (h.last - h.first) window
 
 -- and no second member is out
 pub record HasMembers (g : Geometry) (h : Head) (disks : Disks) : Type 0 where

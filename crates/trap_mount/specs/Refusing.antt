@@ -15,7 +15,7 @@ use Rattle.trap_scan.specs.Window.{IsWindow}
 use Rattle.trap_stage.specs.Found.{IsDamagedSlot}
 use Rattle.trap_mount.specs.Holding.{head_place, log_ring}
 use Rattle.trap_mount.specs.Creating.{BeginsLog}
-use Rattle.trap_mount.specs.OnDisks.{HasHeader, HasHead, HasSlots, HasRecords, HasMembers, history_of}
+use Rattle.trap_mount.specs.OnDisks.{HasHeader, HasHead, HasSlots, HasRecords, HasMembers, head_history}
 use Rattle.trap_mount.specs.declared.fault.MountFault.{MountFault}
 use Rattle.trap_mount.specs.declared.fault.MountFault.TheVariants.{NotAnArray, BadVersion, WrongMember, TooManyLost, Damaged, LogFault, MemberFault, OutOfMemory}
 
@@ -57,7 +57,7 @@ IsDamage disks offset =
     × IsDamagedSlot g h.drained h.last disks offset)
     ⊎ ((g : Geometry) × (h : Head) × (window : List ℕ) × (at : ℕ) × HasSlots g h disks
     × IsWindow (log_ring g) h.first_off h.end_off window disks
-    × IsBroken (history_of g h) h.first h.base_time (h.last - h.first) window at
+    × IsBroken (head_history g h) h.first h.base_time (h.last - h.first) window at
     × (offset ≡ ring_pos (log_ring g) (h.first_off + at)))))
 
 -- the head has another version

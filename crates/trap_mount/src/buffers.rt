@@ -5,15 +5,16 @@ ghost use Rattle.trap_mount.specs.Memory.{HaveBlocksOf};
 
 use std::alloc::{AllocError as OutOfMemory, Global};
 use std::marker::Model;
-use trap_model::Geometry;
+use trap_model::{Geometry, RECORD_HEADER_BYTES};
+use trap_pool::Pool;
 
-/// Room for what a write changes, for the parity of its row, for a block more, for a code, and for
-/// a record.
+/// The most leases that a call takes at once.
+const LEASES: usize = 6;
+
+/// A region of blocks to lease, and room for a code and for a record.
 #[derive(Drop)]
 pub struct Buffers {
-    pub delta: Vec<u8>,
-    pub parity: Vec<u8>,
-    pub scratch: Vec<u8>,
+    pub pool: Pool,
     pub code: Vec<u8>,
     pub spelled: Vec<u8>,
 }
@@ -24,9 +25,7 @@ impl Model for Buffers {
     ghost Value = { memory.Buffers };
 
     ghost view = { λ b. record {
-      delta = b.delta.items;
-      parity = b.parity.items;
-      scratch = b.scratch.items;
+      pool = b.pool;
       code = b.code.items;
       spelled = b.spelled.items;
     } };
@@ -38,12 +37,12 @@ impl Buffers {
         ensures { IfOk result (λ buffers. HaveBlocksOf g.now.block buffers) }
     {
         let block = usize::from(g.block);
+        let code = block + 7;
+        let record = RECORD_HEADER_BYTES as usize + 2 * code;
         Ok(Buffers {
-            delta: vec![in alloc; 0u8; block]?,
-            parity: vec![in alloc; 0u8; block]?,
-            scratch: vec![in alloc; 0u8; block]?,
-            code: vec![in alloc; 0u8; block + 7]?,
-            spelled: vec![in alloc; 0u8; 26 + 2 * (block + 7)]?,
+            pool: Pool::new(alloc, LEASES, block)?,
+            code: vec![in alloc; 0u8; code]?,
+            spelled: vec![in alloc; 0u8; record]?,
         })
     }
 }

@@ -2,11 +2,11 @@
 
 ghost use Rattle.std.specs.Prelude.{◌≡◌, ◌≢◌, ◌↔◌, ◌≤◌, ◌<◌, ◌^◌, ℕ, ◌+◌, OnOk, OnErr, IsTrue, ◌⊎◌, IsErrOf, IsOk, IfErr, IfSome, IfNone, None, Some};
 ghost use Rattle.trap_bank.specs.Faults.{Rose};
-ghost use Rattle.trap_bank.specs.Steps.{Moves};
+ghost use Rattle.trap_bank.specs.Steps.{Moves, OnlyReads};
 ghost use Rattle.trap_format.specs.LogDisk.{log_size};
 ghost use Rattle.trap_format.specs.MemberDisk.{member_size};
-ghost use Rattle.trap_mount.specs.CreateEnds.{IsMade, IsMaking, OthersStay};
-ghost use Rattle.trap_mount.specs.Creating.{CreateFails, IsLowest, NoneIsThere, IsUntouched, AreSized, OnlyDisk, OnlyMembers, HasMember, HasMembers, ShutsLog, HasShutLog, MakesLog, HasNewLog};
+ghost use Rattle.trap_mount.specs.CreateEnds.{IsMade, IsMaking, KeepsOrder, DisksBeyondStay};
+ghost use Rattle.trap_mount.specs.Creating.{CreateFails, IsLowest, NoneIsThere, AreSized, OnlyDisk, OnlyMembers, HasMember, HasNewMembers, ShutsLog, HasShutLog, MakesLog, HasNewLog};
 ghost use Rattle.trap_mount.specs.declared.fault.CreateFault.TheVariants as fault;
 
 use crate::CreateFault;
@@ -90,7 +90,7 @@ fn create_member<B: Bank>(bank: &mut B, g: &Geometry, member: u8) -> Result<(), 
 /// Makes the disks of all members.
 fn create_members<B: Bank>(bank: &mut B, g: &Geometry) -> Result<(), MemberFailed>
     ensures ok { OnOk result (Moves (B.view bank.old) (B.view bank.new)
-        (OnlyMembers g.now) (HasMembers g.now g.now.members)) }
+        (OnlyMembers g.now) (HasNewMembers g.now g.now.members)) }
     ensures made { OnOk result (AreSized g.now g.now.members (B.view bank.new)) }
     ensures sizes { (e : ℕ) → (e ≡ 0) ⊎ (g.now.members < e)
         → (B.view bank.new).sizes e ≡ (B.view bank.old).sizes e }
@@ -172,16 +172,19 @@ pub fn create<B: Bank>(bank: &mut B, g: &Geometry) -> Result<(), CreateFault>
     ensures exists { (d : ℕ) → IsErrOf result (fault.Exists d)
         ↔ IsLowest g.now (B.view bank.old) d }
     ensures untouched { (d : ℕ) → IsLowest g.now (B.view bank.old) d
-        → IsUntouched (B.view bank.old) (B.view bank.new) }
+        → OnlyReads (B.view bank.old) (B.view bank.new) }
     ensures cause { IfErr result (λ why.
         CreateFails g.now why (B.view bank.old) (B.view bank.new)) }
 
     // The disks beyond the members stay.
-    ensures beside { OthersStay g.now (B.view bank.old) (B.view bank.new) }
+    ensures beside { DisksBeyondStay g.now (B.view bank.old) (B.view bank.new) }
 
     // Stopped at any moment, disk 0 is no log, or the disks hold the fresh array.
     ensures making { NoneIsThere g.now (B.view bank.old)
         → IsMaking g.now (B.view bank.old) (B.view bank.new) }
+
+    // Stopped at any moment, the members were made before the log.
+    ensures order { KeepsOrder g.now (B.view bank.old) (B.view bank.new) }
 {
     if let Some(disk) = lowest(bank, g) {
         return Err(CreateFault::Exists { disk });

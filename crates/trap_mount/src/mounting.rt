@@ -4,15 +4,12 @@ ghost use Rattle.std.specs.Prelude.{◌≡◌, ◌≢◌, ◌↔◌, ◌≤◌, 
 ghost use Rattle.std.specs.Option.{ForSome};
 ghost use Rattle.trap_bank.specs.Disks.{Quiet};
 ghost use Rattle.trap_bank.specs.Faults.{Rose};
-ghost use Rattle.trap_bank.specs.Calls.{Fits};
-ghost use Rattle.trap_bank.specs.Steps.{Moves, Always};
-ghost use Rattle.trap_cell.specs.Slots.{Stands};
-ghost use Rattle.trap_format.specs.LogDisk.{slots_at};
+ghost use Rattle.trap_bank.specs.Steps.{Moves};
 ghost use Rattle.trap_mount.specs.Found.{array_of, IsFoundOn};
 ghost use Rattle.trap_mount.specs.Holding.{head_place};
 ghost use Rattle.trap_mount.specs.Mounting.{IsNoLog, KeepsEachState, WritesHead};
 ghost use Rattle.trap_mount.specs.MountEnds.{MountsFor, MountEnds};
-ghost use Rattle.trap_mount.specs.MountSteps.{MayPut, HasPut};
+ghost use Rattle.trap_mount.specs.MountSteps.{IsHeadCell, MayPut, HasPut};
 ghost use Rattle.trap_mount.specs.declared.fault.MountFault.{MountFault};
 
 mod header;
@@ -37,9 +34,7 @@ fn put_changed<B: Bank>(
     found: &Head,
     head: &Head,
 ) -> Result<(), DiskFault>
-    requires place { cell.old.place ≡ head_place }
-    requires stands { Always (B.view bank.old) (Stands cell.old) }
-    requires room { Fits (B.view bank.old) 0 slots_at }
+    requires cell { IsHeadCell cell.old (B.view bank.old) }
     requires lost { ForSome head.now.lost (λ member. member < 16) }
     ensures ok { OnOk result (Moves (B.view bank.old) (B.view bank.new)
         (MayPut cell.old found.now head.now)

@@ -10,9 +10,9 @@ ghost use Rattle.trap_index.specs.Indexed.{nothing_indexed};
 ghost use Rattle.trap_model.specs.declared.numbers.Geometry.{Geometry};
 ghost use Rattle.trap_mount.specs.Holding.{head_place};
 ghost use Rattle.trap_mount.specs.Memory.{HaveBlocksOf};
-ghost use Rattle.trap_mount.specs.Mounting.{IsNoLog, Refuses, MountFails, HasHeader, HasHead, HasSlots, HasRecords, names_member};
+ghost use Rattle.trap_mount.specs.Mounting.{IsNoLog, Refuses, MountFails, HasHeader, HasHead, HasSlots, names_member};
 ghost use Rattle.trap_mount.specs.MountSteps.{IsStable, ReadsHead, ReadsStage, ReadsLog};
-ghost use Rattle.trap_mount.specs.Reading.{ReadsIndex};
+ghost use Rattle.trap_mount.specs.Reading.{ReadsIndex, ReadsHistory};
 
 use crate::mounting::header::read_header;
 use crate::mounting::records::read_records;
@@ -111,10 +111,7 @@ fn take_history<B: Bank>(
     requires head { IsHead g.now head.now }
     requires none { index.old
         ≡ nothing_indexed g.now head.now.first head.now.base_time head.now.first_off }
-    ensures index { OnOk result (ReadsIndex g.now head.now index.new (B.view bank.old)) }
-    ensures ok { OnOk result
-        (IsTrue (B.view bank.old).tells → HasSlots g.now head.now (B.view bank.old).now.disks
-        → HasRecords g.now head.now (B.view bank.old).now.disks) }
+    ensures ok { OnOk result (ReadsHistory g.now head.now index.new (B.view bank.old)) }
     ensures reads { OnlyReads (B.view bank.old) (B.view bank.new) }
     ensures refused { IfErr result (λ why. IsTrue (B.view bank.old).tells
         → HasSlots g.now head.now (B.view bank.old).now.disks → Refuses (B.view bank.old) why) }
@@ -152,10 +149,7 @@ fn read_history<B: Bank>(
 ) -> Result<Index, MountFault>
     requires size { (B.view bank.old).sizes 0 ≡ Some (log_size g.now) }
     requires head { IsHead g.now head.now }
-    ensures index { IfOk result (λ index. ReadsIndex g.now head.now index (B.view bank.old)) }
-    ensures ok { OnOk result
-        (IsTrue (B.view bank.old).tells → HasSlots g.now head.now (B.view bank.old).now.disks
-        → HasRecords g.now head.now (B.view bank.old).now.disks) }
+    ensures ok { IfOk result (λ index. ReadsHistory g.now head.now index (B.view bank.old)) }
     ensures reads { OnlyReads (B.view bank.old) (B.view bank.new) }
     ensures refused { IfErr result (λ why. IsTrue (B.view bank.old).tells
         → HasSlots g.now head.now (B.view bank.old).now.disks → Refuses (B.view bank.old) why) }

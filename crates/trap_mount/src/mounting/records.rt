@@ -5,9 +5,9 @@ ghost use Rattle.trap_bank.specs.Calls.{Fits};
 ghost use Rattle.trap_bank.specs.Faults.{Rose};
 ghost use Rattle.trap_bank.specs.Steps.{OnlyReads};
 ghost use Rattle.trap_index.specs.Indexed.{last_seq, last_time};
-ghost use Rattle.trap_scan.specs.Window.{IsWindow, IsLoaded, IsAhead, Looks};
-ghost use Rattle.trap_scan.specs.Scan.{AreExpected, BreaksAt, IsAtFirst, AreAhead, BreaksAhead};
-ghost use Rattle.trap_mount.specs.Reading.{AreRecordsRead, Awaits, HasTaken};
+ghost use Rattle.trap_scan.specs.Window.{IsWindow, IsAhead};
+ghost use Rattle.trap_scan.specs.Scan.{BreaksAt, BreaksAhead};
+ghost use Rattle.trap_mount.specs.Reading.{Awaits, MayExpect, IsAtStart, ReadsRecords, ReadsAhead};
 
 use std::alloc::Global;
 use trap_bank::Bank;
@@ -22,26 +22,16 @@ fn take_records<B: Bank>(
     ring: &Ring,
     index: &mut Index,
 ) -> Result<(), ScanFault>
-    requires first { IsAtFirst scan.old.expected scan.old }
-    requires awaits { Awaits scan.old.expected index.old }
-    requires more { scan.old.seq < scan.old.expected.last }
+    requires start { IsAtStart ring.now scan.old index.old (B.view bank.old) }
     requires room { scan.old.window.end ≤ scan.old.window.at + ring.now.len }
     requires there { Fits (B.view bank.old) ring.now.disk (ring.now.at + ring.now.len) }
-    requires loaded { IsTrue (B.view bank.old).tells
-        → IsLoaded ring.now scan.old.window (B.view bank.old).now.disks }
-    ensures right { IsTrue (B.view bank.old).tells → OnOk result ((bytes : List ℕ)
-        → IsAhead ring.now scan.old.window bytes (B.view bank.old).now.disks
-        → AreAhead scan.old bytes) }
-    ensures taken { OnOk result
-        (HasTaken index.old index.new scan.old.expected.last scan.old.expected.last_time) }
-    ensures read { IsTrue (B.view bank.old).tells → OnOk result ((bytes : List ℕ)
-        → IsAhead ring.now scan.old.window bytes (B.view bank.old).now.disks
-        → AreRecordsRead index.old.g.block index.new.recs bytes) }
+    ensures ok { OnOk result
+        (ReadsAhead ring.now scan.old index.old index.new (B.view bank.old)) }
     ensures damaged { IsTrue (B.view bank.old).tells → (at : ℕ)
         → IsErrOf result (ScanFault.Damaged at) → (bytes : List ℕ)
         → IsAhead ring.now scan.old.window bytes (B.view bank.old).now.disks
         → BreaksAhead scan.old bytes at }
-    ensures looks { Looks (B.view bank.old) (B.view bank.new) }
+    ensures looks { OnlyReads (B.view bank.old) (B.view bank.new) }
     ensures cause { IsErrOf result ScanFault.DiskFault
         → Rose ((B.view bank.old).faults ring.now.disk) ((B.view bank.new).faults ring.now.disk) }
 {
@@ -61,23 +51,11 @@ pub(super) fn read_records<B: Bank>(
     expected: &Expected,
     index: &mut Index,
 ) -> Result<(), CheckFault>
+    requires expects { MayExpect ring.now expected.now }
     requires awaits { Awaits expected.now index.old }
-    requires empty { expected.now.first ≡ expected.now.last
-        → expected.now.base_time ≡ expected.now.last_time }
-    requires order { expected.now.first ≤ expected.now.last }
-    requires offsets { expected.now.first_off ≤ expected.now.end_off }
-    requires room { expected.now.end_off - expected.now.first_off ≤ ring.now.len }
     requires there { Fits (B.view bank.old) ring.now.disk (ring.now.at + ring.now.len) }
-    ensures right { IsTrue (B.view bank.old).tells → OnOk result ((bytes : List ℕ)
-        → IsWindow ring.now expected.now.first_off expected.now.end_off bytes
-        (B.view bank.old).now.disks
-        → AreExpected expected.now bytes) }
-    ensures taken { OnOk result
-        (HasTaken index.old index.new expected.now.last expected.now.last_time) }
-    ensures read { IsTrue (B.view bank.old).tells → OnOk result ((bytes : List ℕ)
-        → IsWindow ring.now expected.now.first_off expected.now.end_off bytes
-        (B.view bank.old).now.disks
-        → AreRecordsRead index.old.g.block index.new.recs bytes) }
+    ensures ok { OnOk result
+        (ReadsRecords ring.now expected.now index.old index.new (B.view bank.old)) }
     ensures damaged { IsTrue (B.view bank.old).tells → (at : ℕ)
         → IsErrOf result (CheckFault.Damaged at) → (bytes : List ℕ)
         → IsWindow ring.now expected.now.first_off expected.now.end_off bytes

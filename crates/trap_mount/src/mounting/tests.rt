@@ -11,6 +11,7 @@ use std::process::Abort;
 use std::test::Fail;
 use trap_bank::{Bank, MemoryBank};
 use trap_cell::Cell;
+use trap_format::layout::SLOTS_AT;
 use trap_format::{Head, log_len, member_len, spell_head, spell_log, spell_member};
 use trap_model::Geometry;
 
@@ -69,9 +70,9 @@ fn make_log<B: Bank>(rt: &impl Abort, bank: &mut B, head: &Head) -> Result<(), F
     spell_log(&g, &mut header);
     spell_head(head, &mut value);
     bank.make(0, log_len(&g))?;
-    assert!(rt; is_long(bank, 0, 192));
+    assert!(rt; is_long(bank, 0, SLOTS_AT));
     bank.write(0, 0, &header)?;
-    assert!(rt; is_long(bank, 0, 192));
+    assert!(rt; is_long(bank, 0, SLOTS_AT));
     Cell::first(bank, 0, 64, &value)?;
     Ok(())
 }
@@ -120,6 +121,22 @@ fn rebuilt_rows_count_on_the_members_own_disk_alone(rt: HostRuntime) -> Result<(
     assert_eq!(rt; lost_after(rt.alloc(), &mut bank), Ok((Some(1), 0)));
     // The head says so now.
     make_member(&rt, &mut bank, 1, 1)?;
+    assert_eq!(rt; lost_after(rt.alloc(), &mut bank), Ok((Some(1), 0)));
+    Ok(())
+}
+
+#[test]
+fn rebuilt_rows_do_not_count_where_the_header_cannot_be_read(rt: HostRuntime) -> Result<(), Fail> {
+    let mut bank = MemoryBank::new(rt.alloc())?;
+    make_log(&rt, &mut bank, &empty_head(Some(1), 3))?;
+    make_member(&rt, &mut bank, 0, 0)?;
+    make_member(&rt, &mut bank, 1, 1)?;
+    make_member(&rt, &mut bank, 2, 2)?;
+    // The lost member's disk can be synced, and its header can't be read.
+    bank.fail_on(2, 1);
+    assert_eq!(rt; lost_after(rt.alloc(), &mut bank), Ok((Some(1), 0)));
+    // The head says so, though the header can be read again.
+    bank.crash(0);
     assert_eq!(rt; lost_after(rt.alloc(), &mut bank), Ok((Some(1), 0)));
     Ok(())
 }

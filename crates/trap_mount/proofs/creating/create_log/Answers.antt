@@ -8,19 +8,30 @@ pub write_through-requires-clause-room : goal.write_through-requires-clause-room
 write_through-requires-clause-room g c = (log_size c.args.g.now, c.in_ok-shut_log.ensures.size, omega arith)
 
 pub returns-in_err-write_through-clause-touches : goal.returns-in_err-write_through-clause-touches
-returns-in_err-write_through-clause-touches g c = touches_then _ _ _ (g.B.Bank.view c.args.bank.now) (g.B.Bank.view c.shut_log.new.bank) (g.B.Bank.view c.write_through.new.bank) c.shut_log.ensures.any_moment.tells c.shut_log.ensures.touches c.write_through.ensures.contents
+returns-in_err-write_through-clause-touches g c =
+    touches_then _ _ _ (g.B.Bank.view c.args.bank.now) (g.B.Bank.view c.shut_log.new.bank)
+    (g.B.Bank.view c.write_through.new.bank) c.shut_log.ensures.any_moment.tells c.shut_log.ensures.touches c.write_through.ensures.contents
 
 pub returns-in_err-shut_log-clause-any_moment : goal.returns-in_err-shut_log-clause-any_moment
-returns-in_err-shut_log-clause-any_moment g c = shut_part c.args.g.now c.requires.one_slot (omega arith) (g.B.Bank.view c.args.bank.now) (g.B.Bank.view c.shut_log.new.bank) c.shut_log.ensures.any_moment
+returns-in_err-shut_log-clause-any_moment g c =
+    shut_part c.args.g.now c.requires.one_slot (omega arith) (g.B.Bank.view c.args.bank.now) (g.B.Bank.view c.shut_log.new.bank) c.shut_log.ensures.any_moment
 
 pub returns-in_err-write_through-clause-any_moment : goal.returns-in_err-write_through-clause-any_moment
-returns-in_err-write_through-clause-any_moment g c = gate_part c.args.g.now c.requires.one_slot (omega arith) (g.B.Bank.view c.args.bank.now) (g.B.Bank.view c.shut_log.new.bank) (g.B.Bank.view c.write_through.new.bank) c.in_ok-shut_log.ensures.ok c.write_through.ensures.any_moment
+returns-in_err-write_through-clause-any_moment g c =
+    gate_part c.args.g.now c.requires.one_slot (omega arith) (g.B.Bank.view c.args.bank.now) (g.B.Bank.view c.shut_log.new.bank)
+    (g.B.Bank.view c.write_through.new.bank) c.in_ok-shut_log.ensures.ok c.write_through.ensures.any_moment
 
 pub returns-clause-ok : goal.returns-clause-ok
-returns-clause-ok g c = gate_done c.args.g.now c.requires.one_slot (omega arith) (g.B.Bank.view c.args.bank.now) (g.B.Bank.view c.shut_log.new.bank) (g.B.Bank.view c.write_through.new.bank) c.in_ok-shut_log.ensures.ok c.in_ok-write_through.ensures.ok
+returns-clause-ok g c =
+    gate_done c.args.g.now c.requires.one_slot (omega arith) (g.B.Bank.view c.args.bank.now) (g.B.Bank.view c.shut_log.new.bank)
+    (g.B.Bank.view c.write_through.new.bank) c.in_ok-shut_log.ensures.ok c.in_ok-write_through.ensures.ok
 
 pub returns-clause-touches : goal.returns-clause-touches
-returns-clause-touches g c = touches_then _ _ _ (g.B.Bank.view c.args.bank.now) (g.B.Bank.view c.shut_log.new.bank) (g.B.Bank.view c.write_through.new.bank) c.shut_log.ensures.any_moment.tells c.shut_log.ensures.touches c.write_through.ensures.contents
+returns-clause-touches g c =
+    touches_then _ _ _ (g.B.Bank.view c.args.bank.now) (g.B.Bank.view c.shut_log.new.bank)
+    (g.B.Bank.view c.write_through.new.bank) c.shut_log.ensures.any_moment.tells c.shut_log.ensures.touches c.write_through.ensures.contents
 
 pub returns-clause-any_moment : goal.returns-clause-any_moment
-returns-clause-any_moment g c = gate_part c.args.g.now c.requires.one_slot (omega arith) (g.B.Bank.view c.args.bank.now) (g.B.Bank.view c.shut_log.new.bank) (g.B.Bank.view c.write_through.new.bank) c.in_ok-shut_log.ensures.ok c.write_through.ensures.any_moment
+returns-clause-any_moment g c =
+    gate_part c.args.g.now c.requires.one_slot (omega arith) (g.B.Bank.view c.args.bank.now) (g.B.Bank.view c.shut_log.new.bank)
+    (g.B.Bank.view c.write_through.new.bank) c.in_ok-shut_log.ensures.ok c.write_through.ensures.any_moment

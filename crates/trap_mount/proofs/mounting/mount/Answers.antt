@@ -2,10 +2,12 @@ use Rattle.std.proofs.Common.{IsTrue, refl, ◌∙◌}
 use Rattle.trap_mount.specs.Mounting.{Refuses}
 use Rattle.trap_mount.specs.MountEnds.{MountEnds}
 use Rattle.trap_mount.specs.declared.fault.MountFault.TheVariants.{LogFault}
-use Rattle.trap_mount.proofs.MountReads.{reads_then, cause_before, rose_later, sizes_before, one_bit}
+use Rattle.trap_bank.proofs.OnlyReads.{reads_then}
+use Rattle.trap_mount.proofs.MountReads.{cause_before, rose_later, sizes_before, false_true}
 use Rattle.trap_mount.proofs.MountHistory.{exit}
 use Rattle.trap_mount.proofs.MountRefusals.{never_refused}
-use Rattle.trap_mount.proofs.MountPuts.{complete, members_refused, put_failed, put_room, stage_put, index_put, stands_still, mount_ready, mount_stands, mount_found, mount_knows, mount_head, head_read, writes_head, keeps_read, read_others, keeps_put, put_others}
+use Rattle.trap_mount.proofs.MountPuts.{complete, members_refused, put_failed, put_room, stage_put, index_put, stands_still, mount_ready, mount_stands, mount_found, mount_knows, mount_head, head_read}
+use Rattle.trap_mount.proofs.MountPuts.{writes_head, keeps_read, read_others, keeps_put, put_others}
 use Rattle.trap_mount.proofs.mounting.mount.Goals as goal
 
 -- ---- the log was refused
@@ -20,7 +22,7 @@ returns-in_err-found-clause-ended g c =
       held = λ numbers s told holds. never_refused numbers s old.now.disks holds c.in_err-found.field-0.0 (refused told);
       nothing_written = λ is. c.find_log.ensures.reads;
       cause = c.in_err-found.ensures.cause;
-      shown = λ is. absurd (one_bit _ c.in_err-found.ensures.log is);
+      shown = λ is. absurd (false_true _ c.in_err-found.ensures.log is);
       complete = λ numbers h s told by log members. complete old new numbers h s told by log members c.in_err-found.field-0.0 refused c.in_err-found.ensures.cause;
     })
 
@@ -46,15 +48,16 @@ returns-in_err-head-clause-ended g c =
 
 -- ---- the put
 
-pub put_changed-requires-clause-stands : goal.put_changed-requires-clause-stands
-put_changed-requires-clause-stands g c = stands_still c.in_ok-found.found.g c.in_ok-found.found.head c.in_ok-head.head c.in_ok-found.found.cell c.in_ok-found.found.stage
-    (g.B.Bank.view c.args.bank.now) (g.B.Bank.view c.find_log.new.bank) (g.B.Bank.view c.find_members.new.bank) c.find_log.ensures.reads c.find_members.ensures.reads
-    (g.met.B.Bank.lawful c.find_log.new.bank) c.in_ok-found.ensures.ok c.in_ok-head.ensures.ok
-
-pub put_changed-requires-clause-room : goal.put_changed-requires-clause-room
-put_changed-requires-clause-room g c = put_room c.in_ok-found.found.g c.in_ok-found.found.head c.in_ok-head.head c.in_ok-found.found.cell c.in_ok-found.found.stage
-    (g.B.Bank.view c.args.bank.now) (g.B.Bank.view c.find_log.new.bank) (g.B.Bank.view c.find_members.new.bank) c.find_log.ensures.reads c.find_members.ensures.reads
-    (g.met.B.Bank.lawful c.find_log.new.bank) c.in_ok-found.ensures.ok c.in_ok-head.ensures.ok
+pub put_changed-requires-clause-cell : goal.put_changed-requires-clause-cell
+put_changed-requires-clause-cell g c = record {
+  place = c.in_ok-found.ensures.ok.head.place;
+  stands = stands_still c.in_ok-found.found.g c.in_ok-found.found.head c.in_ok-head.head c.in_ok-found.found.cell c.in_ok-found.found.stage
+      (g.B.Bank.view c.args.bank.now) (g.B.Bank.view c.find_log.new.bank) (g.B.Bank.view c.find_members.new.bank) c.find_log.ensures.reads c.find_members.ensures.reads
+      (g.met.B.Bank.lawful c.find_log.new.bank) c.in_ok-found.ensures.ok c.in_ok-head.ensures.ok;
+  room = put_room c.in_ok-found.found.g c.in_ok-found.found.head c.in_ok-head.head c.in_ok-found.found.cell c.in_ok-found.found.stage
+      (g.B.Bank.view c.args.bank.now) (g.B.Bank.view c.find_log.new.bank) (g.B.Bank.view c.find_members.new.bank) c.find_log.ensures.reads c.find_members.ensures.reads
+      (g.met.B.Bank.lawful c.find_log.new.bank) c.in_ok-found.ensures.ok c.in_ok-head.ensures.ok;
+}
 
 pub returns-in_default-clause-sizes : goal.returns-in_default-clause-sizes
 returns-in_default-clause-sizes g c = λ e. c.put_changed.ensures.sizes e ∙ c.find_members.ensures.reads.sizes e ∙ c.find_log.ensures.reads.sizes e
@@ -95,20 +98,25 @@ returns-clause-mounted g c =
     record {
       stands = mount_stands c.in_ok-found.found.g c.in_ok-found.found.head c.in_ok-head.head c.in_ok-found.found.cell c.in_ok-found.found.stage
           (g.B.Bank.view c.args.bank.now) (g.B.Bank.view c.find_log.new.bank) (g.B.Bank.view c.find_members.new.bank) c.find_log.ensures.reads c.find_members.ensures.reads
-          (g.met.B.Bank.lawful c.find_log.new.bank) c.in_ok-found.ensures.ok c.in_ok-head.ensures.ok (g.B.Bank.view c.put_changed.new.bank) c.put_changed.new.cell c.in_ok-found.found.index c.in_ok-found.ensures.index c.in-Ok.ensures.ok c.put_changed.ensures.sizes;
+          (g.met.B.Bank.lawful c.find_log.new.bank) c.in_ok-found.ensures.ok c.in_ok-head.ensures.ok
+          (g.B.Bank.view c.put_changed.new.bank) c.put_changed.new.cell c.in_ok-found.found.index c.in_ok-found.ensures.index c.in-Ok.ensures.ok c.put_changed.ensures.sizes;
       ready = mount_ready c.in_ok-found.found.g c.in_ok-found.found.head c.in_ok-head.head c.in_ok-found.found.cell c.in_ok-found.found.stage
           (g.B.Bank.view c.args.bank.now) (g.B.Bank.view c.find_log.new.bank) (g.B.Bank.view c.find_members.new.bank) c.find_log.ensures.reads c.find_members.ensures.reads
-          (g.met.B.Bank.lawful c.find_log.new.bank) c.in_ok-found.ensures.ok c.in_ok-head.ensures.ok (g.B.Bank.view c.put_changed.new.bank) c.put_changed.new.cell c.in_ok-found.found.index c.in_ok-found.ensures.index c.in-Ok.ensures.ok c.put_changed.ensures.sizes;
-      going = refl;
+          (g.met.B.Bank.lawful c.find_log.new.bank) c.in_ok-found.ensures.ok c.in_ok-head.ensures.ok
+          (g.B.Bank.view c.put_changed.new.bank) c.put_changed.new.cell c.in_ok-found.found.index c.in_ok-found.ensures.index c.in-Ok.ensures.ok c.put_changed.ensures.sizes;
+      running = refl;
       found = mount_found c.in_ok-found.found.g c.in_ok-found.found.head c.in_ok-head.head c.in_ok-found.found.cell c.in_ok-found.found.stage
           (g.B.Bank.view c.args.bank.now) (g.B.Bank.view c.find_log.new.bank) (g.B.Bank.view c.find_members.new.bank) c.find_log.ensures.reads c.find_members.ensures.reads
-          (g.met.B.Bank.lawful c.find_log.new.bank) c.in_ok-found.ensures.ok c.in_ok-head.ensures.ok (g.B.Bank.view c.put_changed.new.bank) c.put_changed.new.cell c.in_ok-found.found.index c.in_ok-found.ensures.index c.in-Ok.ensures.ok c.put_changed.ensures.sizes;
+          (g.met.B.Bank.lawful c.find_log.new.bank) c.in_ok-found.ensures.ok c.in_ok-head.ensures.ok
+          (g.B.Bank.view c.put_changed.new.bank) c.put_changed.new.cell c.in_ok-found.found.index c.in_ok-found.ensures.index c.in-Ok.ensures.ok c.put_changed.ensures.sizes;
       knows = mount_knows c.in_ok-found.found.g c.in_ok-found.found.head c.in_ok-head.head c.in_ok-found.found.cell c.in_ok-found.found.stage
           (g.B.Bank.view c.args.bank.now) (g.B.Bank.view c.find_log.new.bank) (g.B.Bank.view c.find_members.new.bank) c.find_log.ensures.reads c.find_members.ensures.reads
-          (g.met.B.Bank.lawful c.find_log.new.bank) c.in_ok-found.ensures.ok c.in_ok-head.ensures.ok (g.B.Bank.view c.put_changed.new.bank) c.put_changed.new.cell c.in_ok-found.found.index c.in_ok-found.ensures.index c.in-Ok.ensures.ok c.put_changed.ensures.sizes;
+          (g.met.B.Bank.lawful c.find_log.new.bank) c.in_ok-found.ensures.ok c.in_ok-head.ensures.ok
+          (g.B.Bank.view c.put_changed.new.bank) c.put_changed.new.cell c.in_ok-found.found.index c.in_ok-found.ensures.index c.in-Ok.ensures.ok c.put_changed.ensures.sizes;
       head = mount_head c.in_ok-found.found.g c.in_ok-found.found.head c.in_ok-head.head c.in_ok-found.found.cell c.in_ok-found.found.stage
           (g.B.Bank.view c.args.bank.now) (g.B.Bank.view c.find_log.new.bank) (g.B.Bank.view c.find_members.new.bank) c.find_log.ensures.reads c.find_members.ensures.reads
-          (g.met.B.Bank.lawful c.find_log.new.bank) c.in_ok-found.ensures.ok c.in_ok-head.ensures.ok (g.B.Bank.view c.put_changed.new.bank) c.put_changed.new.cell c.in_ok-found.found.index c.in_ok-found.ensures.index c.in-Ok.ensures.ok c.put_changed.ensures.sizes;
+          (g.met.B.Bank.lawful c.find_log.new.bank) c.in_ok-found.ensures.ok c.in_ok-head.ensures.ok
+          (g.B.Bank.view c.put_changed.new.bank) c.put_changed.new.cell c.in_ok-found.found.index c.in_ok-found.ensures.index c.in-Ok.ensures.ok c.put_changed.ensures.sizes;
     }
 
 pub returns-clause-sizes : goal.returns-clause-sizes

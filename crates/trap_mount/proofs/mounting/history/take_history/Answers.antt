@@ -10,11 +10,17 @@ is_ring : (g : Geometry) (r : RingPlace) (at : ℕ) → r ≡ record { disk = 0;
 is_ring g r at is start = is ∙ ap (λ (n : ℕ). record { disk = 0; at = n; len = g.ring }) start
 
 pub returns-in-Ok-clause-ok : goal.returns-in-Ok-clause-ok
-returns-in-Ok-clause-ok g c = λ told slots.
+returns-in-Ok-clause-ok g c =
     let start : c.log_len.result - c.args.g.now.ring ≡ ring_at c.args.g.now = omega arith in
-    records_right c.args.g.now c.args.head.now _ _ (g.B.Bank.view c.args.bank.now).now.disks c.requires.head
-    (record { size = refl; volume_ = c.volume.ensures.is; first = refl; base_time = refl; first_off = refl; last = refl; last_time = refl; end_off = refl })
-    (is_ring c.args.g.now c.new-ring.result _ c.new-ring.ensures start) slots (c.in-Ok.ensures.right told)
+    let ring = is_ring c.args.g.now c.new-ring.result _ c.new-ring.ensures start in
+    record {
+      known = index_read c.args.g.now c.args.head.now _ _ _ _ (g.B.Bank.view c.args.bank.now)
+          (record { size = refl; volume_ = c.volume.ensures.is; first = refl; base_time = refl; first_off = refl; last = refl; last_time = refl; end_off = refl })
+          ring c.requires.none c.in-Ok.ensures.ok.taken c.in-Ok.ensures.ok.read;
+      records = λ told slots. records_right c.args.g.now c.args.head.now _ _ (g.B.Bank.view c.args.bank.now).now.disks c.requires.head
+          (record { size = refl; volume_ = c.volume.ensures.is; first = refl; base_time = refl; first_off = refl; last = refl; last_time = refl; end_off = refl })
+          ring slots (c.in-Ok.ensures.ok.right told);
+    }
 
 pub returns-in-Err-Damaged-clause-refused : goal.returns-in-Err-Damaged-clause-refused
 returns-in-Err-Damaged-clause-refused g c = λ told slots.
@@ -23,10 +29,3 @@ returns-in-Err-Damaged-clause-refused g c = λ told slots.
     (record { size = refl; volume_ = c.volume.ensures.is; first = refl; base_time = refl; first_off = refl; last = refl; last_time = refl; end_off = refl })
     (is_ring c.args.g.now c.new-ring.result _ c.new-ring.ensures start) slots c.in-Err-Damaged.at _
     (c.in-Err-Damaged.ensures.damaged told _ (ap Err c.in-Err-Damaged.field-0-is)) (omega arith)
-
-pub returns-in-Ok-clause-index : goal.returns-in-Ok-clause-index
-returns-in-Ok-clause-index g c =
-    let start : c.log_len.result - c.args.g.now.ring ≡ ring_at c.args.g.now = omega arith in
-    index_read c.args.g.now c.args.head.now _ _ _ _ (g.B.Bank.view c.args.bank.now)
-    (record { size = refl; volume_ = c.volume.ensures.is; first = refl; base_time = refl; first_off = refl; last = refl; last_time = refl; end_off = refl })
-    (is_ring c.args.g.now c.new-ring.result _ c.new-ring.ensures start) c.requires.none c.in-Ok.ensures.taken c.in-Ok.ensures.read

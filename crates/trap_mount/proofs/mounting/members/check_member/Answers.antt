@@ -1,5 +1,6 @@
 use Rattle.std.proofs.Common.{Some, sym, ap, ◌∙◌}
-use Rattle.trap_mount.proofs.MountMembers.{other_size, option_differs, option_same, false_true, wrong_next, failing_next}
+use Rattle.trap_mount.proofs.MountMembers.{other_size, option_differs, option_same, wrong_next, failing_next}
+use Rattle.trap_mount.proofs.MountReads.{false_true}
 use Rattle.trap_mount.proofs.mounting.members.check_member.Goals as goal
 
 pub returns-then-ne-clause-wrong : goal.returns-then-ne-clause-wrong

@@ -1,7 +1,8 @@
 use Rattle.std.proofs.Common.{◌+◌, sym, subst, ◌∙◌, arith}
 use Rattle.trap_bank.specs.Steps.{OnlyReads}
 use Rattle.trap_mount.specs.MountSteps.{ReadsMembers}
-use Rattle.trap_mount.proofs.MountReads.{reads_then, reads_none, sizes_before}
+use Rattle.trap_bank.proofs.OnlyReads.{reads_then, reads_none}
+use Rattle.trap_mount.proofs.MountReads.{sizes_before}
 use Rattle.trap_mount.proofs.MountHistory.{exit}
 use Rattle.trap_mount.proofs.MountMembers.{members_more, check_refused, option_differs, option_same}
 use Rattle.trap_mount.proofs.mounting.members.check_members.Goals as goal

@@ -21,5 +21,7 @@ returns-in_err-check_members-clause-shown g c =
 
 pub returns-clause-ok : goal.returns-clause-ok
 returns-clause-ok g c =
-    members_found c.args.g.now c.args.head.now c.in_ok-lost.lost c.rebuilt_rows-rebuilt.result (g.B.Bank.view c.args.bank.now) (g.B.Bank.view c.check_members.new.bank) (g.B.Bank.view c.rebuilt_rows-rebuilt.new.bank)
-    c.check_members.ensures.reads c.rebuilt_rows-rebuilt.ensures.reads c.requires.head c.in_ok-lost.ensures.ok c.in_ok-check_members.ensures.ok c.rebuilt_rows-rebuilt.ensures.none c.rebuilt_rows-rebuilt.ensures.some
+    members_found c.args.g.now c.args.head.now c.in_ok-lost.lost c.rebuilt_rows-rebuilt.result (g.B.Bank.view c.args.bank.now) (g.B.Bank.view c.check_members.new.bank)
+    (g.B.Bank.view c.rebuilt_rows-rebuilt.new.bank)
+    c.check_members.ensures.reads c.rebuilt_rows-rebuilt.ensures.reads c.requires.head c.in_ok-lost.ensures.ok c.in_ok-check_members.ensures.ok c.rebuilt_rows-rebuilt.ensures.none
+    c.rebuilt_rows-rebuilt.ensures.some
