@@ -23,7 +23,7 @@ use Rattle.trap_array.specs.Areas.{Touches, InCommit, InDrain, InBlock, InWrite}
 use Rattle.trap_array.specs.Beside.{StaysFrom}
 use Rattle.trap_array.specs.Calls.{Mounted, SameArray, running}
 use Rattle.trap_array.specs.Holding.{head_place, log_ring, InCell}
-use Rattle.trap_array.specs.Log.{Log}
+use Rattle.trap_array.specs.Log.{IndexedLog}
 use Rattle.trap_array.specs.NextHead.{drained_to}
 use Rattle.trap_array.proofs.Beside.{stays_torn}
 
@@ -79,7 +79,7 @@ put_touches a b cell value is_head puts moves = record {
 }
 
 -- ---- a commit
-module _ (log : Log) (is_head : log.cell.place ≡ head_place) (same : log.stage.g ≡ log.g) (ring : RingPlace) (is_ring : ring ≡ log_ring log.g) (len : ℕ)
+module _ (log : IndexedLog) (is_head : log.cell.place ≡ head_place) (same : log.stage.g ≡ log.g) (ring : RingPlace) (is_ring : ring ≡ log_ring log.g) (len : ℕ)
     (fits : log.head.end_off + len ≤ log.head.first_off + log.g.ring) (v v1 : View)
     (torn : IsTrue v.tells → Torn (InRing ring log.head.end_off len) v.now v1.now) (moves : Moves v v1 (Differs (InRing ring log.head.end_off len)) (Differs (InRing ring log.head.end_off len))) where
   abbrev area : Area
@@ -121,7 +121,7 @@ older_in : (g : Geometry) (lost : Option ℕ) (rebuilt n : ℕ) (writes : List S
 older_in g lost rebuilt n writes e i inside =
     subst (λ (w : List Staged). InDrained g lost rebuilt w e i) (take-append-drop n writes) (drained_older g lost rebuilt (take n writes) (drop n writes) e i inside)
 
-module _ (log : Log) (is_head : log.cell.place ≡ head_place) (upto : ℕ) (k : Condition) (is_raid : k ≡ record { g = log.g; lost = log.head.lost; rebuilt = log.head.rebuilt }) (v v1 : View)
+module _ (log : IndexedLog) (is_head : log.cell.place ≡ head_place) (upto : ℕ) (k : Condition) (is_raid : k ≡ record { g = log.g; lost = log.head.lost; rebuilt = log.head.rebuilt }) (v v1 : View)
     (torn : IsTrue v.tells → Torn (InDrained k.g k.lost k.rebuilt (writes_to log.stage upto)) v.now v1.now)
     (moves : Moves v v1 (Differs (InDrained k.g k.lost k.rebuilt (writes_to log.stage upto))) (Differs (InDrained k.g k.lost k.rebuilt (writes_to log.stage upto)))) where
   in_places : (e i : ℕ) → InDrained k.g k.lost k.rebuilt (writes_to log.stage upto) e i → InDrain (running log) e i
@@ -133,7 +133,8 @@ module _ (log : Log) (is_head : log.cell.place ≡ head_place) (upto : ℕ) (k :
   raid_touches =
       touches_mono (InDrained k.g k.lost k.rebuilt (writes_to log.stage upto)) (InDrain (running log)) v v1 in_places (record { contents = torn; any_moment = moves })
 
-  pub drain_touches : (v2 : View) (value : List ℕ) → (IsTrue v1.tells → Quiet (PutsIn log.cell value) v1.now v2.now) → Moves v1 v2 (PutsIn log.cell value) (PutsIn log.cell value) → Touches (InDrain (running log)) v v2
+  pub drain_touches : (v2 : View) (value : List ℕ) → (IsTrue v1.tells → Quiet (PutsIn log.cell value) v1.now v2.now)
+      → Moves v1 v2 (PutsIn log.cell value) (PutsIn log.cell value) → Touches (InDrain (running log)) v v2
   drain_touches v2 value puts moves_put =
       touches_then (InDrain (running log)) v v1 v2 raid_touches
       (touches_mono InCell (InDrain (running log)) v1 v2 (λ e i inside. inr inside) (put_touches v1 v2 log.cell value is_head puts moves_put))
@@ -150,12 +151,14 @@ module _ (g : Geometry) (lost : Option ℕ) (rebuilt : ℕ) (staged : Staged) (w
       by_parity true same at = eqb-true member (parity_member g row) same
       by_parity false same at = absurd (cc at)
 
-      by_member : (b : Bool) → (member == (block_place g staged.block).member) ≡ b → (if b then Some staged.bytes else (if member == parity_member g row then Some staged.parity else None)) ≡ Some bytes
+      by_member : (b : Bool) → (member == (block_place g staged.block).member) ≡ b → (if b then Some staged.bytes else
+          (if member == parity_member g row then Some staged.parity else None)) ≡ Some bytes
           → (member ≡ (block_place g staged.block).member) ⊎ (member ≡ parity_member g row)
       by_member true same at = inl (eqb-true member (block_place g staged.block).member same)
       by_member false same at = inr (by_parity (member == parity_member g row) refl at)
 
-      in_row : (a : Bool) → (row == (block_place g staged.block).row) ≡ a → (if a then (if member == (block_place g staged.block).member then Some staged.bytes else (if member == parity_member g row then Some staged.parity else None)) else None) ≡ Some bytes
+      in_row : (a : Bool) → (row == (block_place g staged.block).row) ≡ a → (if a then (if member == (block_place g staged.block).member then Some staged.bytes else
+          (if member == parity_member g row then Some staged.parity else None)) else None) ≡ Some bytes
           → (row ≡ (block_place g staged.block).row) × ((member ≡ (block_place g staged.block).member) ⊎ (member ≡ parity_member g row))
       in_row true same at = (eqb-true row (block_place g staged.block).row same, by_member (member == (block_place g staged.block).member) refl at)
       in_row false same at = absurd (cc at)
@@ -193,7 +196,7 @@ module _ (g : Geometry) (lost : Option ℕ) (rebuilt : ℕ) (staged : Staged) (w
           Within_row row = Within (inside.covered.member + 1) (row_at g row) g.block e i
 
 -- a commit and its drain
-module _ (a b : Log) (staged : Staged) (on : SameArray (running a) (running b)) (further : b.stage.pending ≡ staged ∷ a.stage.pending) where
+module _ (a b : IndexedLog) (staged : Staged) (on : SameArray (running a) (running b)) (further : b.stage.pending ≡ staged ∷ a.stage.pending) where
   in_both : (e i : ℕ) → InDrain (running b) e i → InWrite (running a) staged.block e i
   in_both e i inside = ⊎_elim
       (λ drained.

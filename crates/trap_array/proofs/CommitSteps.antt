@@ -8,6 +8,7 @@ use Rattle.trap_bank.proofs.Regions.{byte_of_disk, region_of_disk}
 use Rattle.trap_cell.specs.Slots.{Place, Slots, Stands, cell_len, cell_value}
 use Rattle.trap_cell.specs.Steps.{PutsIn, IsPut}
 use Rattle.trap_format.specs.HeadValue.{IsHead, head_value}
+use Rattle.trap_format.specs.declared.head.Head.{Head}
 use Rattle.trap_format.specs.LogDisk.{log_size, slot_len}
 use Rattle.trap_index.specs.Indexed.{Indexed, with_record}
 use Rattle.trap_model.specs.ArrayStep.{added}
@@ -21,10 +22,10 @@ use Rattle.trap_stage.specs.Pending.{staged_in}
 use Rattle.trap_stage.specs.Slots.{Stage, slot_area, slot_start, SlotHas}
 use Rattle.trap_stage.specs.Staged.{Staged}
 use Rattle.trap_stage.proofs.PendingWrites.{pending-added}
-use Rattle.trap_stage.proofs.SlotAreas.{slot_below_ring, slot_behind_cell}
+use Rattle.trap_stage.proofs.SlotAreas.{slot_below_ring, slot_after_cell}
 use Rattle.trap_array.specs.Holding.{head_place, log_ring, InCell, MatchesHead}
 use Rattle.trap_array.specs.Calls.{Mounted, StandsFor, AtAnyMoment, StandsAfterCall, running}
-use Rattle.trap_array.specs.Log.{Log}
+use Rattle.trap_array.specs.Log.{IndexedLog}
 use Rattle.trap_array.specs.NextHead.{committed, IsPlanned}
 use Rattle.trap_array.specs.Ready.{CanCommit, KnowsCell}
 use Rattle.trap_mount.proofs.Frames.{ring_stays, cell_stands}
@@ -40,22 +41,24 @@ cell_room g v place is_head there =
     (there.0, there.1, omega (arith, there.2))
 
 -- a change apart from the cell, whatever the state
-pub stands_apart : (area : ℕ → ℕ → Type 0) (cell : Slots) (v w : View) → cell.place ≡ head_place → ((e i : ℕ) → InCell e i → area e i → ⊥) → Moves v w (Differs area) (Differs area) → Always v (Stands cell) → Always w (Stands cell)
+pub stands_apart : (area : ℕ → ℕ → Type 0) (cell : Slots) (v w : View) → cell.place ≡ head_place → ((e i : ℕ) → InCell e i → area e i → ⊥)
+    → Moves v w (Differs area) (Differs area) → Always v (Stands cell) → Always w (Stands cell)
 stands_apart area cell v w is_head apart moves stands c left =
     let from = moves.now c left in
     cell_stands area from.origin.disks c.disks from.by.disks apart cell is_head (stands from.origin from.was)
 
 -- ---- the cell as the log knows it
 -- after its head was put
-pub put_known : (log : Log) (cell : Slots) (v w : View) (bytes : List ℕ) → cell.place ≡ head_place → bytes ≡ head_value log.head → Moves v w (PutsIn cell bytes) (IsPut w cell log.cell bytes) → KnowsCell log w
-put_known log cell v w bytes is_head is moves = record {
+pub put_known : (head : Head) (after cell : Slots) (v w : View) (bytes : List ℕ) → cell.place ≡ head_place → bytes ≡ head_value head
+    → Moves v w (PutsIn cell bytes) (IsPut w cell after bytes) → KnowsCell after head w
+put_known head after cell v w bytes is_head is moves = record {
   stands = λ c left. let from = moves.now c left in from.by.disks.stands;
   value = λ c left. let from = moves.now c left in
-      subst (λ (p : Place). cell_value p c.disks ≡ Some (head_value log.head)) is_head (from.by.disks.value ∙ ap (λ (b : List ℕ). Some b) is);
+      subst (λ (p : Place). cell_value p c.disks ≡ Some (head_value head)) is_head (from.by.disks.value ∙ ap (λ (b : List ℕ). Some b) is);
 }
 
 -- after calls that change nothing
-pub known_same : (log : Log) (v w : View) → Moves v w Same Same → KnowsCell log v → KnowsCell log w
+pub known_same : (log : IndexedLog) (v w : View) → Moves v w Same Same → KnowsCell log.cell log.head v → KnowsCell log.cell log.head w
 known_same log v w moves known = record {
   stands = always_same v w (Stands log.cell) moves known.stands;
   value = always_same v w (λ disks. cell_value head_place disks ≡ Some (head_value log.head)) moves known.value;
@@ -64,7 +67,7 @@ known_same log v w moves known = record {
 abbrev staged_with : ℕ → List ℕ → List ℕ → Staged
 staged_with block bytes parity = record { block = block; bytes = bytes; parity = parity }
 
-module _ (log : Log) (is_head : log.cell.place ≡ head_place) (same : log.stage.g ≡ log.g) (v : View) (entry : Entry) (parity spelled : List ℕ)
+module _ (log : IndexedLog) (is_head : log.cell.place ≡ head_place) (same : log.stage.g ≡ log.g) (v : View) (entry : Entry) (parity spelled : List ℕ)
     (can : CanCommit log v entry parity spelled) (unmarked : entry.snap ≡ false) (r : RingPlace) (is_ring : r ≡ log_ring log.g) where
   abbrev asks : State → Type 0
   asks s = IsPlanned log.g s entry parity spelled
@@ -78,7 +81,8 @@ module _ (log : Log) (is_head : log.cell.place ≡ head_place) (same : log.stage
   next_at : (s : State) → asks s → IsHead log.g (committed log.head entry.time (length (next_record s entry)))
   next_at s planned = subst (λ (bytes : List ℕ). IsHead log.g (committed log.head entry.time (length bytes))) planned.spelled_is can.next
 
-  appended : (w : View) → Moves v w (Differs (InRing r log.head.end_off (length spelled))) (Differs (InRing r log.head.end_off (length spelled))) → Moves v w (StillIf here v asks) (StillIf here v asks)
+  appended : (w : View) → Moves v w (Differs (InRing r log.head.end_off (length spelled))) (Differs (InRing r log.head.end_off (length spelled)))
+      → Moves v w (StillIf here v asks) (StillIf here v asks)
   appended w moves =
       still_beside here asks (InRing r log.head.end_off (length spelled)) v w is_head
       (λ s x was stands planned e i ring.
@@ -117,7 +121,7 @@ module _ (log : Log) (is_head : log.cell.place ≡ head_place) (same : log.stage
         cell_still c left =
             let from = sync.now c left in
             let stands = stands_apart (slot_area log.stage.g (log.head.last + 1)) log.cell v1 v2 is_head
-            (λ e i inside slot. omega (arith, inside.to, slot.from, slot_behind_cell log.stage.g (log.head.last + 1)))
+            (λ e i inside slot. omega (arith, inside.to, slot.from, slot_after_cell log.stage.g (log.head.last + 1)))
             fill
             (stands_apart (InRing r log.head.end_off (length spelled)) log.cell v v1 is_head
             (λ e i inside ring. omega (arith, inside.to, (subst (λ (q : RingPlace). InRing q log.head.end_off (length spelled) e i) is_ring ring).place))
@@ -171,9 +175,11 @@ module _ (log : Log) (is_head : log.cell.place ≡ head_place) (same : log.stage
                 (put_may here asks next (committed log.head entry.time (length spelled)) v3 v4 is_head (later_committed log.head entry.time (length spelled)) fits_then
                 (subst (λ (b : List ℕ). Moves v3 v4 (PutsIn log.cell b) (PutsIn log.cell b)) is_value moves)))
 
-            pub put_ok : (cell : Slots) (stage : Stage) (index : Indexed) → index ≡ with_record log.index (rec_for log.head entry (length spelled)) → stage ≡ record log.stage { pending = staged_with entry.block entry.bytes parity ∷ log.stage.pending }
+            pub put_ok : (cell : Slots) (stage : Stage) (index : Indexed) → index ≡ with_record log.index (rec_for log.head entry (length spelled))
+                → stage ≡ record log.stage { pending = staged_with entry.block entry.bytes parity ∷ log.stage.pending }
                 → Moves v3 v4 (PutsIn log.cell bytes) (IsPut v4 log.cell cell bytes)
-                → Moves v v4 (AtAnyMoment here v next) (StandsAfterCall here (running (record { g = log.g; head = committed log.head entry.time (length spelled); cell = cell; stage = stage; index = index })) v next)
+                → Moves v v4 (AtAnyMoment here v next) (StandsAfterCall here (running (record
+                { g = log.g; head = committed log.head entry.time (length spelled); cell = cell; stage = stage; index = index })) v next)
             put_ok cell stage index known more moves =
                 asked_has here asks next (running (record { g = log.g; head = committed log.head entry.time (length spelled); cell = cell; stage = stage; index = index })) v v4 can.planned
                 (still_then_has here asks next (running (record { g = log.g; head = committed log.head entry.time (length spelled); cell = cell; stage = stage; index = index })) v v3 v4 all_still

@@ -25,11 +25,11 @@ use Rattle.trap_stage.specs.Pending.{staged_in, pending}
 use Rattle.trap_stage.specs.Slots.{slot_area, SlotHas, SlotsHold, InSlots}
 use Rattle.trap_stage.specs.Staged.{Staged}
 use Rattle.trap_stage.proofs.PendingWrites.{staged_of-added, staged_of_last, pending-added}
-use Rattle.trap_stage.proofs.SlotAreas.{slots_apart, slot_below_ring, slot_behind_cell}
+use Rattle.trap_stage.proofs.SlotAreas.{slots_apart, slot_below_ring, slot_after_cell}
 use Rattle.trap_array.specs.Holding.{log_ring, IsHeadOf, MatchesHead, Outside}
 use Rattle.trap_array.specs.NextHead.{committed}
 
--- bytes of the ring behind others
+-- bytes of the ring after others
 pub ring-append : (r : RingPlace) (from to : ℕ) (a b : List ℕ) (x : Disks) → to ≡ from + length a → RingHas r from a x → RingHas r to b x → RingHas r from (a ++ b) x
 ring-append r from to a b x behind first second k below =
     let both : length (a ++ b) ≡ length a + length b = length-append a b in
@@ -41,7 +41,7 @@ ring-append r from to a b x behind first second k below =
     (cases_lt k (length a))
 
 module _ (g : Geometry) (h : Head) (s : State) (e : Entry) (x : Disks) (fits : MatchesHead g h s x) (next : IsHead g (committed h e.time (length (next_record s e)))) where
-  -- the record stands behind the window, where nothing matters
+  -- the record stands after the window, where nothing matters
   pub record_outside : (f i : ℕ) → InRing (log_ring g) h.end_off (length (next_record s e)) f i → Outside g h s f i
   record_outside f i ring = record {
     cell = λ cell. omega (arith, ring.place, cell.to);
@@ -75,7 +75,7 @@ module _ (g : Geometry) (h : Head) (s : State) (e : Entry) (x : Disks) (fits : M
   -- and so does the slot of the next number
   pub slot_outside : (f i : ℕ) → slot_area g (h.last + 1) f i → Outside g h s f i
   slot_outside f i slot = record {
-    cell = λ cell. omega (arith, slot.from, cell.to, slot_behind_cell g (h.last + 1));
+    cell = λ cell. omega (arith, slot.from, cell.to, slot_after_cell g (h.last + 1));
     rest = λ matters. ⊎_elim (λ (header : Within 0 0 64 f i). in_header header)
         (λ rest. ⊎_elim (λ (window : InRing (log_ring g) h.first_off (kept s) f i). in_window window)
         (λ rest. ⊎_elim (λ (slots : InSlots g h.drained (last s) f i). in_slots slots)
@@ -84,7 +84,7 @@ module _ (g : Geometry) (h : Head) (s : State) (e : Entry) (x : Disks) (fits : M
   }
     where
       in_header : Within 0 0 64 f i → ⊥
-      in_header header = omega (arith, slot.from, header.to, slot_behind_cell g (h.last + 1))
+      in_header header = omega (arith, slot.from, header.to, slot_after_cell g (h.last + 1))
 
       in_window : InRing (log_ring g) h.first_off (kept s) f i → ⊥
       in_window window = omega (arith, window.place, slot.to, slot_below_ring g (h.last + 1))
@@ -146,7 +146,8 @@ module _ (g : Geometry) (h : Head) (s : State) (e : Entry) (x : Disks) (fits : M
         (image_is_image g s fits.valid) entry.block (ap (λ (i : List (List ℕ)). row_parity g i (block_place g e.block).row) after)))
 
     -- with both there, the disks fit the next head
-    pub next_fits : RingHas (log_ring g) h.end_off (next_record s e) x → SlotHas g (h.last + 1) (staged_in g (image (added s e)) e) x → MatchesHead g (committed h e.time (length (next_record s e))) (added s e) x
+    pub next_fits : RingHas (log_ring g) h.end_off (next_record s e) x → SlotHas g (h.last + 1) (staged_in g (image (added s e)) e) x
+        → MatchesHead g (committed h e.time (length (next_record s e))) (added s e) x
     next_fits ring slot = record {
       valid = next_valid;
       head = next_head;

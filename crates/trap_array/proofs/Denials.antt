@@ -70,7 +70,8 @@ error_meets {T = T} P result e holds is = subst (λ (r : Result T Denied). IfErr
 module _ (a : Mounted) (time block : ℕ) (result : Result ℕ Denied) (v w : View) (inside : block < volume a.g) (running : a.is_stopped ≡ false)
     (cause : IfErr result (Denies a v w)) where
   pub denied_write : ((why : Refusal) → why ≢ Full → (result ≡ Err (Refused why)) ↔ (early_refusal a.head time ≡ Some why))
-      → (result ≡ Err (Refused Full) → IsFull a.g a.head (greatest_record a.g.block)) → ((why : Refusal) → early_refusal a.head time ≡ Some why → Untouched v w) → DeniedBy a block (of_write a time) result v w
+      → (result ≡ Err (Refused Full) → IsFull a.g a.head (greatest_record a.g.block)) → ((why : Refusal) → early_refusal a.head time ≡ Some why → Untouched v w)
+      → DeniedBy a block (of_write a time) result v w
   denied_write refused full at_once = record {
     no_block = ((λ is. absurd (error_meets (Denies a v w) result (Refused NoBlock) cause is refl)), (λ above. absurd (omega (arith, inside, above))));
     stopped = ((λ is. absurd (error_meets (Denies a v w) result Stopped cause is)), (λ both. absurd (not_both both.1)));
@@ -97,7 +98,8 @@ member_of a v w first second fails = record {
 
 module _ {T : Type 0} (a : Mounted) (block : ℕ) (own : Option Refusal) (result : Result T Denied) (v w : View) (inside : block < volume a.g) (running : a.is_stopped ≡ false)
     (cause : IfErr result (DeniesInstant a v w)) where
-  pub denied_reading : ((why : Refusal) → (result ≡ Err (Refused why)) ↔ (own ≡ Some why)) → (own ≡ Some Full → ⊥) → ((why : Refusal) → own ≡ Some why → Untouched v w) → DeniedBy a block (of_reading a own) result v w
+  pub denied_reading : ((why : Refusal) → (result ≡ Err (Refused why)) ↔ (own ≡ Some why)) → (own ≡ Some Full → ⊥) → ((why : Refusal) → own ≡ Some why → Untouched v w)
+      → DeniedBy a block (of_reading a own) result v w
   denied_reading refused not_full at_once = record {
     no_block = ((λ is. absurd (error_meets (DeniesInstant a v w) result (Refused NoBlock) cause is refl)), (λ above. absurd (omega (arith, inside, above))));
     stopped = ((λ is. absurd (error_meets (DeniesInstant a v w) result Stopped cause is)), (λ both. absurd (not_both both.1)));

@@ -17,14 +17,14 @@ use Rattle.trap_stage.specs.Staged.{Staged}
 use Rattle.trap_stage.proofs.PendingWrites.{pending-split, pending-take}
 use Rattle.trap_array.specs.Holding.{head_place, MatchesHead, Outside}
 use Rattle.trap_array.specs.Calls.{Mounted, StandsFor, AtAnyMoment, StandsAfterCall, running}
-use Rattle.trap_array.specs.Log.{Log, AreInStep}
+use Rattle.trap_array.specs.Log.{IndexedLog, StagesHead}
 use Rattle.trap_array.specs.NextHead.{drained_to}
 use Rattle.trap_array.proofs.CommitSteps.{stands_apart}
 use Rattle.trap_array.proofs.NextHeads.{later_drained}
 use Rattle.trap_array.proofs.Drains.{covered_outside, drained_fits}
 use Rattle.trap_array.proofs.Turns.{StillIf, Whatever, still_beside, still_may, still_then_may, still_then_has, asked_may, asked_has, put_may, put_has}
 
-module _ (log : Log) (is_head : log.cell.place ≡ head_place) (in_step : AreInStep log.head log.stage log.index) (v : View)
+module _ (log : IndexedLog) (is_head : log.cell.place ≡ head_place) (in_step : StagesHead log.head log.stage) (v : View)
     (upto : ℕ) (low : log.head.drained ≤ upto) (high : upto ≤ log.head.last)
     (k : Condition) (is_raid : k ≡ record { g = log.g; lost = log.head.lost; rebuilt = log.head.rebuilt }) where
   abbrev here : Mounted
@@ -45,9 +45,11 @@ module _ (log : Log) (is_head : log.cell.place ≡ head_place) (in_step : AreInS
       covered_outside log.g log.head s (pending log.g s upto) (drop (last s - upto) (pending log.g s log.head.drained)) parts e i
       (subst (λ (writes : List Staged). Covered log.g writes e i) (older s x stands) covered)
 
-  still : (w : View) → Moves v w (Differs (InDrained k.g k.lost k.rebuilt (writes_to log.stage upto))) (Differs (InDrained k.g k.lost k.rebuilt (writes_to log.stage upto))) → Moves v w (StillIf here v Whatever) (StillIf here v Whatever)
+  still : (w : View) → Moves v w (Differs (InDrained k.g k.lost k.rebuilt (writes_to log.stage upto)))
+      (Differs (InDrained k.g k.lost k.rebuilt (writes_to log.stage upto))) → Moves v w (StillIf here v Whatever) (StillIf here v Whatever)
   still w moves =
-      let P : Condition → Type 0 = λ (c : Condition). Moves v w (Differs (InDrained c.g c.lost c.rebuilt (writes_to log.stage upto))) (Differs (InDrained c.g c.lost c.rebuilt (writes_to log.stage upto))) in
+      let P : Condition → Type 0 = λ (c : Condition). Moves v w (Differs (InDrained c.g c.lost c.rebuilt (writes_to log.stage upto)))
+      (Differs (InDrained c.g c.lost c.rebuilt (writes_to log.stage upto))) in
       still_beside here Whatever (InDrained log.g log.head.lost log.head.rebuilt (writes_to log.stage upto)) v w is_head
       (λ s x was stands none e i drained. beside s x.disks stands e i drained.covered) (subst P is_raid moves)
 

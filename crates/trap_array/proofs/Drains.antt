@@ -28,11 +28,13 @@ covered_outside g h s newer older parts f i covered =
           (λ rest. ⊎_elim (λ (window : InRing (log_ring g) h.first_off (kept s) f i). omega (arith, there, window.disk))
           (λ rest. ⊎_elim (λ (slots : InSlots g h.drained (last s) f i). omega (arith, there, slots.within.disk))
           (λ rest. ⊎_elim (λ (headers : InHeaders g h.lost h.rebuilt f i). apart.1 headers)
-          (λ (places : InPlaces g h.lost h.rebuilt (pending g s h.drained) f i). apart.0 (subst (λ (writes : List Staged). InPlaces g h.lost h.rebuilt writes f i) parts places)) rest) rest) rest) matters;
+          (λ (places : InPlaces g h.lost h.rebuilt (pending g s h.drained) f i). apart.0 (subst (λ (writes : List Staged). InPlaces g h.lost h.rebuilt writes f i) parts
+          places)) rest) rest) rest) matters;
     }
 
 -- with the older ones on the members, the disks fit a head that says so
-pub drained_fits : (g : Geometry) (h : Head) (s : State) (upto : ℕ) (x : Disks) → MatchesHead g h s x → h.drained ≤ upto → upto ≤ h.last → AreDrained g h.lost h.rebuilt (drop (last s - upto) (pending g s h.drained)) x → MatchesHead g (drained_to h upto) s x
+pub drained_fits : (g : Geometry) (h : Head) (s : State) (upto : ℕ) (x : Disks) → MatchesHead g h s x → h.drained ≤ upto → upto ≤ h.last
+    → AreDrained g h.lost h.rebuilt (drop (last s - upto) (pending g s h.drained)) x → MatchesHead g (drained_to h upto) s x
 drained_fits g h s upto x fits low high drained =
     let parts = pending-split g s h.drained upto low (omega (arith, high, fits.head.last)) in
     record {

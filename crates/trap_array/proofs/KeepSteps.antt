@@ -25,10 +25,10 @@ use Rattle.trap_raid.specs.Reads.{FailedMember}
 use Rattle.trap_raid.proofs.FitLemmas.{others_count}
 use Rattle.trap_array.specs.Beside.{StaysFrom}
 use Rattle.trap_array.specs.Calls.{Mounted, StandsFor, SameArray, AtAnyMoment, running}
-use Rattle.trap_array.specs.Log.{Log}
+use Rattle.trap_array.specs.Log.{IndexedLog}
 use Rattle.trap_array.specs.NextHead.{entry_for, IsPlanned}
-use Rattle.trap_array.specs.Ready.{CanCommit, CanDrain, KnowsCell}
-use Rattle.trap_array.specs.Turning.{IsFaultOf, Turns, IsFull, early_refusal}
+use Rattle.trap_array.specs.Ready.{CanCommit, CanWrite, KnowsCell}
+use Rattle.trap_array.specs.Turning.{IsFaultOf, MovesLog, IsFull, early_refusal}
 use Rattle.trap_array.specs.declared.fault.Denied.{Denied}
 use Rattle.trap_array.specs.declared.fault.Denied.TheVariants.{Refused, MemberFault}
 use Rattle.trap_array.proofs.Beside.{stays_same}
@@ -66,12 +66,15 @@ member_fault a v w m failed = record {
   rose = failed.rose;
 }
 
-pub plan_failed : (a : Log) (v w : View) (next : State → State) (replies : State → Reply) (m : ℕ) → FailedMember a.g a.head.lost v w m → OnlyReads v w → Turns a a next replies (Err (MemberFault m m)) v w
+pub plan_failed : (a : IndexedLog) (v w : View) (next : State → State) (replies : State → Reply) (m : ℕ) → FailedMember a.g a.head.lost v w m → OnlyReads v w
+    → MovesLog a a next replies (Err (MemberFault m m)) v w
 plan_failed a v w next replies m failed reads =
-    turns_failed a a next replies (MemberFault m m) v w (member_fault (running a) v w m failed) (goes_still (running a)) reads.sizes (stays_same (a.g.members + 1) v w reads.same) (same_may (running a) v w next reads.moves)
+    turns_failed a a next replies (MemberFault m m) v w (member_fault (running a) v w m failed) (goes_still (running a)) reads.sizes
+    (stays_same (a.g.members + 1) v w reads.same) (same_may (running a) v w next reads.moves)
 
-pub room_failed : (a b : Log) (v w : View) (next : State → State) (replies : State → Reply) (e : Denied) → IsFaultOf (running a) v w e → SameArray (running a) (running b) → ((d : ℕ) → w.sizes d ≡ v.sizes d) → StaysFrom (a.g.members + 1) v w
-    → Moves v w (AtAnyMoment (running a) v (λ s. s)) (AtAnyMoment (running a) v (λ s. s)) → Turns a b next replies (Err e) v w
+pub room_failed : (a b : IndexedLog) (v w : View) (next : State → State) (replies : State → Reply) (e : Denied) → IsFaultOf (running a) v w e
+    → SameArray (running a) (running b) → ((d : ℕ) → w.sizes d ≡ v.sizes d) → StaysFrom (a.g.members + 1) v w
+    → Moves v w (AtAnyMoment (running a) v (λ s. s)) (AtAnyMoment (running a) v (λ s. s)) → MovesLog a b next replies (Err e) v w
 room_failed a b v w next replies e fault on sizes others moves = turns_failed a b next replies e v w fault on sizes others (kept_may (running a) v w next moves)
 
 -- ---- refusals by time and number
@@ -85,7 +88,8 @@ early_none h time none =
     let second = not_refused (h.last == 2 ^ 40) Worn None first.1 in
     (ltb-false time h.last_time first.0, eqb-false h.last (2 ^ 40) second.0)
 
-pub early_turns : (a : Log) (v : View) (time block : ℕ) (bytes : List ℕ) (why : Refusal) → CanDrain a v → block < volume a.g → early_refusal a.head time ≡ Some why → Turns a a (next_of a.g time block bytes) (reply_of a.g time block bytes) (Err (Refused why)) v v
+pub early_turns : (a : IndexedLog) (v : View) (time block : ℕ) (bytes : List ℕ) (why : Refusal) → CanWrite a v → block < volume a.g → early_refusal a.head time ≡ Some why
+    → MovesLog a a (next_of a.g time block bytes) (reply_of a.g time block bytes) (Err (Refused why)) v v
 early_turns a v time block bytes why can inside is =
     ⊎_elim
     (λ back. subst P (sym back.1) (turns_refused a next replies (TimeBack a.head.last_time) v v (λ e. cc) (none_moves v) (λ told. refl) (λ d. refl) can.in_step can.cell
@@ -104,7 +108,7 @@ early_turns a v time block bytes why can inside is =
     replies = reply_of a.g time block bytes
 
     P : Refusal → Type 0
-    P r = Turns a a (next_of a.g time block bytes) (reply_of a.g time block bytes) (Err (Refused r)) v v
+    P r = MovesLog a a (next_of a.g time block bytes) (reply_of a.g time block bytes) (Err (Refused r)) v v
 
     nothing : (r : Refusal) → None ≡ Some r → ⊥
     nothing r e = cc
@@ -117,10 +121,10 @@ room_left g h size is not_full = (
   ⊎_elim (λ big. absurd (not_full (inr big))) (λ small. small) (cases_lt g.ring (h.end_off - h.first_off + size)),
 )
 
-module _ (a : Log) (v w : View) (time block size : ℕ) (bytes delta parity spelled : List ℕ)
-    (is_head : IsHead a.g a.head) (can : CanDrain a v) (reads : OnlyReads v w)
+module _ (a : IndexedLog) (v w : View) (time block size : ℕ) (bytes delta parity spelled : List ℕ)
+    (is_head : IsHead a.g a.head) (can : CanWrite a v) (reads : OnlyReads v w)
     (free : a.head.last < a.head.drained + a.g.slots) (later : a.head.last_time ≤ time) (not_worn : a.head.last < 2 ^ 40) (fits : time < 2 ^ 64)
-    (inside : block < volume a.g) (whole : length bytes ≡ a.g.block) (parity_size : length parity ≡ a.g.block)
+    (inside : block < volume a.g) (whole : length bytes ≡ a.g.block)
     (long : length spelled ≡ size) (short : size ≤ greatest_record a.g.block) (code : (30 ≤ size) × (size ≤ a.g.block + 33))
     (plan : IsTrue v.tells → (s : State) → StandsFor (running a) s v.now.disks → IsPlan a.g (image s) block bytes delta parity)
     (record_is : (old fresh : List ℕ) → delta ≡ xor old fresh → spelled ≡ record_of (a.head.last + 1) old (entry_for time block fresh)) where
@@ -130,19 +134,20 @@ module _ (a : Log) (v w : View) (time block size : ℕ) (bytes delta parity spel
   size_is : (s : State) → IsTrue v.tells → StandsFor (running a) s v.now.disks → size ≡ length (next_record s (entry_for time block bytes))
   size_is s told stands = sym long ∙ ap (λ (xs : List ℕ). length xs) (planned_at s told stands).spelled_is
 
-  cell_known : KnowsCell a w
+  cell_known : KnowsCell a.cell a.head w
   cell_known = known_same a v w reads.moves can.cell
 
-  pub full_turns : IsFull a.g a.head size → Turns a a (next_of a.g time block bytes) (reply_of a.g time block bytes) (Err (Refused Full)) v w
+  pub full_turns : IsFull a.g a.head size → MovesLog a a (next_of a.g time block bytes) (reply_of a.g time block bytes) (Err (Refused Full)) v w
   full_turns full =
       turns_refused a (next_of a.g time block bytes) (reply_of a.g time block bytes) Full v w (λ e. cc) reads.moves reads.same reads.sizes can.in_step cell_known
       (λ s told stands. full_refused a.g s time block bytes v.now.disks a refl stands inside later not_worn size (size_is s told stands) full)
 
-  pub can_commit : (IsFull a.g a.head size → ⊥) → CanCommit a w (entry_for time block bytes) parity spelled
-  can_commit not_full =
+  pub can_commit : length parity ≡ a.g.block → (IsFull a.g a.head size → ⊥) → CanCommit a w (entry_for time block bytes) parity spelled
+  can_commit parity_size not_full =
       let left = room_left a.g a.head size is_head not_full in
       record {
         in_step = can.in_step;
+        same = can.same;
         sizes = sizes_still a.g a.head.lost a.head.rebuilt v w reads.sizes can.sizes;
         cell = cell_known;
         next = head_committed a.g a.head is_head time (length spelled) later fits not_worn free left.0 (omega (arith, long, left.1)) (omega (arith, long, short));
@@ -155,8 +160,8 @@ module _ (a : Log) (v w : View) (time block size : ℕ) (bytes delta parity spel
             planned_at s before (subst (λ (now : Contents). StandsFor (running a) s now.disks) (reads.same before) (always w.now (read_is_left w told)));
       }
 
-  pub kept_turns : (IsFull a.g a.head size → ⊥) → (b : Log) (result : Result ℕ Denied) (x : View)
-      → Turns a b (λ s. added s (entry_for time block bytes)) (λ s. Kept (last s + 1)) result w x → Turns a b (next_of a.g time block bytes) (reply_of a.g time block bytes) result v x
+  pub kept_turns : (IsFull a.g a.head size → ⊥) → (b : IndexedLog) (result : Result ℕ Denied) (x : View)
+      → MovesLog a b (λ s. added s (entry_for time block bytes)) (λ s. Kept (last s + 1)) result w x → MovesLog a b (next_of a.g time block bytes) (reply_of a.g time block bytes) result v x
   kept_turns not_full b result x turns =
       let next : State → State = λ (s : State). added s (entry_for time block bytes) in
       let replies : State → Reply = λ (s : State). Kept (last s + 1) in

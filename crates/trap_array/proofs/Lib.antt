@@ -17,3 +17,4 @@ pub mod WriteSteps
 pub mod Removed
 pub mod Sources
 pub mod LookingBack
+pub mod Leasing

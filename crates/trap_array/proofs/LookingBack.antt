@@ -1,6 +1,6 @@
 -- The log as a source: what its calls leave, and how many reads they take.
-use Rattle.std.proofs.Common.{◌≡◌, List, ℕ, ◌+◌, ◌-◌, ◌*◌, ◌<◌, ◌≤◌, Option, Some, None, Result, IfErr, IsErrOf, IsTrue, refl, ap, sym, subst, arith}
-use Rattle.std.proofs.Math.Nat.{mul-zero, mul-one, mul-le-mul_left, lt_of_not-le}
+use Rattle.std.proofs.Common.{◌≡◌, ◌⊎◌, List, ℕ, ◌+◌, ◌-◌, ◌*◌, ◌<◌, ◌≤◌, Option, Some, None, Bool, true, false, nat_le, if◌then◌else◌, ◌%◌, Result, Ok, Err, IfErr, IsErrOf, IsTrue, ⊎_elim, refl, ap, sym, subst, ◌∙◌, arith}
+use Rattle.std.proofs.Math.Nat.{lt_of_not-le}
 use Rattle.std.proofs.lemmas.Bool.{le-leb, leb-true, false≢true}
 use Rattle.trap_bank.specs.Steps.{OnlyReads}
 use Rattle.trap_bank.specs.Disks.{View}
@@ -17,12 +17,17 @@ use Rattle.trap_past.proofs.Tracing.{IsLawful}
 use Rattle.trap_raid.specs.Standing.{reads_of}
 use Rattle.trap_raid.proofs.StandingLemmas.{reads_with_all, reads_with_one_lost}
 use Rattle.trap_bank.specs.Called.{CalledAtMost, TakesCalls}
+use Rattle.trap_bank.proofs.Called.{not_called, called_at_most}
+use Rattle.trap_map.specs.Layout.{block_place}
+use Rattle.trap_map.specs.declared.places.Place.{Place}
+use Rattle.trap_ring.specs.Ring.{RingPlace, ring_calls}
 use Rattle.trap_stage.specs.Staged.{Staged, newest_at}
 use Rattle.trap_model.specs.declared.history.State.{State}
-use Rattle.trap_array.specs.Calls.{StandsFor, running}
+use Rattle.trap_array.specs.Calls.{Mounted, StandsFor, running}
 use Rattle.trap_array.specs.Instants.{CanLookBack}
-use Rattle.trap_array.specs.Log.{Log}
-use Rattle.trap_array.specs.Sources.{CallCounts, is_long, IsFor, past_of, CallsAtMost, present_reads, OnlyLooked, LookFailed}
+use Rattle.trap_array.specs.Log.{IndexedLog}
+use Rattle.trap_array.specs.Sources.{CallCounts, is_long, IsFor, past_of_log, CallsAtMost, ReadsPresent, CallsBeside, record_reads, present_of, present_reads, OnlyLooked, LookFailed}
+use Rattle.trap_array.proofs.WriteSteps.{mounted}
 use Rattle.trap_array.specs.declared.fault.Denied.{Denied}
 use Rattle.trap_array.specs.declared.fault.Denied.TheVariants.{Damaged}
 
@@ -37,16 +42,18 @@ fits_of v d end long = by_size (v.sizes d) refl
     by_size None is = absurd (false≢true (subst (λ (o : Option ℕ). IsTrue (is_long o end)) is long))
     by_size (Some size) is = (size, is, leb-true end size (subst (λ (o : Option ℕ). IsTrue (is_long o end)) is long))
 
-pub is_for : (log : Log) (v : View) → CanLookBack log v → IsFor log v
+pub is_for : (log : IndexedLog) (v : View) → CanLookBack log v → IsFor log v
 is_for log v can = record {
   in_step = can.in_step;
+  same = can.same;
   log_disk = long_of v 0 (log_size log.g) can.sizes.log;
   members = λ m inside counts. long_of v (m + 1) (member_size log.g) (can.sizes.members m inside counts);
 }
 
-pub can_look : (log : Log) (v : View) → IsFor log v → CanLookBack log v
+pub can_look : (log : IndexedLog) (v : View) → IsFor log v → CanLookBack log v
 can_look log v is = record {
   in_step = is.in_step;
+  same = is.same;
   sizes = record {
     log = fits_of v 0 (log_size log.g) is.log_disk;
     members = λ m inside counts. fits_of v (m + 1) (member_size log.g) (is.members m inside counts);
@@ -54,15 +61,16 @@ can_look log v is = record {
 }
 
 -- and they are so still
-pub is_for_still : (log : Log) (old new : View) → IsFor log old → OnlyReads old new → IsFor log new
+pub is_for_still : (log : IndexedLog) (old new : View) → IsFor log old → OnlyReads old new → IsFor log new
 is_for_still log old new is reads = record {
   in_step = is.in_step;
+  same = is.same;
   log_disk = subst (λ (o : Option ℕ). IsTrue (is_long o (log_size log.g))) (sym (reads.sizes 0)) is.log_disk;
   members = λ m inside counts. subst (λ (o : Option ℕ). IsTrue (is_long o (member_size log.g))) (sym (reads.sizes (m + 1))) (is.members m inside counts);
 }
 
-module _ (log : Log) (v : View) (n : CallCounts) (same : log.index.g ≡ log.g) where
-  pub index_is : IsIndexOf log.index (past_of log v n).has
+module _ (log : IndexedLog) (v : View) (n : CallCounts) (same : log.index.g ≡ log.g) where
+  pub index_is : IsIndexOf log.index (past_of_log log v n).has
   index_is = record {
     first = refl;
     last = refl;
@@ -70,20 +78,28 @@ module _ (log : Log) (v : View) (n : CallCounts) (same : log.index.g ≡ log.g) 
     volume = (let is = ap volume same in omega arith);
   }
 
-  pub lawful : IsLawful (past_of log v n)
+  pub lawful : IsLawful (past_of_log log v n)
   lawful s stands =
-      of_described log.index s (past_of log v n).has stands.1.index
+      of_described log.index s (past_of_log log v n).has stands.1.index
       (subst (λ (g : Geometry). IsValid g s) (sym same) stands.1.by.fits.valid) index_is (ap volume (sym same)) (ap (λ (g : Geometry). g.block) (sym same))
 
 -- ---- how many reads
 none_called : (calls : ℕ) (v : View) → CallsAtMost calls v v
-none_called calls v = record { way = refl; moment = λ told one. omega arith }
+none_called calls v = record { by_one = refl; moment = λ told one. omega arith }
 
 few_calls : (few calls : ℕ) (old new : View) → few ≤ calls → CalledAtMost few old new → CallsAtMost calls old new
 few_calls few calls old new most called = record {
-  way = called.by_one;
+  by_one = called.by_one;
   moment = λ told one. (let at = called.moment told one in omega arith);
 }
+
+-- a record takes two at most
+pub ring_reads : {T E : Type 0} (r : RingPlace) (at len : ℕ) (result : Result T E) (old new : View) → TakesCalls (ring_calls r at len) result old new → CallsAtMost 2 old new
+ring_reads r at len result old new takes = few_calls (ring_calls r at len) 2 old new (two (nat_le (at % r.len + len) r.len)) takes.most
+  where
+    two : (b : Bool) → (if b then 1 else 2) ≤ 2
+    two true = omega arith
+    two false = omega arith
 
 -- a read of a place takes as many as the present contents of a block
 pub place_calls : {T E : Type 0} (result : Result T E) (g : Geometry) (lost : Option ℕ) (writes : List Staged) (row member : ℕ) (old new : View) → member < g.members
@@ -93,20 +109,93 @@ place_calls result g (Some gone) writes row member old new inside takes =
 place_calls result g None writes row member old new inside takes =
     few_calls (reads_of g None writes row member) 1 old new (reads_with_all g writes row member) takes.most
 
--- no calls yet
-abbrev pub no_counts : CallCounts
-no_counts = record { presents = 0; parities = 0; snapshots = 0; faults = 0 }
+-- a read of a block's place is one of its present contents
+pub present_calls : {T E : Type 0} (result : Result T E) (a : Mounted) (block : ℕ) (place : Place) (old new : View) → place ≡ block_place a.g block → place.member < a.g.members
+    → TakesCalls (reads_of a.g a.head.lost a.pending place.row place.member) result old new → ReadsPresent a block result old new
+present_calls {T = T} {E = E} result a block place old new is inside takes = record {
+  exact = subst (λ (p : Place). TakesCalls {T = T} {E = E} (reads_of a.g a.head.lost a.pending p.row p.member) result old new) is takes;
+  most = place_calls result a.g a.head.lost a.pending place.row place.member old new inside takes;
+}
 
--- one present block and so many parities
-pub look_calls : (log : Log) (n : CallCounts) (turns : ℕ) (old new : View) → n.presents ≤ 0 + 1 → n.parities ≤ 0 + turns → n.snapshots ≡ 0 → OnlyLooked log no_counts n old new → CallsAtMost (present_reads log.g log.head.lost + 2 * turns) old new
-look_calls log n turns old new one few none looks =
-    let none_is : present_reads log.g log.head.lost * 0 ≡ 0 = mul-zero (present_reads log.g log.head.lost) in
-    let most : present_reads log.g log.head.lost * n.presents ≤ present_reads log.g log.head.lost * 1 = mul-le-mul_left (present_reads log.g log.head.lost) (omega arith) in
-    let one_is : present_reads log.g log.head.lost * 1 ≡ present_reads log.g log.head.lost = mul-one (present_reads log.g log.head.lost) in
-    record { way = looks.way; moment = λ told by_one. (let calls = looks.calls told by_one in omega arith) }
+-- no call, where nothing is read
+pub reads_no_present : {T E : Type 0} (a : Mounted) (block : ℕ) (why : E) (v : View) → ReadsPresent {T = T} a block (Err why) v v
+reads_no_present a block why v = record {
+  exact = record { ok = tt; most = called_at_most 0 (present_of a block) v v (omega arith) (not_called v) };
+  most = none_called (present_reads a.g a.head.lost) v;
+}
+
+-- the same of an array, stopped or not, and with another name for a fault
+pub reads_mounted : {T E F : Type 0} (log : IndexedLog) (stopped : Bool) (block : ℕ) (value : T) (old new : View) → ReadsPresent {T = T} {E = E} (running log) block (Ok value) old new
+    → ReadsPresent {T = T} {E = F} (mounted log stopped) block (Ok value) old new
+reads_mounted log stopped block value old new reads = record { exact = record { ok = reads.exact.ok; most = reads.exact.most }; most = reads.most }
+
+pub reads_failed : {T E F : Type 0} (a : Mounted) (log : IndexedLog) (stopped : Bool) (block : ℕ) (why : E) (other : F) (old new : View) → mounted log stopped ≡ a
+    → ReadsPresent {T = T} {E = E} (running log) block (Err why) old new
+    → ReadsPresent {T = T} {E = F} a block (Err other) old new
+reads_failed {T = T} {F = F} a log stopped block why other old new is reads =
+    subst (λ (m : Mounted). ReadsPresent {T = T} {E = F} m block (Err other) old new) is (record { exact = record { ok = tt; most = reads.exact.most }; most = reads.most })
+
+-- as a call of the source
+pub present_goes : (log : IndexedLog) (p a b f t was block : ℕ) (old new : View) → OnlyReads old new → CalledAtMost (present_of (running log) block) old new
+    → OnlyLooked log (record { presents = p; parities = a; snapshots = b; faults = f; asked = was }) (record { presents = p + 1; parities = a; snapshots = b; faults = t; asked = block }) old new
+present_goes log p a b f t was block old new reads calls = record {
+  reads = reads;
+  presents = omega arith;
+  by_one = calls.by_one;
+  none = λ same. absurd (more p same);
+  one = λ is told by_one. (let most = calls.moment told by_one in omega arith);
+}
+  where
+    more : (p : ℕ) → p + 1 ≡ p → ⊥
+    more p is = omega (arith, is)
+
+-- and one that reads a record
+pub record_goes : (log : IndexedLog) (was now : CallCounts) (old new : View) → now.presents ≡ was.presents → now.asked ≡ was.asked
+    → record_reads now ≡ record_reads was + 2 → OnlyReads old new → CallsAtMost 2 old new
+    → OnlyLooked log was now old new
+record_goes log was now old new same asked more reads calls = record {
+  reads = reads;
+  presents = omega (arith, same);
+  by_one = calls.by_one;
+  none = λ _. (asked, λ told by_one. (let most = calls.moment told by_one in omega (arith, more, most)));
+  one = λ is. absurd (other was.presents (sym same ∙ is));
+}
+  where
+    other : (p : ℕ) → p ≡ p + 1 → ⊥
+    other p is = omega (arith, is)
+
+pub parity_goes : (log : IndexedLog) (p a b f t asked : ℕ) (old new : View) → OnlyReads old new → CallsAtMost 2 old new
+    → OnlyLooked log (record { presents = p; parities = a; snapshots = b; faults = f; asked = asked }) (record { presents = p; parities = a + 1; snapshots = b; faults = t; asked = asked }) old new
+parity_goes log p a b f t asked old new reads calls = record_goes log _ _ old new refl refl (two a b) reads calls
+  where
+    two : (a b : ℕ) → 2 * (a + 1) + 2 * b ≡ 2 * a + 2 * b + 2
+    two a b = omega arith
+
+pub snapshot_goes : (log : IndexedLog) (p a b f t asked : ℕ) (old new : View) → OnlyReads old new → CallsAtMost 2 old new
+    → OnlyLooked log (record { presents = p; parities = a; snapshots = b; faults = f; asked = asked }) (record { presents = p; parities = a; snapshots = b + 1; faults = t; asked = asked }) old new
+snapshot_goes log p a b f t asked old new reads calls = record_goes log _ _ old new refl refl (two a b) reads calls
+  where
+    two : (a b : ℕ) → 2 * a + 2 * (b + 1) ≡ 2 * a + 2 * b + 2
+    two a b = omega arith
+
+-- no calls yet
+abbrev pub no_counts : ℕ → CallCounts
+no_counts asked = record { presents = 0; parities = 0; snapshots = 0; faults = 0; asked = asked }
+
+-- the present contents of one block at most, and that many parities
+pub look_calls : (log : IndexedLog) (first : ℕ) (n : CallCounts) (block turns : ℕ) (old new : View) → (n.presents ≡ 0) ⊎ ((n.presents ≡ 0 + 1) × (n.asked ≡ block)) → n.parities ≤ 0 + turns
+    → n.snapshots ≡ 0 → OnlyLooked log (no_counts first) n old new → CallsAtMost (present_of (running log) block + 2 * turns) old new
+look_calls log first n block turns old new present few none looks = record {
+  by_one = looks.by_one;
+  moment = λ told by_one. ⊎_elim
+      (λ kept. (let calls = (looks.none kept).1 told by_one in omega arith))
+      (λ once. (let calls = (subst (λ (k : ℕ). CallsBeside (present_of (running log) k) (no_counts first) n old new) once.1 (looks.one once.0)) told by_one in omega arith))
+      present;
+}
 
 -- a record isn't damaged where the log stands for a state
-pub look_damaged : (log same : Log) (was now : CallCounts) (old new : View) (result : Result (Unit {0}) Denied) (offset : ℕ) → IfErr result (λ fault. (log ≡ same) × LookFailed log was now old new fault) → IsErrOf result (Damaged offset) → IsTrue old.tells → (s : State) → StandsFor (running log) s old.now.disks → ⊥
+pub look_damaged : (log same : IndexedLog) (was now : CallCounts) (old new : View) (result : Result (Unit {0}) Denied) (offset : ℕ)
+    → IfErr result (λ fault. (log ≡ same) × LookFailed log was now old new fault) → IsErrOf result (Damaged offset) → IsTrue old.tells → (s : State) → StandsFor (running log) s old.now.disks → ⊥
 look_damaged log same was now old new result offset caused is told s stands =
     (subst (λ (r : Result (Unit {0}) Denied). IfErr r (λ fault. (log ≡ same) × LookFailed log was now old new fault)) is caused).1.damaged offset refl told s stands
 

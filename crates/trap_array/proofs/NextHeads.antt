@@ -24,14 +24,26 @@ lost_inside g h is member there =
 
 -- ---- it is a later head
 pub later_committed : (h : Head) (time size : ℕ) → IsLaterHead h (committed h time size)
-later_committed h time size = record { grows = record { first = refl; base_time = refl; first_off = refl; end_off = omega arith; last = omega arith; drained = omega arith }; lost = refl; rebuilt = refl }
+later_committed h time size = record {
+  grows = record {
+    first = refl;
+    base_time = refl;
+    first_off = refl;
+    end_off = omega arith;
+    last = omega arith;
+    drained = omega arith;
+  };
+  lost = refl;
+  rebuilt = refl;
+}
 
 pub later_drained : (h : Head) (upto : ℕ) → h.drained ≤ upto → IsLaterHead h (drained_to h upto)
 later_drained h upto low = record { grows = record { first = refl; base_time = refl; first_off = refl; end_off = omega arith; last = omega arith; drained = low }; lost = refl; rebuilt = refl }
 
 -- ---- and one of such an array
 module _ (g : Geometry) (h : Head) (is : IsHead g h) where
-  pub head_committed : (time size : ℕ) → h.last_time ≤ time → time < 2 ^ 64 → h.last < 2 ^ 40 → h.last < h.drained + g.slots → h.last < h.first + g.entries → h.end_off - h.first_off + size ≤ g.ring → size ≤ greatest_record g.block → IsHead g (committed h time size)
+  pub head_committed : (time size : ℕ) → h.last_time ≤ time → time < 2 ^ 64 → h.last < 2 ^ 40 → h.last < h.drained + g.slots → h.last < h.first + g.entries
+      → h.end_off - h.first_off + size ≤ g.ring → size ≤ greatest_record g.block → IsHead g (committed h time size)
   head_committed time size later fits worn free few room short = record {
     version = is.version;
     lost = record { member = is.lost.member; rebuilt = is.lost.rebuilt; none_rebuilt = is.lost.none_rebuilt };

@@ -17,7 +17,8 @@ use Rattle.trap_stage.proofs.PendingWrites.{pending_are_writes}
 use Rattle.trap_array.specs.Calls.{Mounted, StandsFor, HasSizes}
 
 -- the members' places, with the pending writes laid over, stand for the image
-pub stand_now : (a : Mounted) (v : View) (s : State) → IsLawful v → HasSizes a.g a.head.lost a.head.rebuilt v → IsTrue v.tells → StandsFor a s v.now.disks → HoldImage a.g a.head.lost a.pending (member_place a.g v.now.disks) (image s)
+pub stand_now : (a : Mounted) (v : View) (s : State) → IsLawful v → HasSizes a.g a.head.lost a.head.rebuilt v → IsTrue v.tells → StandsFor a s v.now.disks
+    → HoldImage a.g a.head.lost a.pending (member_place a.g v.now.disks) (image s)
 stand_now a v s lawful sizes told stands =
     let left = read_is_left v told in
     let fits = stands.by.fits in

@@ -31,11 +31,11 @@ use Rattle.trap_record.specs.Reading.{record_len, parity_of, snapshot_of, IsWhol
 use Rattle.trap_record.proofs.Getting.{written-whole}
 use Rattle.trap_ring.specs.Ring.{RingPlace, RingHas, ring_pos}
 use Rattle.trap_scan.proofs.Fronts.{ring_front, snapshot_most}
-use Rattle.trap_scan.proofs.Taking.{ring_behind}
+use Rattle.trap_scan.proofs.Taking.{ring_after}
 use Rattle.trap_array.specs.Calls.{Mounted, StandsFor, running}
 use Rattle.trap_array.specs.Holding.{log_ring}
 use Rattle.trap_array.specs.Instants.{HasEntry, HasBadRecord, FailsRecord, FailsLooking, DeniesInstant}
-use Rattle.trap_array.specs.Log.{Log}
+use Rattle.trap_array.specs.Log.{IndexedLog}
 use Rattle.trap_array.specs.Sources.{part_block}
 use Rattle.trap_array.specs.declared.fault.Denied.{Denied}
 use Rattle.trap_array.specs.declared.fault.Denied.TheVariants.{Refused, LogFault, MemberFault, Damaged, Stopped}
@@ -80,7 +80,8 @@ module _ (g : Geometry) (i : Indexed) (s : State) (q : ℕ) (valid : IsValid g s
 
   record_long : length (record_of q (block_before s q) (entry_at s q)) ≡ record_len (keeping.rec_of q (item_at i q))
   record_long =
-      let whole = written-whole g.block (keeping.rec_of q (item_at i q)) (change_code (block_before s q) (entry_at s q)) (snapshot_code (entry_at s q)) (record_of q (block_before s q) (entry_at s q)) [] is_record in
+      let whole = written-whole g.block (keeping.rec_of q (item_at i q)) (change_code (block_before s q) (entry_at s q)) (snapshot_code (entry_at s q))
+      (record_of q (block_before s q) (entry_at s q)) [] is_record in
       whole.len
 
   -- its record is no longer than the greatest one
@@ -92,13 +93,14 @@ module _ (g : Geometry) (i : Indexed) (s : State) (q : ℕ) (valid : IsValid g s
       omega arith
 
   -- what stands at its place in the ring is its record
-  bytes_are : (r : RingPlace) (bytes : List ℕ) (disks : Disks) → RingHas r i.first_off (records s) disks → RingHas r (item_at i q).off bytes disks → length bytes ≡ record_len (keeping.rec_of q (item_at i q)) → bytes ≡ record_of q (block_before s q) (entry_at s q)
+  bytes_are : (r : RingPlace) (bytes : List ℕ) (disks : Disks) → RingHas r i.first_off (records s) disks → RingHas r (item_at i q).off bytes disks
+      → length bytes ≡ record_len (keeping.rec_of q (item_at i q)) → bytes ≡ record_of q (block_before s q) (entry_at s q)
   bytes_are r bytes disks ring has size =
       let told = item_told i s q describes low_in high_in in
       let off = told.off in
       let at : i.first_off + ((item_at i q).off - i.first_off) ≡ (item_at i q).off = omega arith in
       let rest = drop ((item_at i q).off - i.first_off) (records s) in
-      let behind : RingHas r (item_at i q).off rest disks = subst (λ (n : ℕ). RingHas r n rest disks) at (ring_behind r i.first_off ((item_at i q).off - i.first_off) (records s) disks ring) in
+      let behind : RingHas r (item_at i q).off rest disks = subst (λ (n : ℕ). RingHas r n rest disks) at (ring_after r i.first_off ((item_at i q).off - i.first_off) (records s) disks ring) in
       let there : take (rec_len (rec_at i q)) rest ≡ record_of q (block_before s q) (entry_at s q) = record_told i s q describes low_in high_in in
       let len : rec_len (rec_at i q) ≡ record_len (keeping.rec_of q (item_at i q)) = ap rec_len (rec_told i s q describes low_in high_in) ∙ ap rec_len (sym told_is) in
       let cut = length-take (rec_len (rec_at i q)) rest in
@@ -111,41 +113,54 @@ module _ (g : Geometry) (i : Indexed) (s : State) (q : ℕ) (valid : IsValid g s
       ∙ ap (λ (n : ℕ). take n rest) (sym same)
       ∙ there
 
-  pub told_whole : (r : RingPlace) (bytes : List ℕ) (disks : Disks) → RingHas r i.first_off (records s) disks → RingHas r (item_at i q).off bytes disks → length bytes ≡ record_len (keeping.rec_of q (item_at i q)) → IsWhole g.block (keeping.rec_of q (item_at i q)) (length bytes) bytes
+  pub told_whole : (r : RingPlace) (bytes : List ℕ) (disks : Disks) → RingHas r i.first_off (records s) disks → RingHas r (item_at i q).off bytes disks
+      → length bytes ≡ record_len (keeping.rec_of q (item_at i q)) → IsWhole g.block (keeping.rec_of q (item_at i q)) (length bytes) bytes
   told_whole r bytes disks ring has size =
       let is = bytes_are r bytes disks ring has size in
-      let whole = written-whole g.block (keeping.rec_of q (item_at i q)) (change_code (block_before s q) (entry_at s q)) (snapshot_code (entry_at s q)) (record_of q (block_before s q) (entry_at s q)) [] is_record in
+      let whole = written-whole g.block (keeping.rec_of q (item_at i q)) (change_code (block_before s q) (entry_at s q)) (snapshot_code (entry_at s q))
+      (record_of q (block_before s q) (entry_at s q)) [] is_record in
       let P : List ℕ → Type 0 = λ (l : List ℕ). IsWhole g.block (keeping.rec_of q (item_at i q)) (length l) l in
       subst P (sym is)
-      (subst (λ (l : List ℕ). IsWhole g.block (keeping.rec_of q (item_at i q)) (length (record_of q (block_before s q) (entry_at s q))) l) (append-nil (record_of q (block_before s q) (entry_at s q))) whole)
+      (subst (λ (l : List ℕ). IsWhole g.block (keeping.rec_of q (item_at i q)) (length (record_of q (block_before s q) (entry_at s q))) l)
+      (append-nil (record_of q (block_before s q) (entry_at s q))) whole)
 
   -- and its parity is the entry's
-  pub told_parity : (r : RingPlace) (bytes into : List ℕ) (disks : Disks) → RingHas r i.first_off (records s) disks → RingHas r (item_at i q).off bytes disks → length bytes ≡ record_len (keeping.rec_of q (item_at i q)) → length into ≡ g.block → ZeroRun into (parity_of (keeping.rec_of q (item_at i q)) bytes) → into ≡ parity_at s q
+  pub told_parity : (r : RingPlace) (bytes into : List ℕ) (disks : Disks) → RingHas r i.first_off (records s) disks → RingHas r (item_at i q).off bytes disks
+      → length bytes ≡ record_len (keeping.rec_of q (item_at i q)) → length into ≡ g.block → ZeroRun into (parity_of (keeping.rec_of q (item_at i q)) bytes) → into ≡ parity_at s q
   told_parity r bytes into disks ring has size block spells =
       let is = bytes_are r bytes disks ring has size in
       let whole = told_whole r bytes disks ring has size in
       let small : g.block < 2 ^ 15 = omega (arith, g.within.block_most) in
       let all : take (length bytes) bytes ≡ bytes = take_all (length bytes) bytes (omega arith) in
-      let apart = LogRecord-apart g.block (keeping.rec_of q (item_at i q)) (keeping.rec_of q (item_at i q)) (parity_of (keeping.rec_of q (item_at i q)) bytes) (change_code (block_before s q) (entry_at s q)) (snapshot_of (keeping.rec_of q (item_at i q)) bytes) (snapshot_code (entry_at s q)) (take (length bytes) bytes) (record_of q (block_before s q) (entry_at s q)) [] [] small whole.is is_record (ap (λ (l : List ℕ). l ++ []) (all ∙ is)) in
+      let apart = LogRecord-apart g.block (keeping.rec_of q (item_at i q)) (keeping.rec_of q (item_at i q)) (parity_of (keeping.rec_of q (item_at i q)) bytes)
+      (change_code (block_before s q) (entry_at s q)) (snapshot_of (keeping.rec_of q (item_at i q)) bytes) (snapshot_code (entry_at s q)) (take (length bytes) bytes)
+      (record_of q (block_before s q) (entry_at s q)) [] [] small whole.is is_record (ap (λ (l : List ℕ). l ++ []) (all ∙ is)) in
       let change : length (xor (block_before s q) (entry_at s q).bytes) ≡ g.block = length-xor (block_before s q) (entry_at s q).bytes (is_entry.size ∙ sym long) ∙ long in
-      (ZeroRun-apart into (xor (block_before s q) (entry_at s q).bytes) (parity_of (keeping.rec_of q (item_at i q)) bytes) (change_code (block_before s q) (entry_at s q)) [] [] (block ∙ sym change) (omega arith) spells (code_of_spells (xor (block_before s q) (entry_at s q).bytes)) (ap (λ (l : List ℕ). l ++ []) apart.1)).0
+      (ZeroRun-apart into (xor (block_before s q) (entry_at s q).bytes) (parity_of (keeping.rec_of q (item_at i q)) bytes) (change_code (block_before s q) (entry_at s q))
+      [] [] (block ∙ sym change) (omega arith) spells (code_of_spells (xor (block_before s q) (entry_at s q).bytes)) (ap (λ (l : List ℕ). l ++ []) apart.1)).0
 
   -- and what it holds of a marked entry is what that writes
-  pub told_snapshot : (r : RingPlace) (bytes into : List ℕ) (disks : Disks) → RingHas r i.first_off (records s) disks → RingHas r (item_at i q).off bytes disks → length bytes ≡ record_len (keeping.rec_of q (item_at i q)) → length into ≡ g.block → IsTrue (item_at i q).snap → ZeroRun into (snapshot_of (keeping.rec_of q (item_at i q)) bytes) → into ≡ (entry_at s q).bytes
+  pub told_snapshot : (r : RingPlace) (bytes into : List ℕ) (disks : Disks) → RingHas r i.first_off (records s) disks → RingHas r (item_at i q).off bytes disks
+      → length bytes ≡ record_len (keeping.rec_of q (item_at i q)) → length into ≡ g.block → IsTrue (item_at i q).snap
+      → ZeroRun into (snapshot_of (keeping.rec_of q (item_at i q)) bytes) → into ≡ (entry_at s q).bytes
   told_snapshot r bytes into disks ring has size block marked spells =
       let is = bytes_are r bytes disks ring has size in
       let whole = told_whole r bytes disks ring has size in
       let small : g.block < 2 ^ 15 = omega (arith, g.within.block_most) in
       let all : take (length bytes) bytes ≡ bytes = take_all (length bytes) bytes (omega arith) in
-      let apart = LogRecord-apart g.block (keeping.rec_of q (item_at i q)) (keeping.rec_of q (item_at i q)) (parity_of (keeping.rec_of q (item_at i q)) bytes) (change_code (block_before s q) (entry_at s q)) (snapshot_of (keeping.rec_of q (item_at i q)) bytes) (snapshot_code (entry_at s q)) (take (length bytes) bytes) (record_of q (block_before s q) (entry_at s q)) [] [] small whole.is is_record (ap (λ (l : List ℕ). l ++ []) (all ∙ is)) in
+      let apart = LogRecord-apart g.block (keeping.rec_of q (item_at i q)) (keeping.rec_of q (item_at i q)) (parity_of (keeping.rec_of q (item_at i q)) bytes)
+      (change_code (block_before s q) (entry_at s q)) (snapshot_of (keeping.rec_of q (item_at i q)) bytes) (snapshot_code (entry_at s q)) (take (length bytes) bytes)
+      (record_of q (block_before s q) (entry_at s q)) [] [] small whole.is is_record (ap (λ (l : List ℕ). l ++ []) (all ∙ is)) in
       let told = item_told i s q describes low_in high_in in
       let snap : (entry_at s q).snap ≡ true = sym told.snap ∙ marked in
       let code : snapshot_code (entry_at s q) ≡ code_of (entry_at s q).bytes = ap (λ (b : Bool). if b then code_of (entry_at s q).bytes else []) snap in
       let long_bytes : length (entry_at s q).bytes ≡ g.block = is_entry.size in
-      (ZeroRun-apart into (entry_at s q).bytes (snapshot_of (keeping.rec_of q (item_at i q)) bytes) (code_of (entry_at s q).bytes) [] [] (block ∙ sym long_bytes) (omega arith) spells (code_of_spells (entry_at s q).bytes) (ap (λ (l : List ℕ). l ++ []) (apart.2 ∙ code))).0
+      (ZeroRun-apart into (entry_at s q).bytes (snapshot_of (keeping.rec_of q (item_at i q)) bytes) (code_of (entry_at s q).bytes) [] [] (block ∙ sym long_bytes)
+      (omega arith) spells (code_of_spells (entry_at s q).bytes) (ap (λ (l : List ℕ). l ++ []) (apart.2 ∙ code))).0
 
 -- the same, of the log's array and an item that was taken from its index
-module _ (log : Log) (s : State) (disks : Disks) (q : ℕ) (item : Item) (stands : StandsFor (running log) s disks) (has : HasEntry log.index q) (is : item ≡ item_at log.index q) (time : item.time < 2 ^ 64) where
+module _ (log : IndexedLog) (s : State) (disks : Disks) (q : ℕ) (item : Item) (stands : StandsFor (running log) s disks) (has : HasEntry log.index q)
+    (is : item ≡ item_at log.index q) (time : item.time < 2 ^ 64) where
   time_of : (item_at log.index q).time < 2 ^ 64
   time_of = subst (λ (x : Item). x.time < 2 ^ 64) is time
 
@@ -153,7 +168,8 @@ module _ (log : Log) (s : State) (disks : Disks) (q : ℕ) (item : Item) (stands
   not_short = subst (λ (x : Item). 26 + x.plen + x.slen ≤ greatest_record log.g.block) (sym is)
       (told_short log.g log.index s q stands.by.fits.valid stands.index has.low has.high time_of)
 
-  module _ (rec : LogRec) (bytes : List ℕ) (offset : log.index.first_off ≡ log.head.first_off) (there : RingHas (log_ring log.g) item.off bytes disks) (long : length bytes ≡ 26 + item.plen + item.slen) (header : rec ≡ keeping.rec_of q item) where
+  module _ (rec : LogRec) (bytes : List ℕ) (offset : log.index.first_off ≡ log.head.first_off) (there : RingHas (log_ring log.g) item.off bytes disks)
+      (long : length bytes ≡ 26 + item.plen + item.slen) (header : rec ≡ keeping.rec_of q item) where
     ring_there : RingHas (log_ring log.g) log.index.first_off (records s) disks
     ring_there = subst (λ (n : ℕ). RingHas (log_ring log.g) n (records s) disks) (sym offset) stands.by.fits.ring
 
@@ -199,8 +215,9 @@ record_most size r parity snapshot bytes is =
     omega arith
 
 -- where what is read again isn't the record that the index knows
-module _ (log : Log) (disks : Disks) (q : ℕ) (item : Item) (has : HasEntry log.index q) (is : item ≡ item_at log.index q) (offset : ℕ) (at : offset ≡ ring_pos (log_ring log.g) item.off) where
-  bad_where : ((parity snapshot bytes : List ℕ) → LogRecord log.g.block (keeping.rec_of q item) parity snapshot bytes → RingHas (log_ring log.g) item.off bytes disks → ⊥) → HasBadRecord log.g log.index disks offset
+module _ (log : IndexedLog) (disks : Disks) (q : ℕ) (item : Item) (has : HasEntry log.index q) (is : item ≡ item_at log.index q) (offset : ℕ) (at : offset ≡ ring_pos (log_ring log.g) item.off) where
+  bad_where : ((parity snapshot bytes : List ℕ) → LogRecord log.g.block (keeping.rec_of q item) parity snapshot bytes → RingHas (log_ring log.g) item.off bytes disks → ⊥)
+      → HasBadRecord log.g log.index disks offset
   bad_where none = record {
     seq = q;
     entry = has;

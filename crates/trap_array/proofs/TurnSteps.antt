@@ -6,6 +6,7 @@ use Rattle.trap_bank.specs.Faults.{Rose}
 use Rattle.trap_bank.specs.Steps.{Moves, Same, Always}
 use Rattle.trap_bank.proofs.Moves.{moves_weaken, no_moves, read_is_left}
 use Rattle.trap_block.specs.Xor.{xor}
+use Rattle.trap_index.specs.Indexed.{Indexed}
 use Rattle.trap_map.specs.Layout.{block_place}
 use Rattle.trap_map.specs.Table.{row_parity}
 use Rattle.trap_model.specs.ArrayStep.{added, step, refusal, or_refused, accepted, after}
@@ -28,13 +29,13 @@ use Rattle.trap_model.proofs.Refusals.{is_block, write_back, write_worn, write_m
 use Rattle.trap_raid.specs.Members.{Counts}
 use Rattle.trap_raid.specs.Plan.{IsPlan}
 use Rattle.trap_array.specs.Beside.{StaysFrom}
-use Rattle.trap_array.specs.Calls.{Mounted, StandsFor, HoldsLike, SameArray, AtAnyMoment, StandsAfterCall, MemberFails, WriteReplies, is_over, running}
+use Rattle.trap_array.specs.Calls.{Mounted, StandsFor, HoldsLike, SameArray, SameLog, AtAnyMoment, StandsAfterCall, MemberFails, WriteReplies, is_over, running}
 use Rattle.trap_format.specs.declared.head.Head.{Head}
 use Rattle.trap_array.specs.Growing.{IsLaterHead}
-use Rattle.trap_array.specs.Log.{Log, AreInStep}
+use Rattle.trap_array.specs.Log.{Log, IndexedLog, with_index, AreInStep}
 use Rattle.trap_array.specs.NextHead.{entry_for, IsPlanned}
 use Rattle.trap_array.specs.Ready.{KnowsCell}
-use Rattle.trap_array.specs.Turning.{IsFaultOf, Denies, Turns, IsFull}
+use Rattle.trap_array.specs.Turning.{IsFaultOf, Denies, MovesLog, IsFull}
 use Rattle.trap_array.specs.declared.fault.Denied.{Denied}
 use Rattle.trap_array.specs.declared.fault.Denied.TheVariants.{Refused, LogFault, MemberFault, Damaged, Stopped}
 use Rattle.trap_array.proofs.Beside.{stays_same, both_stay}
@@ -47,11 +48,27 @@ pub goes_then : (a b c : Mounted) → SameArray a b → SameArray b c → SameAr
 goes_then a b c first second = record { g = second.g ∙ first.g; follows = later_then a.head b.head c.head first.follows second.follows }
 
 -- a call whose head is the same, or a later one
-pub goes_same : (a b : Log) → b.g ≡ a.g → b.head ≡ a.head → SameArray (running a) (running b)
+pub goes_same : (a b : IndexedLog) → b.g ≡ a.g → b.head ≡ a.head → SameArray (running a) (running b)
 goes_same a b g head = record { g = g; follows = subst (λ (h : Head). IsLaterHead a.head h) (sym head) (later_same a.head) }
 
-pub goes_later : (a b : Log) → b.g ≡ a.g → IsLaterHead a.head b.head → SameArray (running a) (running b)
+pub goes_later : (a b : IndexedLog) → b.g ≡ a.g → IsLaterHead a.head b.head → SameArray (running a) (running b)
 goes_later a b g later = record { g = g; follows = later }
+
+-- the same of a log alone
+pub log_still : (a : Log) → SameLog a a
+log_still a = record { g = refl; follows = later_same a.head }
+
+pub log_same : (a b : Log) → b.g ≡ a.g → b.head ≡ a.head → SameLog a b
+log_same a b g head = record { g = g; follows = subst (λ (h : Head). IsLaterHead a.head h) (sym head) (later_same a.head) }
+
+pub log_later : (a b : Log) → b.g ≡ a.g → IsLaterHead a.head b.head → SameLog a b
+log_later a b g later = record { g = g; follows = later }
+
+pub log_of : (a b : Log) (i j : Indexed) → SameArray (running (with_index a i)) (running (with_index b j)) → SameLog a b
+log_of a b i j on = record { g = on.g; follows = on.follows }
+
+pub array_of : (a b : Log) (i j : Indexed) → SameLog a b → SameArray (running (with_index a i)) (running (with_index b j))
+array_of a b i j on = record { g = on.g; follows = on.follows }
 
 -- ---- faults
 fault_denies : (a : Mounted) (v w : View) (e : Denied) → IsFaultOf a v w e → Denies a v w e
@@ -106,15 +123,15 @@ if_err_since (Ok value) P Q more holds = tt
 if_err_since (Err e) P Q more holds = more e holds
 
 -- ---- whole turns
-module _ (a b : Log) (next : State → State) (replies : State → Reply) where
+module _ (a b : IndexedLog) (next : State → State) (replies : State → Reply) where
   pub turns_failed : (e : Denied) (v w : View) → IsFaultOf (running a) v w e → SameArray (running a) (running b) → ((d : ℕ) → w.sizes d ≡ v.sizes d) → StaysFrom (a.g.members + 1) v w
-      → Moves v w (AtAnyMoment (running a) v next) (AtAnyMoment (running a) v next) → Turns a b next replies (Err e) v w
+      → Moves v w (AtAnyMoment (running a) v next) (AtAnyMoment (running a) v next) → MovesLog a b next replies (Err e) v w
   turns_failed e v w fault on sizes others any = record {
     reply = λ told s always. fault_replies (running a) v w e fault (replies s);
     turned = λ done. absurd (fault_not_done (running a) v w e fault done);
     in_step = λ done. absurd (fault_not_done (running a) v w e fault done);
     cell = λ done. absurd (fault_not_done (running a) v w e fault done);
-    goes_on = on;
+    same_array = on;
     sizes = sizes;
     others = others;
     cause = fault_denies (running a) v w e fault;
@@ -122,14 +139,15 @@ module _ (a b : Log) (next : State → State) (replies : State → Reply) where
   }
 
   pub turns_done : (seq : ℕ) (v w : View) → (IsTrue v.tells → (s : State) → Always v (StandsFor (running a) s) → replies s ≡ Kept seq)
-      → Moves v w (AtAnyMoment (running a) v next) (StandsAfterCall (running a) (running b) v next) → AreInStep b.head b.stage b.index → KnowsCell b w → SameArray (running a) (running b) → ((d : ℕ) → w.sizes d ≡ v.sizes d)
-      → StaysFrom (a.g.members + 1) v w → Turns a b next replies (Ok seq) v w
+      → Moves v w (AtAnyMoment (running a) v next) (StandsAfterCall (running a) (running b) v next) → AreInStep b.head b.stage b.index → KnowsCell b.cell b.head w
+      → SameArray (running a) (running b) → ((d : ℕ) → w.sizes d ≡ v.sizes d)
+      → StaysFrom (a.g.members + 1) v w → MovesLog a b next replies (Ok seq) v w
   turns_done seq v w kept moves in_step cell on sizes others = record {
     reply = kept;
     turned = λ done. moves;
     in_step = λ done. in_step;
     cell = λ done. cell;
-    goes_on = on;
+    same_array = on;
     sizes = sizes;
     others = others;
     cause = tt;
@@ -137,14 +155,15 @@ module _ (a b : Log) (next : State → State) (replies : State → Reply) where
   }
 
   -- after a call that keeps the state
-  pub turns_after : (m : Log) (result : Result ℕ Denied) (u v w : View) → SameArray (running a) (running m) → Moves u v (AtAnyMoment (running a) u (λ s. s)) (StandsAfterCall (running a) (running m) u (λ s. s)) → ((d : ℕ) → v.sizes d ≡ u.sizes d)
-      → StaysFrom (a.g.members + 1) u v → Turns m b next replies result v w → Turns a b next replies result u w
+  pub turns_after : (m : IndexedLog) (result : Result ℕ Denied) (u v w : View) → SameArray (running a) (running m)
+      → Moves u v (AtAnyMoment (running a) u (λ s. s)) (StandsAfterCall (running a) (running m) u (λ s. s)) → ((d : ℕ) → v.sizes d ≡ u.sizes d)
+      → StaysFrom (a.g.members + 1) u v → MovesLog m b next replies result v w → MovesLog a b next replies result u w
   turns_after m result u v w on first sizes others turns = record {
     reply = λ told s always. turns.reply (subst (λ t. IsTrue t) (sym first.tells) told) s (always_turned (running a) (running m) u v (λ s. s) (AtAnyMoment (running a) u (λ s. s)) first s always);
     turned = λ done. keep_then_has (running a) (running m) on u v w next first (running b) (turns.turned done);
     in_step = turns.in_step;
     cell = turns.cell;
-    goes_on = goes_then (running a) (running m) (running b) on turns.goes_on;
+    same_array = goes_then (running a) (running m) (running b) on turns.same_array;
     sizes = λ d. turns.sizes d ∙ sizes d;
     others = both_stay (running a) (running m) u v w on first.tells others turns.others;
     cause = if_err_since result (Denies (running m) v w) (Denies (running a) u w) (denies_since (running a) (running m) u v w on first.faults) turns.cause;
@@ -154,15 +173,16 @@ module _ (a b : Log) (next : State → State) (replies : State → Reply) where
   -- where the next state and the reply are known
   pub turns_same : (next_too : State → State) (replies_too : State → Reply) (result : Result ℕ Denied) (v w : View)
       → ((s : State) → IsTrue v.tells → StandsFor (running a) s v.now.disks → (next s ≡ next_too s) × (replies s ≡ replies_too s))
-      → Turns a b next replies result v w → Turns a b next_too replies_too result v w
+      → MovesLog a b next replies result v w → MovesLog a b next_too replies_too result v w
   turns_same next_too replies_too result v w same turns = record {
     reply = λ told s always. subst (λ (r : Reply). WriteReplies result r) (same s told (always v.now (read_is_left v told))).1 (turns.reply told s always);
-    turned = λ done. moves_weaken v w (AtAnyMoment (running a) v next) (StandsAfterCall (running a) (running b) v next) (AtAnyMoment (running a) v next_too) (StandsAfterCall (running a) (running b) v next_too) (turns.turned done)
+    turned = λ done. moves_weaken v w (AtAnyMoment (running a) v next) (StandsAfterCall (running a) (running b) v next) (AtAnyMoment (running a) v next_too)
+        (StandsAfterCall (running a) (running b) v next_too) (turns.turned done)
         (λ x y was step s always. may_too s y.disks was.told (always v.now (read_is_left v was.told)) (step s always))
         (λ x y was left step s always. subst (λ (t : State). StandsFor (running b) t y.disks) (same s was.told (always v.now (read_is_left v was.told))).0 (step s always));
     in_step = turns.in_step;
     cell = turns.cell;
-    goes_on = turns.goes_on;
+    same_array = turns.same_array;
     sizes = turns.sizes;
     others = turns.others;
     cause = turns.cause;
@@ -171,18 +191,20 @@ module _ (a b : Log) (next : State → State) (replies : State → Reply) where
         (λ x y was left step s always. may_too s y.disks was.told (always v.now (read_is_left v was.told)) (step s always));
   }
     where
-      may_too : (s : State) (y : Disks) → IsTrue v.tells → StandsFor (running a) s v.now.disks → HoldsLike a.g a.head s y ⊎ HoldsLike a.g a.head (next s) y → HoldsLike a.g a.head s y ⊎ HoldsLike a.g a.head (next_too s) y
+      may_too : (s : State) (y : Disks) → IsTrue v.tells → StandsFor (running a) s v.now.disks → HoldsLike a.g a.head s y ⊎ HoldsLike a.g a.head (next s) y
+          → HoldsLike a.g a.head s y ⊎ HoldsLike a.g a.head (next_too s) y
       may_too s y told stands either = ⊎_elim inl (λ new. inr (subst (λ (t : State). HoldsLike a.g a.head t y) (same s told stands).0 new)) either
 
 -- a refusal after calls that change nothing
-pub turns_refused : (a : Log) (next : State → State) (replies : State → Reply) (why : Refusal) (v w : View) → why ≢ NoBlock → Moves v w Same Same → (IsTrue v.tells → w.now ≡ v.now) → ((d : ℕ) → w.sizes d ≡ v.sizes d) → AreInStep a.head a.stage a.index → KnowsCell a w
-    → ((s : State) → IsTrue v.tells → StandsFor (running a) s v.now.disks → (next s ≡ s) × (replies s ≡ No why)) → Turns a a next replies (Err (Refused why)) v w
+pub turns_refused : (a : IndexedLog) (next : State → State) (replies : State → Reply) (why : Refusal) (v w : View) → why ≢ NoBlock → Moves v w Same Same
+    → (IsTrue v.tells → w.now ≡ v.now) → ((d : ℕ) → w.sizes d ≡ v.sizes d) → AreInStep a.head a.stage a.index → KnowsCell a.cell a.head w
+    → ((s : State) → IsTrue v.tells → StandsFor (running a) s v.now.disks → (next s ≡ s) × (replies s ≡ No why)) → MovesLog a a next replies (Err (Refused why)) v w
 turns_refused a next replies why v w other moves same sizes in_step cell refused = record {
   reply = λ told s always. (refused s told (always v.now (read_is_left v told))).1;
   turned = λ done. turned;
   in_step = λ done. in_step;
   cell = λ done. cell;
-  goes_on = goes_still (running a);
+  same_array = goes_still (running a);
   sizes = sizes;
   others = stays_same (a.g.members + 1) v w same;
   cause = other;
@@ -215,7 +237,7 @@ module _ (g : Geometry) (s : State) (time block : ℕ) (bytes : List ℕ) where
   step_goes : refusal g s asked ≡ None → (added s entry ≡ (step g).next s asked) × (Kept (last s + 1) ≡ (step g).reply s asked)
   step_goes is = (sym (ap (λ (o : Option Refusal). or_refused o (after g s asked) (λ _. s)) is), sym (ap (λ (o : Option Refusal). or_refused o (accepted s asked) No) is))
 
-  module _ (x : Disks) (a : Log) (same : a.g ≡ g) (stands : StandsFor (running a) s x) (inside : block < volume g) where
+  module _ (x : Disks) (a : IndexedLog) (same : a.g ≡ g) (stands : StandsFor (running a) s x) (inside : block < volume g) where
     pub back_refused : time < a.head.last_time → ((step g).next s asked ≡ s) × ((step g).reply s asked ≡ No (TimeBack a.head.last_time))
     back_refused before =
         let time_is = stands.by.fits.head.last_time in
@@ -254,7 +276,7 @@ module _ (g : Geometry) (s : State) (time block : ℕ) (bytes : List ℕ) where
 
 -- ---- what was planned
 -- the plan and the record are those of the entry
-pub planned_from : (a : Log) (s : State) (x : Disks) (time block : ℕ) (bytes delta parity spelled : List ℕ) → StandsFor (running a) s x → IsPlan a.g (image s) block bytes delta parity
+pub planned_from : (a : IndexedLog) (s : State) (x : Disks) (time block : ℕ) (bytes delta parity spelled : List ℕ) → StandsFor (running a) s x → IsPlan a.g (image s) block bytes delta parity
     → ((old fresh : List ℕ) → delta ≡ xor old fresh → spelled ≡ record_of (a.head.last + 1) old (entry_for time block fresh))
     → IsPlanned a.g s (entry_for time block bytes) parity spelled
 planned_from a s x time block bytes delta parity spelled stands plan record_is = record {

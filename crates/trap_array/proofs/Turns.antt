@@ -120,14 +120,16 @@ module _ (a : Mounted) where
           (λ x y was still s always asked. inl (holds_still s y.disks (still s always asked)))
           (λ x y was left still s always asked. inl (holds_still s y.disks (still s always asked)))
 
-      pub still_then_may : (u v w : View) → Moves u v (StillIf a u asks) (StillIf a u asks) → Moves v w (MayTurnIf a v asks next) (MayTurnIf a v asks next) → Moves u w (MayTurnIf a u asks next) (MayTurnIf a u asks next)
+      pub still_then_may : (u v w : View) → Moves u v (StillIf a u asks) (StillIf a u asks) → Moves v w (MayTurnIf a v asks next) (MayTurnIf a v asks next)
+          → Moves u w (MayTurnIf a u asks next) (MayTurnIf a u asks next)
       still_then_may u v w first second =
           moves_then u v w (StillIf a u asks) (StillIf a u asks) (MayTurnIf a v asks next) (MayTurnIf a v asks next) (MayTurnIf a u asks next) (MayTurnIf a u asks next) first second
           (λ x y was step s always asked. inl (holds_still s y.disks (step s always asked)))
           (λ x y z was step mid more s always asked. more s (always_still u v (StillIf a u asks) first s always asked) asked)
           (λ x y z was step mid more s always asked. more s (always_still u v (StillIf a u asks) first s always asked) asked)
 
-      pub still_then_has : (b : Mounted) (u v w : View) → Moves u v (StillIf a u asks) (StillIf a u asks) → Moves v w (MayTurnIf a v asks next) (HasTurnedIf a b v asks next) → Moves u w (MayTurnIf a u asks next) (HasTurnedIf a b u asks next)
+      pub still_then_has : (b : Mounted) (u v w : View) → Moves u v (StillIf a u asks) (StillIf a u asks)
+          → Moves v w (MayTurnIf a v asks next) (HasTurnedIf a b v asks next) → Moves u w (MayTurnIf a u asks next) (HasTurnedIf a b u asks next)
       still_then_has b u v w first second =
           moves_then u v w (StillIf a u asks) (StillIf a u asks) (MayTurnIf a v asks next) (HasTurnedIf a b v asks next) (MayTurnIf a u asks next) (HasTurnedIf a b u asks next) first second
           (λ x y was step s always asked. inl (holds_still s y.disks (step s always asked)))
@@ -135,13 +137,15 @@ module _ (a : Mounted) where
           (λ x y z was step mid more s always asked. more s (always_still u v (StillIf a u asks) first s always asked) asked)
 
       -- where it is known of each state that the array stands for, nothing is left to ask
-      pub asked_may : (v w : View) → ((s : State) → IsTrue v.tells → Always v (StandsFor a s) → asks s) → Moves v w (MayTurnIf a v asks next) (MayTurnIf a v asks next) → Moves v w (AtAnyMoment a v next) (AtAnyMoment a v next)
+      pub asked_may : (v w : View) → ((s : State) → IsTrue v.tells → Always v (StandsFor a s) → asks s) → Moves v w (MayTurnIf a v asks next) (MayTurnIf a v asks next)
+          → Moves v w (AtAnyMoment a v next) (AtAnyMoment a v next)
       asked_may v w known moves =
           moves_weaken v w (MayTurnIf a v asks next) (MayTurnIf a v asks next) (AtAnyMoment a v next) (AtAnyMoment a v next) moves
           (λ x y was step s always. step s always (known s was.told always))
           (λ x y was left step s always. step s always (known s was.told always))
 
-      pub asked_has : (b : Mounted) (v w : View) → ((s : State) → IsTrue v.tells → Always v (StandsFor a s) → asks s) → Moves v w (MayTurnIf a v asks next) (HasTurnedIf a b v asks next) → Moves v w (AtAnyMoment a v next) (StandsAfterCall a b v next)
+      pub asked_has : (b : Mounted) (v w : View) → ((s : State) → IsTrue v.tells → Always v (StandsFor a s) → asks s)
+          → Moves v w (MayTurnIf a v asks next) (HasTurnedIf a b v asks next) → Moves v w (AtAnyMoment a v next) (StandsAfterCall a b v next)
       asked_has b v w known moves =
           moves_weaken v w (MayTurnIf a v asks next) (HasTurnedIf a b v asks next) (AtAnyMoment a v next) (StandsAfterCall a b v next) moves
           (λ x y was step s always. step s always (known s was.told always))
@@ -150,7 +154,8 @@ module _ (a : Mounted) where
       -- a put of a head that the disks fit already
       module _ (t : Head) (v w : View) (is_head : a.cell.place ≡ head_place) (later : IsLaterHead a.head t)
           (fits : (s : State) (x : Contents) → MayLeave v x → StandsFor a s x.disks → asks s → MatchesHead a.g t (next s) x.disks) where
-        put_may_at : (s : State) (x y : Contents) → MayLeave v x → StandsFor a s x.disks → asks s → PutsIn a.cell (head_value t) x.disks y.disks → HoldsLike a.g a.head s y.disks ⊎ HoldsLike a.g a.head (next s) y.disks
+        put_may_at : (s : State) (x y : Contents) → MayLeave v x → StandsFor a s x.disks → asks s → PutsIn a.cell (head_value t) x.disks y.disks
+            → HoldsLike a.g a.head s y.disks ⊎ HoldsLike a.g a.head (next s) y.disks
         put_may_at s x y was stands asked puts =
             ⊎_elim (λ old. inl (record { head = a.head; by = old; follows = later_same a.head }))
             (λ new. inr (record { head = t; by = new; follows = later }))
@@ -180,7 +185,8 @@ module _ (a : Mounted) where
 
 -- ---- one call after another
 -- every crash leaves the next state
-pub always_turned : (a b : Mounted) (v w : View) (next : State → State) (during : Disks → Disks → Type 0) → Moves v w during (StandsAfterCall a b v next) → (s : State) → Always v (StandsFor a s) → Always w (StandsFor b (next s))
+pub always_turned : (a b : Mounted) (v w : View) (next : State → State) (during : Disks → Disks → Type 0) → Moves v w during (StandsAfterCall a b v next) → (s : State)
+    → Always v (StandsFor a s) → Always w (StandsFor b (next s))
 always_turned a b v w next during moves s always c left = let from = moves.now c left in from.by.disks s always
 
 module _ (a b : Mounted) (on : SameArray a b) (u v w : View) (next : State → State) where
@@ -201,7 +207,8 @@ module _ (a b : Mounted) (on : SameArray a b) (u v w : View) (next : State → S
 
     pub keep_then_has : (c : Mounted) → Moves v w (AtAnyMoment b v next) (StandsAfterCall b c v next) → Moves u w (AtAnyMoment a u next) (StandsAfterCall a c u next)
     keep_then_has c second =
-        moves_then u v w (AtAnyMoment a u (λ s. s)) (StandsAfterCall a b u (λ s. s)) (AtAnyMoment b v next) (StandsAfterCall b c v next) (AtAnyMoment a u next) (StandsAfterCall a c u next) first second
+        moves_then u v w (AtAnyMoment a u (λ s. s)) (StandsAfterCall a b u (λ s. s)) (AtAnyMoment b v next) (StandsAfterCall b c v next) (AtAnyMoment a u next)
+        (StandsAfterCall a c u next) first second
         (λ x y was step s always. kept_at s y.disks (step s always))
         (λ x y z was step mid more s always. along s z.disks (more s (always_turned a b u v (λ s. s) (AtAnyMoment a u (λ s. s)) first s always)))
         (λ x y z was step mid more s always. more s (always_turned a b u v (λ s. s) (AtAnyMoment a u (λ s. s)) first s always))
@@ -220,7 +227,8 @@ module _ (a b : Mounted) (on : SameArray a b) (u v w : View) (next : State → S
 
     pub then_keep_has : (c : Mounted) → Moves v w (AtAnyMoment b v (λ s. s)) (StandsAfterCall b c v (λ s. s)) → Moves u w (AtAnyMoment a u next) (StandsAfterCall a c u next)
     then_keep_has c second =
-        moves_then u v w (AtAnyMoment a u next) (StandsAfterCall a b u next) (AtAnyMoment b v (λ s. s)) (StandsAfterCall b c v (λ s. s)) (AtAnyMoment a u next) (StandsAfterCall a c u next) first second
+        moves_then u v w (AtAnyMoment a u next) (StandsAfterCall a b u next) (AtAnyMoment b v (λ s. s)) (StandsAfterCall b c v (λ s. s)) (AtAnyMoment a u next)
+        (StandsAfterCall a c u next) first second
         (λ x y was step. step)
         (λ x y z was step mid more s always. onward s z.disks (more (next s) (always_turned a b u v next (AtAnyMoment a u next) first s always)))
         (λ x y z was step mid more s always. more (next s) (always_turned a b u v next (AtAnyMoment a u next) first s always))
@@ -233,7 +241,8 @@ same_keeps a v w moves =
     (λ x y was left same s always. subst (λ (d : Disks). StandsFor a s d) (sym same) (always x was))
 
 -- and so it may be at any moment
-pub turned_may : (a b : Mounted) → SameArray a b → (v w : View) (next : State → State) → Moves v w (AtAnyMoment a v next) (StandsAfterCall a b v next) → Moves v w (AtAnyMoment a v next) (AtAnyMoment a v next)
+pub turned_may : (a b : Mounted) → SameArray a b → (v w : View) (next : State → State) → Moves v w (AtAnyMoment a v next) (StandsAfterCall a b v next)
+    → Moves v w (AtAnyMoment a v next) (AtAnyMoment a v next)
 turned_may a b on v w next moves =
     moves_weaken v w (AtAnyMoment a v next) (StandsAfterCall a b v next) (AtAnyMoment a v next) (AtAnyMoment a v next) moves
     (λ x y was step. step)

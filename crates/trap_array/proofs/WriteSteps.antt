@@ -1,5 +1,5 @@
 -- A write of a mounted array, from what it does to the log.
-use Rattle.std.proofs.Common.{◌≡◌, ℕ, ◌+◌, ◌<◌, ◌≤◌, List, length, Option, Some, None, Bool, false, Result, Ok, Err, IfErr, OnOk, IsTrue, inl, refl, sym, ap, subst, ◌∙◌, arith}
+use Rattle.std.proofs.Common.{◌≡◌, ℕ, ◌+◌, ◌<◌, ◌≤◌, List, length, Option, Some, None, Bool, false, Result, Ok, Err, IfErr, OnOk, IsTrue, inl, inr, ⊎_elim, refl, sym, ap, subst, ◌∙◌, arith}
 use Rattle.trap_bank.specs.Disks.{Disks, View}
 use Rattle.trap_bank.specs.Steps.{Moves, Same, OnlyReads}
 use Rattle.trap_bank.proofs.Moves.{moves_weaken, always_same}
@@ -17,49 +17,59 @@ use Rattle.trap_model.specs.declared.request.Reply.{Reply}
 use Rattle.trap_model.specs.declared.request.Request.TheVariants.{Write, Read}
 use Rattle.trap_model.specs.declared.request.Reply.TheVariants.{Is, No}
 use Rattle.trap_model.proofs.Refusals.{no_block, is_block}
-use Rattle.trap_array.specs.Calls.{Mounted, StandsFor, HoldsLike, TakesTo, HasSizes, IsReady, SameArray, AtAnyMoment, StandsAfterCall, is_fault, is_over, running}
+use Rattle.trap_array.specs.Calls.{Mounted, StandsFor, HoldsLike, TakesTo, HasSizes, IsReady, SameArray, SameLog, AtAnyMoment, StandsAfterCall, is_fault, is_over, running}
 use Rattle.trap_stage.specs.Slots.{Stage}
-use Rattle.trap_array.specs.Growing.{IndexAfter}
+use Rattle.trap_array.specs.Growing.{IsLaterHead, HasRecordOf, IndexAfterFault, IndexAfter}
 use Rattle.trap_array.specs.Holding.{head_place}
-use Rattle.trap_array.specs.Log.{Log, AreInStep, IsArray, Buffers, HaveBlocksOf}
+use Rattle.trap_array.specs.Log.{Log, IndexedLog, with_index, StagesHead, AreInStep, IsArray, Buffers, HaveBlocksOf}
 use Rattle.trap_array.specs.Ready.{CanDrain, KnowsCell}
-use Rattle.trap_array.specs.Turning.{Denies, Turns}
+use Rattle.trap_array.specs.Turning.{Denies, MovesLog}
 use Rattle.trap_array.specs.declared.fault.Denied.{Denied}
 use Rattle.trap_array.specs.declared.fault.Denied.TheVariants.{Refused, LogFault, MemberFault, Damaged, Stopped}
+use Rattle.trap_array.proofs.IndexSteps.{index_same}
 use Rattle.trap_array.proofs.KeepSteps.{next_of}
 use Rattle.trap_array.proofs.Sizes.{sizes_still}
 use Rattle.trap_array.proofs.TurnSteps.{none_moves}
 use Rattle.trap_array.proofs.Turns.{holds_still}
 
 -- the array with that log
-abbrev pub mounted : Log → Bool → Mounted
+abbrev pub mounted : IndexedLog → Bool → Mounted
 mounted log is_stopped = record { g = log.g; head = log.head; cell = log.cell; pending = log.stage.pending; index = log.index; is_stopped = is_stopped }
 
 -- whether it is stopped says nothing of the disks
-pub as_going : (log : Log) (stopped : Bool) (s : State) (x : Disks) → StandsFor (mounted log stopped) s x → StandsFor (running log) s x
+pub as_going : (log : IndexedLog) (stopped : Bool) (s : State) (x : Disks) → StandsFor (mounted log stopped) s x → StandsFor (running log) s x
 as_going log stopped s x stands = record { by = stands.by; cell = stands.cell; pending = stands.pending; index = stands.index }
 
-pub as_mounted : (log : Log) (stopped : Bool) (s : State) (x : Disks) → StandsFor (running log) s x → StandsFor (mounted log stopped) s x
+pub as_mounted : (log : IndexedLog) (stopped : Bool) (s : State) (x : Disks) → StandsFor (running log) s x → StandsFor (mounted log stopped) s x
 as_mounted log stopped s x stands = record { by = stands.by; cell = stands.cell; pending = stands.pending; index = stands.index }
 
-pub index_mounted : (a : Log) (stopped : Bool) (b : Log) (stopped_too : Bool) (time block : ℕ) (result : Result ℕ Denied) → IndexAfter (running a) (running b) time block result → IndexAfter (mounted a stopped) (mounted b stopped_too) time block result
-index_mounted a stopped b stopped_too time block (Ok seq) after = record { rec = after.rec; added = after.added; number = after.number; time_is = after.time_is; block_is = after.block_is; long = after.long }
-index_mounted a stopped b stopped_too time block (Err (Refused why)) after = after
-index_mounted a stopped b stopped_too time block (Err LogFault) after = after
-index_mounted a stopped b stopped_too time block (Err (MemberFault first second)) after = after
-index_mounted a stopped b stopped_too time block (Err (Damaged offset)) after = after
-index_mounted a stopped b stopped_too time block (Err Stopped) after = after
+module _ (a : IndexedLog) (stopped : Bool) (b : IndexedLog) (stopped_too : Bool) (time block : ℕ) where
+  record_mounted : (seq : ℕ) → HasRecordOf (running a) (running b) seq time block → HasRecordOf (mounted a stopped) (mounted b stopped_too) seq time block
+  record_mounted seq more = record { number = more.number; size = more.size; least = more.least; added = more.added; long = more.long }
 
-module _ (a : Log) (stopped : Bool) (v w : View) (next : State → State) where
+  fault_mounted : IndexAfterFault (running a) (running b) time block → IndexAfterFault (mounted a stopped) (mounted b stopped_too) time block
+  fault_mounted either = ⊎_elim inl (λ more. inr (record_mounted (a.head.last + 1) more)) either
+
+  pub index_mounted : (result : Result ℕ Denied) → IndexAfter (running a) (running b) time block result → IndexAfter (mounted a stopped) (mounted b stopped_too) time block result
+  index_mounted (Ok seq) after = record_mounted seq after
+  index_mounted (Err (Refused why)) after = after
+  index_mounted (Err LogFault) after = fault_mounted after
+  index_mounted (Err (MemberFault first second)) after = fault_mounted after
+  index_mounted (Err (Damaged offset)) after = after
+  index_mounted (Err Stopped) after = after
+
+module _ (a : IndexedLog) (stopped : Bool) (v w : View) (next : State → State) where
   pub may_mounted : Moves v w (AtAnyMoment (running a) v next) (AtAnyMoment (running a) v next) → Moves v w (AtAnyMoment (mounted a stopped) v next) (AtAnyMoment (mounted a stopped) v next)
   may_mounted moves =
       moves_weaken v w (AtAnyMoment (running a) v next) (AtAnyMoment (running a) v next) (AtAnyMoment (mounted a stopped) v next) (AtAnyMoment (mounted a stopped) v next) moves
       (λ x y was step s always. step s (λ c left. as_going a stopped s c.disks (always c left)))
       (λ x y was left step s always. step s (λ c left. as_going a stopped s c.disks (always c left)))
 
-  pub has_mounted : (b : Log) (stopped_too : Bool) → Moves v w (AtAnyMoment (running a) v next) (StandsAfterCall (running a) (running b) v next) → Moves v w (AtAnyMoment (mounted a stopped) v next) (StandsAfterCall (mounted a stopped) (mounted b stopped_too) v next)
+  pub has_mounted : (b : IndexedLog) (stopped_too : Bool) → Moves v w (AtAnyMoment (running a) v next) (StandsAfterCall (running a) (running b) v next)
+      → Moves v w (AtAnyMoment (mounted a stopped) v next) (StandsAfterCall (mounted a stopped) (mounted b stopped_too) v next)
   has_mounted b stopped_too moves =
-      moves_weaken v w (AtAnyMoment (running a) v next) (StandsAfterCall (running a) (running b) v next) (AtAnyMoment (mounted a stopped) v next) (StandsAfterCall (mounted a stopped) (mounted b stopped_too) v next) moves
+      moves_weaken v w (AtAnyMoment (running a) v next) (StandsAfterCall (running a) (running b) v next) (AtAnyMoment (mounted a stopped) v next)
+      (StandsAfterCall (mounted a stopped) (mounted b stopped_too) v next) moves
       (λ x y was step s always. step s (λ c left. as_going a stopped s c.disks (always c left)))
       (λ x y was left step s always. as_mounted b stopped_too (next s) y.disks (step s (λ c left. as_going a stopped s c.disks (always c left))))
 
@@ -93,36 +103,42 @@ not_failed a v w (Err (Damaged offset)) cause none = absurd cause
 not_failed a v w (Err Stopped) cause none = absurd cause
 
 -- the sizes of an array that goes on
+sizes_on : (g k : Geometry) (h t : Head) (v w : View) → k ≡ g → IsLaterHead h t → ((d : ℕ) → w.sizes d ≡ v.sizes d) → HasSizes g h.lost h.rebuilt v → HasSizes k t.lost t.rebuilt w
+sizes_on g k h t v w is later same sizes =
+    subst (λ (x : Geometry). HasSizes x t.lost t.rebuilt w) (sym is)
+    (subst (λ (lost : Option ℕ). HasSizes g lost t.rebuilt w) (sym later.lost)
+    (subst (λ (n : ℕ). HasSizes g h.lost n w) (sym later.rebuilt)
+    (sizes_still g h.lost h.rebuilt v w same sizes)))
+
 sizes_along : (a b : Mounted) (v w : View) → SameArray a b → ((d : ℕ) → w.sizes d ≡ v.sizes d) → HasSizes a.g a.head.lost a.head.rebuilt v → HasSizes b.g b.head.lost b.head.rebuilt w
-sizes_along a b v w on same sizes =
-    subst (λ (g : Geometry). HasSizes g b.head.lost b.head.rebuilt w) (sym on.g)
-    (subst (λ (lost : Option ℕ). HasSizes a.g lost b.head.rebuilt w) (sym on.follows.lost)
-    (subst (λ (n : ℕ). HasSizes a.g a.head.lost n w) (sym on.follows.rebuilt)
-    (sizes_still a.g a.head.lost a.head.rebuilt v w same sizes)))
+sizes_along a b v w on same sizes = sizes_on a.g b.g a.head b.head v w on.g on.follows same sizes
 
 -- the pending writes are those between the head's numbers
 counted : (h : Head) (stage : Stage) (i : Indexed) → AreInStep h stage i → h.drained + length stage.pending ≡ h.last
-counted h stage i step = omega (arith, step.drained, step.last)
+counted h stage i step = omega (arith, step.staged.drained, step.staged.last)
 
-pub ready_after : (a b : Log) (next : State → State) (replies : State → Reply) (result : Result ℕ Denied) (v w : View) (stopped : Bool) → Turns a b next replies result v w → stopped ≡ is_fault result
+pub ready_after : (a b : IndexedLog) (next : State → State) (replies : State → Reply) (result : Result ℕ Denied) (v w : View) (stopped : Bool)
+    → MovesLog a b next replies result v w → stopped ≡ is_fault result
     → HasSizes a.g a.head.lost a.head.rebuilt v → IsReady (mounted b stopped) w
 ready_after a b next replies result v w stopped turns is sizes = record {
-  sizes = λ none. let along = sizes_along (running a) (running b) v w turns.goes_on turns.sizes sizes in record { log = along.log; members = along.members };
+  sizes = λ none. let along = sizes_along (running a) (running b) v w turns.same_array turns.sizes sizes in record { log = along.log; members = along.members };
   stands = λ none. (turns.cell (not_failed (running a) v w result turns.cause (sym is ∙ none))).stands;
   value = λ none. (turns.cell (not_failed (running a) v w result turns.cause (sym is ∙ none))).value;
   count = λ none. counted b.head b.stage b.index (turns.in_step (not_failed (running a) v w result turns.cause (sym is ∙ none)));
 }
 
 -- and it holds of the array what is to hold
-pub array_after : (a b : Log) (room : Buffers) (next : State → State) (replies : State → Reply) (result : Result ℕ Denied) (v w : View) (stopped : Bool) → Turns a b next replies result v w → stopped ≡ is_fault result
-    → HaveBlocksOf a.g.block room → IsArray b room stopped
-array_after a b room next replies result v w stopped turns is blocks = record {
-  room = subst (λ (g : Geometry). HaveBlocksOf g.block room) (sym turns.goes_on.g) blocks;
-  in_step = λ none. turns.in_step (not_failed (running a) v w result turns.cause (sym is ∙ none));
+pub array_after : (a b : Log) (i j : Indexed) (room : Buffers) (next : State → State) (replies : State → Reply) (time block : ℕ) (result : Result ℕ Denied) (v w : View) (stopped : Bool)
+    → MovesLog (with_index a i) (with_index b j) next replies result v w → IndexAfter (running (with_index a i)) (running (with_index b j)) time block result → stopped ≡ is_fault result
+    → i.g ≡ a.g → HaveBlocksOf a.g.block room → IsArray b j room stopped
+array_after a b i j room next replies time block result v w stopped turns after is same blocks = record {
+  room = subst (λ (g : Geometry). HaveBlocksOf g.block room) (sym turns.same_array.g) blocks;
+  same = index_same (running (with_index a i)) (running (with_index b j)) time block result after ∙ same ∙ sym turns.same_array.g;
+  in_step = λ none. turns.in_step (not_failed (running (with_index a i)) v w result turns.cause (sym is ∙ none));
 }
 
 -- calls that only read leave an array ready
-pub ready_still : (log : Log) (stopped stopped_too : Bool) (v w : View) → OnlyReads v w → stopped ≡ false → IsReady (mounted log stopped) v → IsReady (mounted log stopped_too) w
+pub ready_still : (log : IndexedLog) (stopped stopped_too : Bool) (v w : View) → OnlyReads v w → stopped ≡ false → IsReady (mounted log stopped) v → IsReady (mounted log stopped_too) w
 ready_still log stopped stopped_too v w reads running ready = record {
   sizes = λ none. sizes_still log.g log.head.lost log.head.rebuilt v w reads.sizes (ready.sizes running);
   stands = λ none. always_same v w (Stands log.cell) reads.moves (ready.stands running);
@@ -131,18 +147,19 @@ ready_still log stopped stopped_too v w reads running ready = record {
 }
 
 -- a log that goes on can be drained
-pub can_drain_on : (a b : Log) (v w : View) → SameArray (running a) (running b) → ((d : ℕ) → w.sizes d ≡ v.sizes d) → HasSizes a.g a.head.lost a.head.rebuilt v → AreInStep b.head b.stage b.index → KnowsCell b w → CanDrain b w
-can_drain_on a b v w on same sizes in_step cell = record {
-  in_step = in_step;
-  sizes = (let along = sizes_along (running a) (running b) v w on same sizes in record { log = along.log; members = along.members });
+pub can_drain_on : (a b : Log) (v w : View) → SameLog a b → ((d : ℕ) → w.sizes d ≡ v.sizes d) → HasSizes a.g a.head.lost a.head.rebuilt v → StagesHead b.head b.stage
+    → KnowsCell b.cell b.head w → CanDrain b w
+can_drain_on a b v w on same sizes staged cell = record {
+  staged = staged;
+  sizes = (let along = sizes_on a.g b.g a.head b.head v w on.g on.follows same sizes in record { log = along.log; members = along.members });
   cell = cell;
 }
 
 -- after a call that makes it so, where that is done
-pub can_drain_after : {T E : Type 0} (result : Result T E) (a b : Log) (v w : View) → SameArray (running a) (running b) → ((d : ℕ) → w.sizes d ≡ v.sizes d) → HasSizes a.g a.head.lost a.head.rebuilt v
-    → OnOk result (AreInStep b.head b.stage b.index) → OnOk result (KnowsCell b w) → OnOk result (CanDrain b w)
-can_drain_after (Ok value) a b v w on same sizes in_step cell = can_drain_on a b v w on same sizes in_step cell
-can_drain_after (Err e) a b v w on same sizes in_step cell = tt
+pub can_drain_after : {T E : Type 0} (result : Result T E) (a b : Log) (v w : View) → SameLog a b → ((d : ℕ) → w.sizes d ≡ v.sizes d) → HasSizes a.g a.head.lost a.head.rebuilt v
+    → OnOk result (StagesHead b.head b.stage) → OnOk result (KnowsCell b.cell b.head w) → OnOk result (CanDrain b w)
+can_drain_after (Ok value) a b v w on same sizes staged cell = can_drain_on a b v w on same sizes staged cell
+can_drain_after (Err e) a b v w on same sizes staged cell = tt
 
 -- ---- a read
 -- calls that only read keep the state, whether or not the array is stopped then
@@ -163,7 +180,8 @@ reads_keep {T = T} a b stopped result v w reads is =
     held s x y same stands = holds_still a s y (subst (λ (d : Disks). StandsFor a s d) (sym same) stands)
 
 -- of what an array knows
-pub log_keeps : {T : Type 0} (a b : Mounted) (log : Log) (was stopped : Bool) (result : Result T Denied) (v w : View) → OnlyReads v w → mounted log was ≡ a → b ≡ mounted log stopped → TakesTo a b (λ s. s) result v w
+pub log_keeps : {T : Type 0} (a b : Mounted) (log : IndexedLog) (was stopped : Bool) (result : Result T Denied) (v w : View) → OnlyReads v w → mounted log was ≡ a
+    → b ≡ mounted log stopped → TakesTo a b (λ s. s) result v w
 log_keeps {T = T} a b log was stopped result v w reads is after =
     subst (λ (m : Mounted). TakesTo m b (λ s. s) result v w) is (reads_keep (mounted log was) b stopped result v w reads after)
 

@@ -12,12 +12,12 @@ use Rattle.trap_raid.specs.Members.{Counts}
 use Rattle.trap_array.specs.Holding.{HoldsBy}
 pub use Rattle.trap_mount.specs.Mounted.{Mounted, StandsFor, HasSizes, IsReady}
 use Rattle.trap_array.specs.Growing.{IsLaterHead}
-use Rattle.trap_array.specs.Log.{Log}
+use Rattle.trap_array.specs.Log.{Log, IndexedLog}
 use Rattle.trap_array.specs.declared.fault.Denied.{Denied}
 use Rattle.trap_array.specs.declared.fault.Denied.TheVariants.{Refused, LogFault, MemberFault, Damaged, Stopped}
 
 -- an array that isn't stopped, by what it knows of its log
-abbrev pub running : Log → Mounted
+abbrev pub running : IndexedLog → Mounted
 running log = record {
   g = log.g;
   head = log.head;
@@ -29,6 +29,11 @@ running log = record {
 
 -- no call changes the numbers of an array, and its head is a later one
 pub record SameArray (a b : Mounted) : Type 0 where
+  pub g : b.g ≡ a.g
+  pub follows : IsLaterHead a.head b.head
+
+-- the same of its log alone
+pub record SameLog (a b : Log) : Type 0 where
   pub g : b.g ≡ a.g
   pub follows : IsLaterHead a.head b.head
 

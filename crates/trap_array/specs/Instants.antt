@@ -2,7 +2,6 @@
 -- refused, and how it fails.
 use Rattle.std.specs.Prelude.{◌≡◌, ◌≢◌, ℕ, ◌<◌, ◌≤◌, List, Option, Some, None, IsTrue, nat_lt, if◌then◌else◌}
 use Rattle.trap_bank.specs.Disks.{Disks, View}
-use Rattle.trap_bank.specs.Faults.{Rose}
 use Rattle.trap_index.specs.Indexed.{Indexed, last_seq, item_at}
 use Rattle.trap_index.specs.Keeping.{rec_of}
 use Rattle.trap_model.specs.LogRecord.{LogRecord}
@@ -12,10 +11,10 @@ use Rattle.trap_model.specs.declared.request.Refusal.TheVariants.{NoBlock, NotKe
 use Rattle.trap_raid.specs.Reads.{FailedMember}
 use Rattle.trap_ring.specs.Ring.{ring_pos, RingHas}
 use Rattle.trap_array.specs.Calls.{Mounted, HasSizes}
+use Rattle.trap_array.specs.Ending.{EndsBy}
 use Rattle.trap_array.specs.Holding.{log_ring}
-use Rattle.trap_array.specs.Log.{Log, AreInStep}
+use Rattle.trap_array.specs.Log.{IndexedLog, AreInStep}
 use Rattle.trap_array.specs.declared.fault.Denied.{Denied}
-use Rattle.trap_array.specs.declared.fault.Denied.TheVariants.{Refused, LogFault, MemberFault, Damaged, Stopped}
 
 -- why a number is refused, by the index of what is retained
 abbrev pub number_refused : Indexed → ℕ → Option Refusal
@@ -29,8 +28,9 @@ abbrev pub time_refused : Indexed → ℕ → Option Refusal
 time_refused i time = if nat_lt time i.base_time then Some (NotKept i.base_time) else None
 
 -- the disks have their sizes, and what the array knows goes with its head
-pub record CanLookBack (log : Log) (v : View) : Type 0 where
+pub record CanLookBack (log : IndexedLog) (v : View) : Type 0 where
   pub in_step : AreInStep log.head log.stage log.index
+  pub same : log.index.g ≡ log.g
   pub sizes : HasSizes log.g log.head.lost log.head.rebuilt v
 
 -- the record of the entry with this number is retained
@@ -53,14 +53,14 @@ pub record HasBadRecord (g : Geometry) (i : Indexed) (disks : Disks) (offset : �
       → LogRecord g.block (rec_of seq (item_at i seq)) parity snapshot bytes
       → RingHas (log_ring g) (item_at i seq).off bytes disks → ⊥
 
+-- what is read again isn't the record that was there, where the bank tells
+abbrev pub IsDamaged : Mounted → View → ℕ → Type 0
+IsDamaged a old offset = IsTrue old.tells → HasBadRecord a.g a.index old.now.disks offset
+
 -- the log's disk failed, and its count of faults rose, or a record isn't the one that was there
 abbrev pub FailsRecord : Mounted → View → View → Denied → Type 0
-FailsRecord a old new (Refused why) = ⊥
-FailsRecord a old new LogFault = Rose (old.faults 0) (new.faults 0)
-FailsRecord a old new (MemberFault first second) = ⊥
-FailsRecord a old new (Damaged offset) = IsTrue old.tells
-    → HasBadRecord a.g a.index old.now.disks offset
-FailsRecord a old new Stopped = ⊥
+FailsRecord a old new denied =
+    EndsBy (λ why. ⊥) (λ m k. ⊥) (λ at. IsDamaged a old at) old new denied
 
 -- A member failed that isn't the lost one, and the count of its disk rose. Both numbers are its
 -- own.
@@ -70,18 +70,10 @@ pub record FailsRead (a : Mounted) (first second : ℕ) (old new : View) : Type 
 
 -- A disk failed, and its count of faults rose, or a record isn't the one that was there.
 abbrev pub FailsLooking : Mounted → View → View → Denied → Type 0
-FailsLooking a old new (Refused why) = ⊥
-FailsLooking a old new LogFault = Rose (old.faults 0) (new.faults 0)
-FailsLooking a old new (MemberFault first second) = FailsRead a first second old new
-FailsLooking a old new (Damaged offset) = IsTrue old.tells
-    → HasBadRecord a.g a.index old.now.disks offset
-FailsLooking a old new Stopped = ⊥
+FailsLooking a old new denied = EndsBy (λ why. ⊥) (λ m k. FailsRead a m k old new)
+    (λ at. IsDamaged a old at) old new denied
 
 -- the same, or an instant of a block that is there is refused
 abbrev pub DeniesInstant : Mounted → View → View → Denied → Type 0
-DeniesInstant a old new (Refused why) = why ≢ NoBlock
-DeniesInstant a old new LogFault = Rose (old.faults 0) (new.faults 0)
-DeniesInstant a old new (MemberFault first second) = FailsRead a first second old new
-DeniesInstant a old new (Damaged offset) = IsTrue old.tells
-    → HasBadRecord a.g a.index old.now.disks offset
-DeniesInstant a old new Stopped = ⊥
+DeniesInstant a old new denied = EndsBy (λ why. why ≢ NoBlock) (λ m k. FailsRead a m k old new)
+    (λ at. IsDamaged a old at) old new denied

@@ -1,6 +1,8 @@
 pub use Rattle.trap_mount.specs.Holding
 pub mod Log
+pub mod Held
 pub mod NextHead
+pub mod Room
 pub mod Beside
 pub mod Growing
 pub mod Calls
@@ -10,6 +12,7 @@ pub mod Owed
 pub mod Areas
 pub mod Taking
 pub mod Ready
+pub mod Ending
 pub mod Turning
 pub mod Gone
 pub use Rattle.trap_mount.specs.OnDisks

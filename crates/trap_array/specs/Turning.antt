@@ -1,48 +1,41 @@
 -- What a write does, step by step, to the state that an array stands for.
-use Rattle.std.specs.Prelude.{◌≡◌, ◌≢◌, ◌⊎◌, ℕ, ◌+◌, ◌-◌, ◌^◌, ◌<◌, Option, Some, None, Result, IfErr, IsTrue, ◌==◌, nat_lt, if◌then◌else◌}
+use Rattle.std.specs.Prelude.{◌≡◌, ◌≢◌, ℕ, ◌+◌, ◌^◌, Option, Some, None, Result, IfErr, IsTrue, ◌==◌, nat_lt, if◌then◌else◌}
 use Rattle.trap_bank.specs.Disks.{View}
-use Rattle.trap_bank.specs.Faults.{Rose}
 use Rattle.trap_bank.specs.Steps.{Moves, Always}
 use Rattle.trap_format.specs.declared.head.Head.{Head}
 use Rattle.trap_model.specs.declared.history.State.{State}
-use Rattle.trap_model.specs.declared.numbers.Geometry.{Geometry}
 use Rattle.trap_model.specs.declared.request.Refusal.{Refusal}
 use Rattle.trap_model.specs.declared.request.Refusal.TheVariants.{NoBlock, TimeBack, Worn}
 use Rattle.trap_model.specs.declared.request.Reply.{Reply}
 use Rattle.trap_array.specs.Beside.{StaysFrom}
 use Rattle.trap_array.specs.Calls.{Mounted, StandsFor, SameArray, AtAnyMoment, StandsAfterCall, MemberFails, WriteReplies, is_over, running}
-use Rattle.trap_array.specs.Log.{Log, AreInStep}
+use Rattle.trap_array.specs.Ending.{EndsBy}
+use Rattle.trap_array.specs.Log.{IndexedLog, AreInStep}
 use Rattle.trap_array.specs.Ready.{KnowsCell}
+pub use Rattle.trap_array.specs.Room.{ring_limit, IsFull}
 use Rattle.trap_array.specs.declared.fault.Denied.{Denied}
-use Rattle.trap_array.specs.declared.fault.Denied.TheVariants.{Refused, LogFault, MemberFault, Damaged, Stopped}
 
 -- what failed has a count of faults that rose
 abbrev pub IsFaultOf : Mounted → View → View → Denied → Type 0
-IsFaultOf a old new (Refused why) = ⊥
-IsFaultOf a old new LogFault = Rose (old.faults 0) (new.faults 0)
-IsFaultOf a old new (MemberFault first second) = MemberFails a first second old new
-IsFaultOf a old new (Damaged offset) = ⊥
-IsFaultOf a old new Stopped = ⊥
+IsFaultOf a old new denied =
+    EndsBy (λ why. ⊥) (λ m k. MemberFails a m k old new) (λ at. ⊥) old new denied
 
 -- the same, or a block that is there is refused
 abbrev pub Denies : Mounted → View → View → Denied → Type 0
-Denies a old new (Refused why) = why ≢ NoBlock
-Denies a old new LogFault = Rose (old.faults 0) (new.faults 0)
-Denies a old new (MemberFault first second) = MemberFails a first second old new
-Denies a old new (Damaged offset) = ⊥
-Denies a old new Stopped = ⊥
+Denies a old new denied =
+    EndsBy (λ why. why ≢ NoBlock) (λ m k. MemberFails a m k old new) (λ at. ⊥) old new denied
 
 -- the answer is this reply to the state, and the array stands for the next one, or at a fault for
 -- one of the two
-pub record Turns (a b : Log) (next : State → State) (replies : State → Reply)
+pub record MovesLog (a b : IndexedLog) (next : State → State) (replies : State → Reply)
     (result : Result ℕ Denied) (old new : View) : Type 0 where
   pub reply : IsTrue old.tells → (s : State) → Always old (StandsFor (running a) s)
       → WriteReplies result (replies s)
   pub turned : IsTrue (is_over result) → Moves old new (AtAnyMoment (running a) old next)
       (StandsAfterCall (running a) (running b) old next)
   pub in_step : IsTrue (is_over result) → AreInStep b.head b.stage b.index
-  pub cell : IsTrue (is_over result) → KnowsCell b new
-  pub goes_on : SameArray (running a) (running b)
+  pub cell : IsTrue (is_over result) → KnowsCell b.cell b.head new
+  pub same_array : SameArray (running a) (running b)
   pub sizes : (e : ℕ) → new.sizes e ≡ old.sizes e
   pub others : StaysFrom (a.g.members + 1) old new
   pub cause : IfErr result (Denies (running a) old new)
@@ -55,12 +48,3 @@ early_refusal h time =
     if nat_lt time h.last_time then Some (TimeBack h.last_time)
     else if h.last == 2 ^ 40 then Some Worn
     else None
-
--- how many bytes of records are retained at most: as many as the ring has on disk
-abbrev pub ring_limit : Geometry → ℕ
-ring_limit g = g.ring
-
--- there is no room for a record of this many bytes: the entries or the bytes would be more than may
--- be retained
-abbrev pub IsFull : Geometry → Head → ℕ → Type 0
-IsFull g h size = (h.last ≡ h.first + g.entries) ⊎ (ring_limit g < h.end_off - h.first_off + size)

@@ -22,6 +22,7 @@ use trap_stage::Stage;
 #[derive(Drop)]
 pub struct Array {
     pub(crate) log: Log,
+    pub(crate) index: Index,
     pub(crate) buffers: Buffers,
     pub(crate) is_stopped: bool,
 }
@@ -37,11 +38,11 @@ impl Model for Array {
       head = a.log.head;
       cell = a.log.cell;
       pending = a.log.stage.pending;
-      index = a.log.index;
+      index = a.index;
       is_stopped = a.is_stopped;
     } };
 
-    ghost invariant = { λ a. IsArray a.log a.buffers a.is_stopped };
+    ghost invariant = { λ a. IsArray a.log a.index a.buffers a.is_stopped };
 }
 
 impl Array {
@@ -81,8 +82,8 @@ impl Array {
                 head,
                 cell,
                 stage,
-                index,
             },
+            index,
             buffers,
             is_stopped: false,
         }

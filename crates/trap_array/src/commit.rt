@@ -7,34 +7,37 @@ ghost use Rattle.trap_index.specs.Indexed.{with_record};
 ghost use Rattle.trap_model.specs.ArrayStep.{added};
 ghost use Rattle.trap_array.specs.Areas.{Touches, InCommit};
 ghost use Rattle.trap_array.specs.Calls.{SameArray, AtAnyMoment, StandsAfterCall, running};
-ghost use Rattle.trap_array.specs.Log.{AreInStep};
+ghost use Rattle.trap_array.specs.Log.{AreInStep, with_index};
 ghost use Rattle.trap_array.specs.NextHead.{committed, entry_for, next_rec};
 ghost use Rattle.trap_array.specs.Ready.{CanCommit, KnowsCell};
 
 use crate::log::{Log, ring_of, value_of};
 use trap_bank::{Bank, DiskFault};
 use trap_format::Head;
+use trap_index::Index;
 use trap_model::LogRec;
 
 impl Log {
-    /// Commits the next entry. The caller knows that there is room for it, and has its record, as
-    /// header and as bytes, and the parity of its row.
+    /// Commits the next entry, and adds its record to the index. The caller knows that there is
+    /// room for it, and has its record, as header and as bytes, and the parity of its row.
     pub(crate) fn commit<B: Bank>(
         &mut self,
+        index: &mut Index,
         bank: &mut B,
         rec: &LogRec,
         bytes: &[u8],
         parity: &[u8],
         spelled: &[u8],
     ) -> Result<(), DiskFault>
-        requires can { CanCommit self.old (B.view bank.old)
+        requires can { CanCommit (with_index self.old index.old) (B.view bank.old)
             (entry_for rec.now.time rec.now.block bytes.now) parity.now spelled.now }
         requires rec { rec.now ≡ next_rec self.old.head rec.now.time rec.now.block
             (length spelled.now) }
         ensures ok { OnOk result (Moves (B.view bank.old) (B.view bank.new)
-            (AtAnyMoment (running self.old) (B.view bank.old)
+            (AtAnyMoment (running (with_index self.old index.old)) (B.view bank.old)
             (λ s. added s (entry_for rec.now.time rec.now.block bytes.now)))
-            (StandsAfterCall (running self.old) (running self.new) (B.view bank.old)
+            (StandsAfterCall (running (with_index self.old index.old))
+            (running (with_index self.new index.new)) (B.view bank.old)
             (λ s. added s (entry_for rec.now.time rec.now.block bytes.now)))) }
         ensures head { OnOk result (self.new.head ≡ committed self.old.head rec.now.time
             (length spelled.now)) }
@@ -45,22 +48,23 @@ impl Log {
               bytes = bytes.now;
               parity = parity.now;
             }) ∷ self.old.stage.pending) }
-        ensures in_step { OnOk result (AreInStep self.new.head self.new.stage self.new.index) }
-        ensures index { OnOk result (self.new.index ≡ with_record self.old.index rec.now) }
-        ensures index_stays { OnErr result (self.new.index ≡ self.old.index) }
-        ensures cell { OnOk result (KnowsCell self.new (B.view bank.new)) }
-        ensures goes_on { SameArray (running self.old) (running self.new) }
+        ensures in_step { OnOk result (AreInStep self.new.head self.new.stage index.new) }
+        ensures index { OnOk result (index.new ≡ with_record index.old rec.now) }
+        ensures index_stays { OnErr result (index.new ≡ index.old) }
+        ensures cell { OnOk result (KnowsCell self.new.cell self.new.head (B.view bank.new)) }
+        ensures same_array { SameArray (running (with_index self.old index.old))
+            (running (with_index self.new index.new)) }
         ensures sizes { (e : ℕ) → (B.view bank.new).sizes e ≡ (B.view bank.old).sizes e }
-        ensures touches { Touches (InCommit (running self.old)) (B.view bank.old)
-            (B.view bank.new) }
+        ensures touches { Touches (InCommit (running (with_index self.old index.old)))
+            (B.view bank.old) (B.view bank.new) }
         ensures cause { OnErr result (Rose ((B.view bank.old).faults 0)
             ((B.view bank.new).faults 0)) }
 
         // Stopped at any moment, the disks hold the state without the entry or the one with it.
         ensures any_moment { Moves (B.view bank.old) (B.view bank.new)
-            (AtAnyMoment (running self.old) (B.view bank.old)
+            (AtAnyMoment (running (with_index self.old index.old)) (B.view bank.old)
             (λ s. added s (entry_for rec.now.time rec.now.block bytes.now)))
-            (AtAnyMoment (running self.old) (B.view bank.old)
+            (AtAnyMoment (running (with_index self.old index.old)) (B.view bank.old)
             (λ s. added s (entry_for rec.now.time rec.now.block bytes.now))) }
     {
         let next = Head {
@@ -79,7 +83,7 @@ impl Log {
         // The entry is committed with this put.
         self.cell.put(bank, &value)?;
         self.head = next;
-        self.index.add(rec);
+        index.add(rec);
         Ok(())
     }
 }

@@ -2,9 +2,10 @@
 
 ghost use Rattle.std.specs.Prelude.{◌≡◌, ◌≤◌, ◌-◌, ℕ, [], take, OnOk, OnErr, IfErr};
 ghost use Rattle.trap_bank.specs.Steps.{Moves};
+ghost use Rattle.trap_index.specs.Indexed.{Indexed};
 ghost use Rattle.trap_array.specs.Areas.{Touches, InDrain};
-ghost use Rattle.trap_array.specs.Calls.{SameArray, AtAnyMoment, StandsAfterCall, running};
-ghost use Rattle.trap_array.specs.Log.{AreInStep};
+ghost use Rattle.trap_array.specs.Calls.{SameLog, AtAnyMoment, StandsAfterCall, running};
+ghost use Rattle.trap_array.specs.Log.{StagesHead, with_index};
 ghost use Rattle.trap_array.specs.NextHead.{drained_to};
 ghost use Rattle.trap_array.specs.Ready.{CanDrain, KnowsCell};
 ghost use Rattle.trap_array.specs.Turning.{IsFaultOf};
@@ -21,26 +22,28 @@ impl Log {
         requires can { CanDrain self.old (B.view bank.old) }
         requires low { self.old.head.drained ≤ upto }
         requires high { upto ≤ self.old.head.last }
-        ensures ok { OnOk result (Moves (B.view bank.old) (B.view bank.new)
-            (AtAnyMoment (running self.old) (B.view bank.old) (λ s. s))
-            (StandsAfterCall (running self.old) (running self.new) (B.view bank.old) (λ s. s))) }
+        ensures ok { (i : Indexed) → OnOk result (Moves (B.view bank.old) (B.view bank.new)
+            (AtAnyMoment (running (with_index self.old i)) (B.view bank.old) (λ s. s))
+            (StandsAfterCall (running (with_index self.old i)) (running (with_index self.new i))
+            (B.view bank.old) (λ s. s))) }
         ensures head { OnOk result (self.new.head ≡ drained_to self.old.head upto) }
         ensures head_stays { OnErr result (self.new.head ≡ self.old.head) }
         ensures pending { OnOk result (self.new.stage.pending
             ≡ take (self.old.head.last - upto) self.old.stage.pending) }
-        ensures in_step { OnOk result (AreInStep self.new.head self.new.stage self.new.index) }
-        ensures index { self.new.index ≡ self.old.index }
-        ensures cell { OnOk result (KnowsCell self.new (B.view bank.new)) }
-        ensures goes_on { SameArray (running self.old) (running self.new) }
+        ensures staged { OnOk result (StagesHead self.new.head self.new.stage) }
+        ensures cell { OnOk result (KnowsCell self.new.cell self.new.head (B.view bank.new)) }
+        ensures same_log { SameLog self.old self.new }
         ensures sizes { (e : ℕ) → (B.view bank.new).sizes e ≡ (B.view bank.old).sizes e }
-        ensures touches { Touches (InDrain (running self.old)) (B.view bank.old) (B.view bank.new) }
-        ensures cause { IfErr result (IsFaultOf (running self.old) (B.view bank.old)
-            (B.view bank.new)) }
+        ensures touches { (i : Indexed) → Touches (InDrain (running (with_index self.old i)))
+            (B.view bank.old) (B.view bank.new) }
+        ensures cause { (i : Indexed) → IfErr result
+            (IsFaultOf (running (with_index self.old i)) (B.view bank.old) (B.view bank.new)) }
 
-        // Stopped at any moment, the disks hold the same state.
-        ensures any_moment { Moves (B.view bank.old) (B.view bank.new)
-            (AtAnyMoment (running self.old) (B.view bank.old) (λ s. s))
-            (AtAnyMoment (running self.old) (B.view bank.old) (λ s. s)) }
+        // Stopped at any moment, the disks hold the same state. The index is the caller's: this
+        // holds with whichever.
+        ensures any_moment { (i : Indexed) → Moves (B.view bank.old) (B.view bank.new)
+            (AtAnyMoment (running (with_index self.old i)) (B.view bank.old) (λ s. s))
+            (AtAnyMoment (running (with_index self.old i)) (B.view bank.old) (λ s. s)) }
     {
         let next = Head {
             drained: upto,
@@ -60,23 +63,24 @@ impl Log {
     /// Puts all pending writes onto the members, likewise.
     pub(crate) fn drain_all<B: Bank>(&mut self, bank: &mut B) -> Result<(), Denied>
         requires can { CanDrain self.old (B.view bank.old) }
-        ensures ok { OnOk result (Moves (B.view bank.old) (B.view bank.new)
-            (AtAnyMoment (running self.old) (B.view bank.old) (λ s. s))
-            (StandsAfterCall (running self.old) (running self.new) (B.view bank.old) (λ s. s))) }
+        ensures ok { (i : Indexed) → OnOk result (Moves (B.view bank.old) (B.view bank.new)
+            (AtAnyMoment (running (with_index self.old i)) (B.view bank.old) (λ s. s))
+            (StandsAfterCall (running (with_index self.old i)) (running (with_index self.new i))
+            (B.view bank.old) (λ s. s))) }
         ensures head { OnOk result (self.new.head ≡ drained_to self.old.head self.old.head.last) }
         ensures head_stays { OnErr result (self.new.head ≡ self.old.head) }
         ensures pending { OnOk result (self.new.stage.pending ≡ []) }
-        ensures in_step { OnOk result (AreInStep self.new.head self.new.stage self.new.index) }
-        ensures index { self.new.index ≡ self.old.index }
-        ensures cell { OnOk result (KnowsCell self.new (B.view bank.new)) }
-        ensures goes_on { SameArray (running self.old) (running self.new) }
+        ensures staged { OnOk result (StagesHead self.new.head self.new.stage) }
+        ensures cell { OnOk result (KnowsCell self.new.cell self.new.head (B.view bank.new)) }
+        ensures same_log { SameLog self.old self.new }
         ensures sizes { (e : ℕ) → (B.view bank.new).sizes e ≡ (B.view bank.old).sizes e }
-        ensures touches { Touches (InDrain (running self.old)) (B.view bank.old) (B.view bank.new) }
-        ensures cause { IfErr result (IsFaultOf (running self.old) (B.view bank.old)
-            (B.view bank.new)) }
-        ensures any_moment { Moves (B.view bank.old) (B.view bank.new)
-            (AtAnyMoment (running self.old) (B.view bank.old) (λ s. s))
-            (AtAnyMoment (running self.old) (B.view bank.old) (λ s. s)) }
+        ensures touches { (i : Indexed) → Touches (InDrain (running (with_index self.old i)))
+            (B.view bank.old) (B.view bank.new) }
+        ensures cause { (i : Indexed) → IfErr result
+            (IsFaultOf (running (with_index self.old i)) (B.view bank.old) (B.view bank.new)) }
+        ensures any_moment { (i : Indexed) → Moves (B.view bank.old) (B.view bank.new)
+            (AtAnyMoment (running (with_index self.old i)) (B.view bank.old) (λ s. s))
+            (AtAnyMoment (running (with_index self.old i)) (B.view bank.old) (λ s. s)) }
     {
         let last = self.last_number();
         self.drain(bank, last)

@@ -7,6 +7,7 @@ mod denied;
 mod draining;
 mod fault;
 mod fetch;
+mod held;
 pub mod laws;
 mod log;
 mod log_past;

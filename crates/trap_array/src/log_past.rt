@@ -3,76 +3,96 @@
 ghost use Rattle.std.specs.Prelude.{◌≡◌, length};
 ghost use Rattle.std.proofs.Common.{◌∙◌};
 ghost use Rattle.trap_model.specs.Limits.{greatest_record};
-ghost use Rattle.trap_array.specs.Sources.{IsFor, past_of, OnlyLooked, LookFailed};
+ghost use Rattle.trap_array.specs.Log.{with_index};
+ghost use Rattle.trap_array.specs.Sources.{IsFor, past_of_log, OnlyLooked, LookFailed};
 ghost use Rattle.trap_array.specs.SourceLaws.{looks_then, vain_since, vain_still};
 
 use crate::Denied;
 use crate::log::Log;
 use trap_bank::Bank;
+use trap_index::Index;
 use trap_past::{Parities, Present};
+use trap_pool::{Lease, Pool};
 use trap_record::Part;
 
-/// A log, its bank, and room for a record. The source counts its calls and faults from 0.
+/// A log, its index, its bank, and room for a record. The source counts its calls and its faults
+/// from 0, and keeps the block whose present contents were asked for last.
 #[derive(Drop)]
-pub(crate) struct LogPast<'l, 'b, 's, B: Bank> {
+pub(crate) struct LogPast<'l, 'i, 'b, 's, B: Bank> {
     pub(crate) log: &'l Log,
+    pub(crate) index: &'i Index,
     pub(crate) bank: &'b mut B,
     pub(crate) spelled: &'s mut [u8],
     pub(crate) presents: u64,
     pub(crate) parities: u64,
     pub(crate) snapshots: u64,
     pub(crate) faults: u64,
-    ghost for_log: { IsFor log.now (B.view bank.now) },
+    pub(crate) asked: u32,
+    ghost for_log: { IsFor (with_index log.now index.now) (B.view bank.now) },
     ghost room: { length spelled.now ≡ greatest_record log.now.g.block },
 }
 
-impl<B: Bank> Present for LogPast<'_, '_, '_, B> {
+impl<B: Bank> Present for LogPast<'_, '_, '_, '_, B> {
     type Fault = Denied;
 
-    ghost view = { λ p. past_of p.log.now (B.view p.bank.now)
+    ghost view = { λ p. past_of_log (with_index p.log.now p.index.now) (B.view p.bank.now)
         (record {
           presents = p.presents;
           parities = p.parities;
           snapshots = p.snapshots;
           faults = p.faults;
+          asked = p.asked;
         }) };
 
     // The source keeps its log and its bank.
-    ghost goes = { λ p q. (p.bank.ghost_name ≡ q.bank.ghost_name) × ((p.log.now ≡ q.log.now)
-        × OnlyLooked p.log.now
+    ghost goes = { λ p q. (p.bank.ghost_name ≡ q.bank.ghost_name)
+        × ((with_index p.log.now p.index.now ≡ with_index q.log.now q.index.now)
+        × OnlyLooked (with_index p.log.now p.index.now)
         (record {
           presents = p.presents;
           parities = p.parities;
           snapshots = p.snapshots;
           faults = p.faults;
+          asked = p.asked;
         })
         (record {
           presents = q.presents;
           parities = q.parities;
           snapshots = q.snapshots;
           faults = q.faults;
+          asked = q.asked;
         })
         (B.view p.bank.now) (B.view q.bank.now)) };
 
-    ghost causes = { λ p q fault. (p.log.now ≡ q.log.now)
-        × LookFailed p.log.now
+    ghost causes = { λ p q fault. (with_index p.log.now p.index.now
+        ≡ with_index q.log.now q.index.now)
+        × LookFailed (with_index p.log.now p.index.now)
         (record {
           presents = p.presents;
           parities = p.parities;
           snapshots = p.snapshots;
           faults = p.faults;
+          asked = p.asked;
         })
         (record {
           presents = q.presents;
           parities = q.parities;
           snapshots = q.snapshots;
           faults = q.faults;
+          asked = q.asked;
         })
         (B.view p.bank.now) (B.view q.bank.now) fault };
 
-    fn present(&mut self, block: u32, into: &mut [u8], scratch: &mut [u8]) -> Result<(), Denied> {
+    fn present(
+        &mut self,
+        pool: &mut Pool,
+        block: u32,
+        into: &Lease,
+        scratch: &Lease,
+    ) -> Result<(), Denied> {
         self.presents += 1;
-        match self.log.fetch(self.bank, block, into, scratch) {
+        self.asked = block;
+        match self.log.fetch(self.bank, pool, block, into, scratch) {
             Ok(()) => Ok(()),
             Err(failed) => {
                 self.faults = self.faults.saturating_add(1);
@@ -91,13 +111,18 @@ impl<B: Bank> Present for LogPast<'_, '_, '_, B> {
         (ab.0 ∙ bc.1.0, vain_still _ _ _ _ _ _ _ _ fault ab.0 ab.1 bc.1.1) };
 }
 
-impl<B: Bank> Parities for LogPast<'_, '_, '_, B> {
-    fn parity(&mut self, seq: u64, into: &mut [u8]) -> Result<(), Denied> {
+impl<B: Bank> Parities for LogPast<'_, '_, '_, '_, B> {
+    fn parity(&mut self, pool: &mut Pool, seq: u64, into: &Lease) -> Result<(), Denied> {
         self.parities += 1;
-        match self
-            .log
-            .part(self.bank, seq, Part::Parity, self.spelled, into)
-        {
+        match self.log.part(
+            self.index,
+            self.bank,
+            pool,
+            seq,
+            Part::Parity,
+            self.spelled,
+            into,
+        ) {
             Ok(()) => Ok(()),
             Err(denied) => {
                 self.faults = self.faults.saturating_add(1);
@@ -106,12 +131,17 @@ impl<B: Bank> Parities for LogPast<'_, '_, '_, B> {
         }
     }
 
-    fn snapshot(&mut self, seq: u64, into: &mut [u8]) -> Result<(), Denied> {
+    fn snapshot(&mut self, pool: &mut Pool, seq: u64, into: &Lease) -> Result<(), Denied> {
         self.snapshots += 1;
-        match self
-            .log
-            .part(self.bank, seq, Part::Snapshot, self.spelled, into)
-        {
+        match self.log.part(
+            self.index,
+            self.bank,
+            pool,
+            seq,
+            Part::Snapshot,
+            self.spelled,
+            into,
+        ) {
             Ok(()) => Ok(()),
             Err(denied) => {
                 self.faults = self.faults.saturating_add(1);

@@ -13,14 +13,16 @@ ghost use Rattle.trap_index.specs.Indexed.{IsLastBy};
 ghost use Rattle.trap_array.specs.Calls.{IsReady, StandsFor, TakesTo, AtReplies, is_fault, running};
 ghost use Rattle.trap_array.specs.Causes.{DeniedBy, of_number, of_time};
 ghost use Rattle.trap_array.specs.Instants.{CanLookBack, DeniesInstant, HasBadRecord, number_refused, time_refused};
-ghost use Rattle.trap_array.specs.Log.{HaveBlocksOf};
+ghost use Rattle.trap_array.specs.Log.{HaveBlocksOf, with_index};
 ghost use Rattle.trap_array.specs.Sources.{CallsAtMost, reads_back};
 ghost use Rattle.trap_array.specs.Untouched.{Untouched};
 ghost use Rattle.trap_array.specs.declared.fault.Denied.TheVariants as Denied;
 
 use crate::log::Log;
+use crate::refusals::{number_refusal, time_refusal};
 use crate::{Array, Denied};
 use trap_bank::Bank;
+use trap_index::Index;
 use trap_model::Refusal;
 use trap_mount::Buffers;
 
@@ -40,11 +42,10 @@ impl Array {
             → Always (B.view bank.old) (StandsFor self.old s)
             → AtReplies result into.new ((step self.old.g).reply s (request.At seq block)) }
 
-        // One read for the present contents, and one for each later write of the block, or two
-        // where its record goes round the ring's end.
-        ensures calls { CallsAtMost
-            (reads_back self.old.g self.old.head.lost self.old.index block seq)
-            (B.view bank.old) (B.view bank.new) }
+        // At most the reads of its present contents, none of them a lost member's, and two for each
+        // later write of the block, whose record may go round the ring's end.
+        ensures calls { CallsAtMost (reads_back self.old block seq) (B.view bank.old)
+            (B.view bank.new) }
         ensures state { TakesTo self.old self.new (λ s. s) result (B.view bank.old)
             (B.view bank.new) }
         ensures ready { IsReady self.new (B.view bank.new) }
@@ -71,9 +72,14 @@ impl Array {
         if self.is_stopped {
             return Err(Denied::Stopped);
         }
-        let answer = self
-            .log
-            .look_back_to_number(bank, &mut self.buffers, block as u32, seq, into);
+        let answer = self.log.look_back_to_number(
+            &self.index,
+            bank,
+            &mut self.buffers,
+            block as u32,
+            seq,
+            into,
+        );
         // A fault stops the array, and a damaged record doesn't.
         self.is_stopped = has_failed(&answer);
         answer
@@ -92,9 +98,8 @@ impl Array {
         ensures reply { IsTrue (B.view bank.old).tells → (s : State)
             → Always (B.view bank.old) (StandsFor self.old s)
             → AtReplies result into.new ((step self.old.g).reply s (request.By time block)) }
-        ensures calls { (seq : ℕ) → IsLastBy self.old.index time seq → CallsAtMost
-            (reads_back self.old.g self.old.head.lost self.old.index block seq) (B.view bank.old)
-            (B.view bank.new) }
+        ensures calls { (seq : ℕ) → IsLastBy self.old.index time seq
+            → CallsAtMost (reads_back self.old block seq) (B.view bank.old) (B.view bank.new) }
         ensures state { TakesTo self.old self.new (λ s. s) result (B.view bank.old)
             (B.view bank.new) }
         ensures ready { IsReady self.new (B.view bank.new) }
@@ -116,9 +121,14 @@ impl Array {
         if self.is_stopped {
             return Err(Denied::Stopped);
         }
-        let answer = self
-            .log
-            .look_back_to_time(bank, &mut self.buffers, block as u32, time, into);
+        let answer = self.log.look_back_to_time(
+            &self.index,
+            bank,
+            &mut self.buffers,
+            block as u32,
+            time,
+            into,
+        );
         // A fault stops the array, and a damaged record doesn't.
         self.is_stopped = has_failed(&answer);
         answer
@@ -126,10 +136,11 @@ impl Array {
 }
 
 impl Log {
-    /// Fills `into` with a block of the array after the entry with this number, where that is
-    /// retained.
+    /// Fills `into` with a block of the array after the entry with this
+    /// number, where that is retained.
     fn look_back_to_number<B: Bank>(
         &self,
+        index: &Index,
         bank: &mut B,
         room: &mut Buffers,
         block: u32,
@@ -137,44 +148,39 @@ impl Log {
         into: &mut [u8],
     ) -> Result<(), Denied>
         requires room { HaveBlocksOf self.now.g.block room.old }
-        requires can { CanLookBack self.now (B.view bank.old) }
+        requires can { CanLookBack (with_index self.now index.now) (B.view bank.old) }
         requires block { block < volume self.now.g }
         requires into { length into.old ≡ self.now.g.block }
         ensures reply { IsTrue (B.view bank.old).tells → (s : State)
-            → StandsFor (running self.now) s (B.view bank.old).now.disks
-            → AtReplies result into.new ((step self.now.g).reply s (request.At seq block)) }
+            → StandsFor (running (with_index self.now index.now)) s (B.view bank.old).now.disks
+            → AtReplies result into.new
+            ((step self.now.g).reply s (request.At seq block)) }
         ensures damaged { (offset : ℕ) → IsErrOf result (Denied.Damaged offset)
             → IsTrue (B.view bank.old).tells
-            → (s : State) → StandsFor (running self.now) s (B.view bank.old).now.disks → ⊥ }
+            → (s : State) → StandsFor (running (with_index self.now index.now)) s
+            (B.view bank.old).now.disks → ⊥ }
         ensures room { HaveBlocksOf self.now.g.block room.new }
-        ensures cause { IfErr result (DeniesInstant (running self.now) (B.view bank.old)
-            (B.view bank.new)) }
+        ensures cause { IfErr result (DeniesInstant
+            (running (with_index self.now index.now)) (B.view bank.old) (B.view bank.new)) }
         ensures refused { (why : Refusal) → (result ≡ Err (Denied.Refused why))
-            ↔ (number_refused self.now.index seq ≡ Some why) }
-        ensures at_once { (why : Refusal) → number_refused self.now.index seq ≡ Some why
+            ↔ (number_refused index.now seq ≡ Some why) }
+        ensures at_once { (why : Refusal) → number_refused index.now seq ≡ Some why
             → Untouched (B.view bank.old) (B.view bank.new) }
-        ensures calls { CallsAtMost
-            (reads_back self.now.g self.now.head.lost self.now.index block seq)
+        ensures calls { CallsAtMost (reads_back (running (with_index self.now index.now)) block seq)
             (B.view bank.old) (B.view bank.new) }
         ensures any_moment { OnlyReads (B.view bank.old) (B.view bank.new) }
     {
-        if let Some(why) = self.number_refusal(seq) {
+        if let Some(why) = number_refusal(index, seq) {
             return Err(Denied::Refused(why));
         }
-        self.undo(
-            bank,
-            block,
-            seq,
-            into,
-            room.scratch.as_mut_slice(),
-            room.spelled.as_mut_slice(),
-        )
+        self.look_back(index, bank, room, block, seq, into)
     }
 
-    /// Fills `into` with a block of the array after all entries up to this time, where that is
-    /// retained.
+    /// Fills `into` with a block of the array after all entries up to this
+    /// time, where that is retained.
     fn look_back_to_time<B: Bank>(
         &self,
+        index: &Index,
         bank: &mut B,
         room: &mut Buffers,
         block: u32,
@@ -182,50 +188,44 @@ impl Log {
         into: &mut [u8],
     ) -> Result<(), Denied>
         requires room { HaveBlocksOf self.now.g.block room.old }
-        requires can { CanLookBack self.now (B.view bank.old) }
+        requires can { CanLookBack (with_index self.now index.now) (B.view bank.old) }
         requires block { block < volume self.now.g }
         requires into { length into.old ≡ self.now.g.block }
         ensures reply { IsTrue (B.view bank.old).tells → (s : State)
-            → StandsFor (running self.now) s (B.view bank.old).now.disks
-            → AtReplies result into.new ((step self.now.g).reply s (request.By time block)) }
+            → StandsFor (running (with_index self.now index.now)) s (B.view bank.old).now.disks
+            → AtReplies result into.new
+            ((step self.now.g).reply s (request.By time block)) }
         ensures damaged { (offset : ℕ) → IsErrOf result (Denied.Damaged offset)
             → IsTrue (B.view bank.old).tells
-            → (s : State) → StandsFor (running self.now) s (B.view bank.old).now.disks → ⊥ }
+            → (s : State) → StandsFor (running (with_index self.now index.now)) s
+            (B.view bank.old).now.disks → ⊥ }
         ensures room { HaveBlocksOf self.now.g.block room.new }
-        ensures cause { IfErr result (DeniesInstant (running self.now) (B.view bank.old)
-            (B.view bank.new)) }
+        ensures cause { IfErr result (DeniesInstant
+            (running (with_index self.now index.now)) (B.view bank.old) (B.view bank.new)) }
         ensures refused { (why : Refusal) → (result ≡ Err (Denied.Refused why))
-            ↔ (time_refused self.now.index time ≡ Some why) }
-        ensures at_once { (why : Refusal) → time_refused self.now.index time ≡ Some why
+            ↔ (time_refused index.now time ≡ Some why) }
+        ensures at_once { (why : Refusal) → time_refused index.now time ≡ Some why
             → Untouched (B.view bank.old) (B.view bank.new) }
-        ensures calls { (seq : ℕ) → IsLastBy self.now.index time seq → CallsAtMost
-            (reads_back self.now.g self.now.head.lost self.now.index block seq) (B.view bank.old)
+        ensures calls { (seq : ℕ) → IsLastBy index.now time seq → CallsAtMost
+            (reads_back (running (with_index self.now index.now)) block seq) (B.view bank.old)
             (B.view bank.new) }
         ensures any_moment { OnlyReads (B.view bank.old) (B.view bank.new) }
     {
-        if let Some(why) = self.time_refusal(time) {
+        if let Some(why) = time_refusal(index, time) {
             return Err(Denied::Refused(why));
         }
-        let seq = self.last_by_time(time);
-        self.undo(
-            bank,
-            block,
-            seq,
-            into,
-            room.scratch.as_mut_slice(),
-            room.spelled.as_mut_slice(),
-        )
+        let seq = last_by_time(index, time);
+        self.look_back(index, bank, room, block, seq, into)
     }
+}
 
-    /// The number of the last entry up to a time.
-    fn last_by_time(&self, time: u64) -> u64
-        requires { self.now.index.base_time ≤ time }
-        ensures last_by { IsLastBy self.now.index time result }
-        ensures image { (s : State) → Describes self.now.index s → image_by s time
-            ≡ image_at s result }
-    {
-        self.index.last_by_time(time)
-    }
+/// The number of the last entry up to a time.
+fn last_by_time(index: &Index, time: u64) -> u64
+    requires { index.now.base_time ≤ time }
+    ensures last_by { IsLastBy index.now time result }
+    ensures image { (s : State) → Describes index.now s → image_by s time ≡ image_at s result }
+{
+    index.last_by_time(time)
 }
 
 /// Whether a read ended by a fault, which stops the array.

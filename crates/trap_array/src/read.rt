@@ -6,7 +6,7 @@ ghost use Rattle.trap_model.specs.ArrayStep.{step};
 ghost use Rattle.trap_model.specs.Image.{volume};
 ghost use Rattle.trap_model.specs.declared.history.State.{State};
 ghost use Rattle.trap_model.specs.declared.request.Request.TheVariants as request;
-ghost use Rattle.trap_array.specs.Sources.{CallsAtMost, present_reads};
+ghost use Rattle.trap_array.specs.Sources.{ReadsPresent};
 ghost use Rattle.trap_array.specs.Calls.{IsReady, StandsFor, TakesTo, ReadReplies, is_fault};
 ghost use Rattle.trap_array.specs.Causes.{DeniedBy, of_read};
 
@@ -24,9 +24,8 @@ impl Array {
             → Always (B.view bank.old) (StandsFor self.old s)
             → ReadReplies result into.new ((step self.old.g).reply s (request.Read block)) }
 
-        // One read, or where a member is lost at most one of each other member.
-        ensures calls { CallsAtMost (present_reads self.old.g self.old.head.lost) (B.view bank.old)
-            (B.view bank.new) }
+        // The block's place is read, or where its member is lost, each other one of its row.
+        ensures calls { ReadsPresent self.old block result (B.view bank.old) (B.view bank.new) }
         ensures state { TakesTo self.old self.new (λ s. s) result (B.view bank.old)
             (B.view bank.new) }
         ensures ready { IsReady self.new (B.view bank.new) }

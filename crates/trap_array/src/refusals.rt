@@ -4,9 +4,11 @@
 ghost use Rattle.std.specs.Prelude.{◌≡◌, ◌↔◌, ◌^◌, ◌≤◌, IsTrue};
 ghost use Rattle.trap_format.specs.HeadValue.{IsHead};
 ghost use Rattle.trap_array.specs.Instants.{number_refused, time_refused};
-ghost use Rattle.trap_array.specs.Turning.{IsFull, early_refusal};
+ghost use Rattle.trap_array.specs.Room.{IsFull};
+ghost use Rattle.trap_array.specs.Turning.{early_refusal};
 
 use crate::log::{Log, ring_limit};
+use trap_index::Index;
 use trap_model::Refusal;
 
 /// The greatest number of an entry.
@@ -42,34 +44,32 @@ impl Log {
         self.head.last - self.head.first == u64::from(self.g.entries)
             || self.head.end_off - self.head.first_off + size > ring_limit(&self.g)
     }
+}
 
-    /// Why a number is refused: it is below what is retained, or above the last one.
-    pub(crate) fn number_refusal(&self, seq: u64) -> Option<Refusal>
-        ensures { result ≡ number_refused self.now.index seq }
-    {
-        if seq < self.index.first() {
-            Some(Refusal::NotKept {
-                bound: self.index.first(),
-            })
-        } else if self.index.last() < seq {
-            Some(Refusal::Ahead {
-                last: self.index.last(),
-            })
-        } else {
-            None
-        }
+/// Why a number is refused: it is below what is retained, or above the last one.
+pub(crate) fn number_refusal(index: &Index, seq: u64) -> Option<Refusal>
+    ensures { result ≡ number_refused index.now seq }
+{
+    if seq < index.first() {
+        Some(Refusal::NotKept {
+            bound: index.first(),
+        })
+    } else if index.last() < seq {
+        Some(Refusal::Ahead { last: index.last() })
+    } else {
+        None
     }
+}
 
-    /// Why a time is refused: it is below what is retained.
-    pub(crate) fn time_refusal(&self, time: u64) -> Option<Refusal>
-        ensures { result ≡ time_refused self.now.index time }
-    {
-        if time < self.index.base_time() {
-            Some(Refusal::NotKept {
-                bound: self.index.base_time(),
-            })
-        } else {
-            None
-        }
+/// Why a time is refused: it is below what is retained.
+pub(crate) fn time_refusal(index: &Index, time: u64) -> Option<Refusal>
+    ensures { result ≡ time_refused index.now time }
+{
+    if time < index.base_time() {
+        Some(Refusal::NotKept {
+            bound: index.base_time(),
+        })
+    } else {
+        None
     }
 }

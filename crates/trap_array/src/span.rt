@@ -53,6 +53,6 @@ impl Array {
         ensures retained { IsSome result ↔ ((self.now.index.first < seq)
             × (seq ≤ last_seq self.now.index)) }
     {
-        self.log.index.item(seq)
+        self.index.item(seq)
     }
 }

@@ -29,7 +29,7 @@ impl Array {
         ensures takes { TakesStep self.old self.new time block bytes.now result (B.view bank.old)
             (B.view bank.new) }
         ensures ready { IsReady self.new (B.view bank.new) }
-        ensures goes_on { SameArray self.old self.new }
+        ensures same_array { SameArray self.old self.new }
         ensures sizes { (e : ℕ) → (B.view bank.new).sizes e ≡ (B.view bank.old).sizes e }
         ensures others { StaysFrom (self.old.g.members + 1) (B.view bank.old) (B.view bank.new) }
         ensures causes { DeniedBy self.old block (of_write self.old time) result (B.view bank.old)
@@ -45,9 +45,14 @@ impl Array {
         if self.is_stopped {
             return Err(Denied::Stopped);
         }
-        let result = self
-            .log
-            .write_block(bank, &mut self.buffers, time, block as u32, bytes);
+        let result = self.log.write_block(
+            &mut self.index,
+            bank,
+            &mut self.buffers,
+            time,
+            block as u32,
+            bytes,
+        );
         // A fault of any step stops the array, here alone.
         self.is_stopped = has_failed(&result);
         result

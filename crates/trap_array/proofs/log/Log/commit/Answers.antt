@@ -1,5 +1,9 @@
-use Rattle.std.proofs.Common.{◌≡◌, length, refl, sym, ap, subst, ◌∙◌}
-use Rattle.trap_bank.specs.Steps.{Moves}
+use Rattle.std.proofs.Common.{◌≡◌, ℕ, length, Result, Ok, Err, OnErr, refl, sym, ap, subst, ◌∙◌, arith}
+use Rattle.trap_bank.specs.Faults.{Rose}
+use Rattle.trap_cell.specs.Slots.{Place}
+use Rattle.trap_format.specs.HeadValue.{IsHead}
+use Rattle.trap_stage.specs.Slots.{Stage}
+use Rattle.trap_bank.specs.Steps.{Moves, Same}
 use Rattle.trap_bank.proofs.Moves.{sync_steps}
 use Rattle.trap_index.specs.Indexed.{with_record}
 use Rattle.trap_model.specs.ArrayStep.{added}
@@ -7,7 +11,7 @@ use Rattle.trap_model.specs.declared.history.Entry.{Entry}
 use Rattle.trap_model.specs.declared.log_record.LogRec.{LogRec}
 use Rattle.trap_array.specs.Areas.{Touches, InCommit}
 use Rattle.trap_array.specs.Calls.{SameArray, AtAnyMoment, StandsAfterCall, running}
-use Rattle.trap_array.specs.Log.{Log}
+use Rattle.trap_array.specs.Log.{Log, IndexedLog, with_index}
 use Rattle.trap_array.specs.NextHead.{committed, entry_for, next_rec}
 use Rattle.trap_array.specs.Ready.{CanCommit}
 use Rattle.trap_array.proofs.AreaSteps.{append_touches, fill_touches, sync_touches, commit_touches}
@@ -22,10 +26,11 @@ pub returns-in_err-append-clause-any_moment : goal.returns-in_err-append-clause-
 returns-in_err-append-clause-any_moment g c =
     let old = g.B.Bank.view c.args.bank.now in
     let v1 = g.B.Bank.view c.append.new.bank in
-    let log : Log = record { g = c.self.inside.g; head = c.self.inside.head; cell = c.self.inside.cell; stage = c.self.inside.stage; index = c.self.inside.index } in
+    let log : IndexedLog = record { g = c.self.inside.g; head = c.self.inside.head; cell = c.self.inside.cell; stage = c.self.inside.stage; index = c.args.index.now } in
     let entry : Entry = entry_for c.args.rec.now.time c.args.rec.now.block c.args.bytes.now in
-    let can = subst (λ (l : Log). CanCommit l old entry c.args.parity.now c.args.spelled.now) (sym c.self.view_is) c.requires.can in
-    let P : Log → Type 0 = λ (l : Log). Moves old v1 (AtAnyMoment (running l) old (λ s. added s entry)) (AtAnyMoment (running l) old (λ s. added s entry)) in
+    let can = subst (λ (l : Log). CanCommit (with_index l c.args.index.now) old entry c.args.parity.now c.args.spelled.now) (sym c.self.view_is) c.requires.can in
+    let P : Log → Type 0 = λ (l : Log). Moves old v1 (AtAnyMoment (running (with_index l c.args.index.now)) old (λ s. added s entry))
+    (AtAnyMoment (running (with_index l c.args.index.now)) old (λ s. added s entry)) in
     subst P c.self.view_is
     (append_any log c.self.invariant.place c.self.invariant.same old entry c.args.parity.now c.args.spelled.now can refl c.ring_of-ring.result c.ring_of-ring.ensures v1 c.append.ensures.any_moment)
 
@@ -34,12 +39,14 @@ returns-in_err-fill-clause-any_moment g c =
     let old = g.B.Bank.view c.args.bank.now in
     let v1 = g.B.Bank.view c.append.new.bank in
     let v2 = g.B.Bank.view c.fill.new.bank in
-    let log : Log = record { g = c.self.inside.g; head = c.self.inside.head; cell = c.self.inside.cell; stage = c.self.inside.stage; index = c.self.inside.index } in
+    let log : IndexedLog = record { g = c.self.inside.g; head = c.self.inside.head; cell = c.self.inside.cell; stage = c.self.inside.stage; index = c.args.index.now } in
     let entry : Entry = entry_for c.args.rec.now.time c.args.rec.now.block c.args.bytes.now in
-    let can = subst (λ (l : Log). CanCommit l old entry c.args.parity.now c.args.spelled.now) (sym c.self.view_is) c.requires.can in
-    let P : Log → Type 0 = λ (l : Log). Moves old v2 (AtAnyMoment (running l) old (λ s. added s entry)) (AtAnyMoment (running l) old (λ s. added s entry)) in
+    let can = subst (λ (l : Log). CanCommit (with_index l c.args.index.now) old entry c.args.parity.now c.args.spelled.now) (sym c.self.view_is) c.requires.can in
+    let P : Log → Type 0 = λ (l : Log). Moves old v2 (AtAnyMoment (running (with_index l c.args.index.now)) old (λ s. added s entry))
+    (AtAnyMoment (running (with_index l c.args.index.now)) old (λ s. added s entry)) in
     subst P c.self.view_is
-    (fill_any log c.self.invariant.place c.self.invariant.same old entry c.args.parity.now c.args.spelled.now can refl c.ring_of-ring.result c.ring_of-ring.ensures v1 c.append.ensures.any_moment v2 c.fill.ensures.any_moment)
+    (fill_any log c.self.invariant.place c.self.invariant.same old entry c.args.parity.now c.args.spelled.now can refl c.ring_of-ring.result c.ring_of-ring.ensures v1
+    c.append.ensures.any_moment v2 c.fill.ensures.any_moment)
 
 -- ---- the sync fails
 pub returns-in_err-sync-clause-any_moment : goal.returns-in_err-sync-clause-any_moment
@@ -48,12 +55,14 @@ returns-in_err-sync-clause-any_moment g c =
     let v1 = g.B.Bank.view c.append.new.bank in
     let v2 = g.B.Bank.view c.fill.new.bank in
     let v3 = g.B.Bank.view c.sync.new.self in
-    let log : Log = record { g = c.self.inside.g; head = c.self.inside.head; cell = c.self.inside.cell; stage = c.self.inside.stage; index = c.self.inside.index } in
+    let log : IndexedLog = record { g = c.self.inside.g; head = c.self.inside.head; cell = c.self.inside.cell; stage = c.self.inside.stage; index = c.args.index.now } in
     let entry : Entry = entry_for c.args.rec.now.time c.args.rec.now.block c.args.bytes.now in
-    let can = subst (λ (l : Log). CanCommit l old entry c.args.parity.now c.args.spelled.now) (sym c.self.view_is) c.requires.can in
-    let P : Log → Type 0 = λ (l : Log). Moves old v3 (AtAnyMoment (running l) old (λ s. added s entry)) (AtAnyMoment (running l) old (λ s. added s entry)) in
+    let can = subst (λ (l : Log). CanCommit (with_index l c.args.index.now) old entry c.args.parity.now c.args.spelled.now) (sym c.self.view_is) c.requires.can in
+    let P : Log → Type 0 = λ (l : Log). Moves old v3 (AtAnyMoment (running (with_index l c.args.index.now)) old (λ s. added s entry))
+    (AtAnyMoment (running (with_index l c.args.index.now)) old (λ s. added s entry)) in
     subst P c.self.view_is
-    (sync_any log c.self.invariant.place c.self.invariant.same old entry c.args.parity.now c.args.spelled.now can refl c.ring_of-ring.result c.ring_of-ring.ensures v1 c.append.ensures.any_moment v2 c.fill.ensures.any_moment v3 (sync_steps _ _ _ _ c.sync.ensures.call))
+    (sync_any log c.self.invariant.place c.self.invariant.same old entry c.args.parity.now c.args.spelled.now can refl c.ring_of-ring.result c.ring_of-ring.ensures v1
+    c.append.ensures.any_moment v2 c.fill.ensures.any_moment v3 (sync_steps _ _ _ _ c.sync.ensures.call))
 
 pub returns-in_err-sync-clause-touches : goal.returns-in_err-sync-clause-touches
 returns-in_err-sync-clause-touches g c =
@@ -61,25 +70,27 @@ returns-in_err-sync-clause-touches g c =
     let v1 = g.B.Bank.view c.append.new.bank in
     let v2 = g.B.Bank.view c.fill.new.bank in
     let v3 = g.B.Bank.view c.sync.new.self in
-    let log : Log = record { g = c.self.inside.g; head = c.self.inside.head; cell = c.self.inside.cell; stage = c.self.inside.stage; index = c.self.inside.index } in
-    let can = subst (λ (l : Log). CanCommit l old (entry_for c.args.rec.now.time c.args.rec.now.block c.args.bytes.now) c.args.parity.now c.args.spelled.now) (sym c.self.view_is) c.requires.can in
-    subst (λ (l : Log). Touches (InCommit (running l)) old v3) c.self.view_is
-    (sync_touches log c.self.invariant.place c.self.invariant.same c.ring_of-ring.result c.ring_of-ring.ensures (length c.args.spelled.now) can.next.offsets.window old v1 c.append.ensures.contents c.append.ensures.any_moment v2 c.fill.ensures.contents c.fill.ensures.any_moment v3 c.sync.ensures.call.same (sync_steps _ _ _ _ c.sync.ensures.call))
+    let log : IndexedLog = record { g = c.self.inside.g; head = c.self.inside.head; cell = c.self.inside.cell; stage = c.self.inside.stage; index = c.args.index.now } in
+    let can = subst (λ (l : Log). CanCommit (with_index l c.args.index.now) old (entry_for c.args.rec.now.time c.args.rec.now.block c.args.bytes.now) c.args.parity.now
+    c.args.spelled.now) (sym c.self.view_is) c.requires.can in
+    subst (λ (l : Log). Touches (InCommit (running (with_index l c.args.index.now))) old v3) c.self.view_is
+    (sync_touches log c.self.invariant.place c.self.invariant.same c.ring_of-ring.result c.ring_of-ring.ensures (length c.args.spelled.now) can.next.offsets.window old v1
+    c.append.ensures.contents c.append.ensures.any_moment v2 c.fill.ensures.contents c.fill.ensures.any_moment v3 c.sync.ensures.call.same (sync_steps _ _ _ _ c.sync.ensures.call))
 
-pub returns-in_err-sync-clause-goes_on : goal.returns-in_err-sync-clause-goes_on
-returns-in_err-sync-clause-goes_on g c =
-    let log : Log = record { g = c.self.inside.g; head = c.self.inside.head; cell = c.self.inside.cell; stage = c.self.inside.stage; index = c.self.inside.index } in
-    let after : Log = record { g = c.self.inside.g; head = c.self.inside.head; cell = c.self.inside.cell; stage = c.fill.new.self; index = c.self.inside.index } in
-    subst (λ (l : Log). SameArray (running l) (running after)) c.self.view_is (goes_same log after refl refl)
+pub returns-in_err-sync-clause-same_array : goal.returns-in_err-sync-clause-same_array
+returns-in_err-sync-clause-same_array g c =
+    let log : IndexedLog = record { g = c.self.inside.g; head = c.self.inside.head; cell = c.self.inside.cell; stage = c.self.inside.stage; index = c.args.index.now } in
+    let after : IndexedLog = record { g = c.self.inside.g; head = c.self.inside.head; cell = c.self.inside.cell; stage = c.fill.new.self; index = c.args.index.now } in
+    subst (λ (l : Log). SameArray (running (with_index l c.args.index.now)) (running after)) c.self.view_is (goes_same log after refl refl)
 
 -- ---- what the put asks
 pub put-requires-clause-room : goal.put-requires-clause-room
 put-requires-clause-room g c =
     let old = g.B.Bank.view c.args.bank.now in
     let before_put = g.B.Bank.view c.sync.new.self in
-    let log : Log = record { g = c.self.inside.g; head = c.self.inside.head; cell = c.self.inside.cell; stage = c.self.inside.stage; index = c.self.inside.index } in
+    let log : IndexedLog = record { g = c.self.inside.g; head = c.self.inside.head; cell = c.self.inside.cell; stage = c.self.inside.stage; index = c.args.index.now } in
     let entry : Entry = entry_for c.args.rec.now.time c.args.rec.now.block c.args.bytes.now in
-    let can = subst (λ (l : Log). CanCommit l old entry c.args.parity.now c.args.spelled.now) (sym c.self.view_is) c.requires.can in
+    let can = subst (λ (l : Log). CanCommit (with_index l c.args.index.now) old entry c.args.parity.now c.args.spelled.now) (sym c.self.view_is) c.requires.can in
     let still = c.sync.ensures.call.sizes 0 ∙ c.fill.ensures.sizes 0 ∙ c.append.ensures.sizes 0 in
     cell_room log.g before_put log.cell.place c.self.invariant.place (fits_still old before_put 0 _ still can.sizes.log)
 
@@ -90,10 +101,11 @@ put-requires-clause-stands g c =
     let v2 = g.B.Bank.view c.fill.new.bank in
     let at_put = g.B.Bank.view c.sync.new.self in
     let sync = sync_steps _ _ _ _ c.sync.ensures.call in
-    let log : Log = record { g = c.self.inside.g; head = c.self.inside.head; cell = c.self.inside.cell; stage = c.self.inside.stage; index = c.self.inside.index } in
+    let log : IndexedLog = record { g = c.self.inside.g; head = c.self.inside.head; cell = c.self.inside.cell; stage = c.self.inside.stage; index = c.args.index.now } in
     let entry : Entry = entry_for c.args.rec.now.time c.args.rec.now.block c.args.bytes.now in
-    let can = subst (λ (l : Log). CanCommit l old entry c.args.parity.now c.args.spelled.now) (sym c.self.view_is) c.requires.can in
-    cell_still log c.self.invariant.place c.self.invariant.same old entry c.args.parity.now c.args.spelled.now can refl c.ring_of-ring.result c.ring_of-ring.ensures v1 c.append.ensures.any_moment v2 c.fill.ensures.any_moment at_put sync
+    let can = subst (λ (l : Log). CanCommit (with_index l c.args.index.now) old entry c.args.parity.now c.args.spelled.now) (sym c.self.view_is) c.requires.can in
+    cell_still log c.self.invariant.place c.self.invariant.same old entry c.args.parity.now c.args.spelled.now can refl c.ring_of-ring.result c.ring_of-ring.ensures v1
+    c.append.ensures.any_moment v2 c.fill.ensures.any_moment at_put sync
 
 -- ---- the state before or the one after
 pub returns-in_err-put-clause-any_moment : goal.returns-in_err-put-clause-any_moment
@@ -103,12 +115,15 @@ returns-in_err-put-clause-any_moment g c =
     let v2 = g.B.Bank.view c.fill.new.bank in
     let v3 = g.B.Bank.view c.sync.new.self in
     let v4 = g.B.Bank.view c.put.new.bank in
-    let log : Log = record { g = c.self.inside.g; head = c.self.inside.head; cell = c.self.inside.cell; stage = c.self.inside.stage; index = c.self.inside.index } in
+    let log : IndexedLog = record { g = c.self.inside.g; head = c.self.inside.head; cell = c.self.inside.cell; stage = c.self.inside.stage; index = c.args.index.now } in
     let entry : Entry = entry_for c.args.rec.now.time c.args.rec.now.block c.args.bytes.now in
-    let can = subst (λ (l : Log). CanCommit l old entry c.args.parity.now c.args.spelled.now) (sym c.self.view_is) c.requires.can in
-    let P : Log → Type 0 = λ (l : Log). Moves old v4 (AtAnyMoment (running l) old (λ s. added s entry)) (AtAnyMoment (running l) old (λ s. added s entry)) in
+    let can = subst (λ (l : Log). CanCommit (with_index l c.args.index.now) old entry c.args.parity.now c.args.spelled.now) (sym c.self.view_is) c.requires.can in
+    let P : Log → Type 0 = λ (l : Log). Moves old v4 (AtAnyMoment (running (with_index l c.args.index.now)) old (λ s. added s entry))
+    (AtAnyMoment (running (with_index l c.args.index.now)) old (λ s. added s entry)) in
     subst P c.self.view_is
-    (put_any log c.self.invariant.place c.self.invariant.same old entry c.args.parity.now c.args.spelled.now can refl c.ring_of-ring.result c.ring_of-ring.ensures v1 c.append.ensures.any_moment v2 c.fill.ensures.any_moment v3 (sync_steps _ _ _ _ c.sync.ensures.call) c.in_ok-append.ensures.written c.fill.ensures.contents c.in_ok-fill.ensures.written c.sync.ensures.call.same (settled_there _ v2 v3 c.in_ok-sync.ensures.call) v4 c.value_of-value.result c.value_of-value.ensures c.put.ensures.any_moment)
+    (put_any log c.self.invariant.place c.self.invariant.same old entry c.args.parity.now c.args.spelled.now can refl c.ring_of-ring.result c.ring_of-ring.ensures v1
+    c.append.ensures.any_moment v2 c.fill.ensures.any_moment v3 (sync_steps _ _ _ _ c.sync.ensures.call) c.in_ok-append.ensures.written c.fill.ensures.contents
+    c.in_ok-fill.ensures.written c.sync.ensures.call.same (settled_there _ v2 v3 c.in_ok-sync.ensures.call) v4 c.value_of-value.result c.value_of-value.ensures c.put.ensures.any_moment)
 
 pub returns-clause-ok : goal.returns-clause-ok
 returns-clause-ok g c =
@@ -117,14 +132,25 @@ returns-clause-ok g c =
     let v2 = g.B.Bank.view c.fill.new.bank in
     let v3 = g.B.Bank.view c.sync.new.self in
     let v4 = g.B.Bank.view c.put.new.bank in
-    let log : Log = record { g = c.self.inside.g; head = c.self.inside.head; cell = c.self.inside.cell; stage = c.self.inside.stage; index = c.self.inside.index } in
+    let log : IndexedLog = record { g = c.self.inside.g; head = c.self.inside.head; cell = c.self.inside.cell; stage = c.self.inside.stage; index = c.args.index.now } in
     let entry : Entry = entry_for c.args.rec.now.time c.args.rec.now.block c.args.bytes.now in
-    let can = subst (λ (l : Log). CanCommit l old entry c.args.parity.now c.args.spelled.now) (sym c.self.view_is) c.requires.can in
+    let can = subst (λ (l : Log). CanCommit (with_index l c.args.index.now) old entry c.args.parity.now c.args.spelled.now) (sym c.self.view_is) c.requires.can in
     let rec_is = subst (λ (l : Log). c.args.rec.now ≡ next_rec l.head c.args.rec.now.time c.args.rec.now.block (length c.args.spelled.now)) (sym c.self.view_is) c.requires.rec in
     let known = c.add.ensures ∙ ap (λ (r : LogRec). with_record log.index r) rec_is in
-    let P : Log → Type 0 = λ (l : Log). Moves old v4 (AtAnyMoment (running l) old (λ s. added s entry)) (StandsAfterCall (running l) (running (record { g = log.g; head = committed log.head entry.time (length c.args.spelled.now); cell = c.put.new.self; stage = c.fill.new.self; index = c.add.new.self })) old (λ s. added s entry)) in
+    let P : Log → Type 0 = λ (l : Log). Moves old v4 (AtAnyMoment (running (with_index l c.args.index.now)) old (λ s. added s entry))
+    (StandsAfterCall (running (with_index l c.args.index.now)) (running (record {
+      g = log.g;
+      head = committed log.head entry.time (length c.args.spelled.now);
+      cell =
+          c.put.new.self;
+      stage = c.fill.new.self;
+      index = c.add.new.self;
+    })) old (λ s. added s entry)) in
     subst P c.self.view_is
-    (put_ok log c.self.invariant.place c.self.invariant.same old entry c.args.parity.now c.args.spelled.now can refl c.ring_of-ring.result c.ring_of-ring.ensures v1 c.append.ensures.any_moment v2 c.fill.ensures.any_moment v3 (sync_steps _ _ _ _ c.sync.ensures.call) c.in_ok-append.ensures.written c.fill.ensures.contents c.in_ok-fill.ensures.written c.sync.ensures.call.same (settled_there _ v2 v3 c.in_ok-sync.ensures.call) v4 c.value_of-value.result c.value_of-value.ensures c.put.new.self c.fill.new.self c.add.new.self known c.in_ok-fill.ensures.ok c.in_ok-put.ensures.ok)
+    (put_ok log c.self.invariant.place c.self.invariant.same old entry c.args.parity.now c.args.spelled.now can refl c.ring_of-ring.result c.ring_of-ring.ensures v1
+    c.append.ensures.any_moment v2 c.fill.ensures.any_moment v3 (sync_steps _ _ _ _ c.sync.ensures.call) c.in_ok-append.ensures.written c.fill.ensures.contents
+    c.in_ok-fill.ensures.written c.sync.ensures.call.same (settled_there _ v2 v3 c.in_ok-sync.ensures.call) v4 c.value_of-value.result c.value_of-value.ensures
+    c.put.new.self c.fill.new.self c.add.new.self known c.in_ok-fill.ensures.ok c.in_ok-put.ensures.ok)
 
 pub returns-clause-any_moment : goal.returns-clause-any_moment
 returns-clause-any_moment g c =
@@ -133,25 +159,28 @@ returns-clause-any_moment g c =
     let v2 = g.B.Bank.view c.fill.new.bank in
     let v3 = g.B.Bank.view c.sync.new.self in
     let v4 = g.B.Bank.view c.put.new.bank in
-    let log : Log = record { g = c.self.inside.g; head = c.self.inside.head; cell = c.self.inside.cell; stage = c.self.inside.stage; index = c.self.inside.index } in
+    let log : IndexedLog = record { g = c.self.inside.g; head = c.self.inside.head; cell = c.self.inside.cell; stage = c.self.inside.stage; index = c.args.index.now } in
     let entry : Entry = entry_for c.args.rec.now.time c.args.rec.now.block c.args.bytes.now in
-    let can = subst (λ (l : Log). CanCommit l old entry c.args.parity.now c.args.spelled.now) (sym c.self.view_is) c.requires.can in
-    let P : Log → Type 0 = λ (l : Log). Moves old v4 (AtAnyMoment (running l) old (λ s. added s entry)) (AtAnyMoment (running l) old (λ s. added s entry)) in
+    let can = subst (λ (l : Log). CanCommit (with_index l c.args.index.now) old entry c.args.parity.now c.args.spelled.now) (sym c.self.view_is) c.requires.can in
+    let P : Log → Type 0 = λ (l : Log). Moves old v4 (AtAnyMoment (running (with_index l c.args.index.now)) old (λ s. added s entry))
+    (AtAnyMoment (running (with_index l c.args.index.now)) old (λ s. added s entry)) in
     subst P c.self.view_is
-    (put_any log c.self.invariant.place c.self.invariant.same old entry c.args.parity.now c.args.spelled.now can refl c.ring_of-ring.result c.ring_of-ring.ensures v1 c.append.ensures.any_moment v2 c.fill.ensures.any_moment v3 (sync_steps _ _ _ _ c.sync.ensures.call) c.in_ok-append.ensures.written c.fill.ensures.contents c.in_ok-fill.ensures.written c.sync.ensures.call.same (settled_there _ v2 v3 c.in_ok-sync.ensures.call) v4 c.value_of-value.result c.value_of-value.ensures c.put.ensures.any_moment)
+    (put_any log c.self.invariant.place c.self.invariant.same old entry c.args.parity.now c.args.spelled.now can refl c.ring_of-ring.result c.ring_of-ring.ensures v1
+    c.append.ensures.any_moment v2 c.fill.ensures.any_moment v3 (sync_steps _ _ _ _ c.sync.ensures.call) c.in_ok-append.ensures.written c.fill.ensures.contents
+    c.in_ok-fill.ensures.written c.sync.ensures.call.same (settled_there _ v2 v3 c.in_ok-sync.ensures.call) v4 c.value_of-value.result c.value_of-value.ensures c.put.ensures.any_moment)
 
 -- ---- what stands then
 pub returns-clause-cell : goal.returns-clause-cell
 returns-clause-cell g c =
-    let log : Log = record { g = c.self.inside.g; head = committed c.self.inside.head c.args.rec.now.time (length c.args.spelled.now); cell = c.put.new.self; stage = c.fill.new.self; index = c.add.new.self } in
-    put_known log c.self.inside.cell _ _ c.value_of-value.result c.self.invariant.place c.value_of-value.ensures c.in_ok-put.ensures.ok
+    put_known (committed c.self.inside.head c.args.rec.now.time (length c.args.spelled.now)) c.put.new.self c.self.inside.cell _ _ c.value_of-value.result
+    c.self.invariant.place c.value_of-value.ensures c.in_ok-put.ensures.ok
 
 pub returns-clause-in_step : goal.returns-clause-in_step
 returns-clause-in_step g c =
     let old = g.B.Bank.view c.args.bank.now in
-    let log : Log = record { g = c.self.inside.g; head = c.self.inside.head; cell = c.self.inside.cell; stage = c.self.inside.stage; index = c.self.inside.index } in
+    let log : IndexedLog = record { g = c.self.inside.g; head = c.self.inside.head; cell = c.self.inside.cell; stage = c.self.inside.stage; index = c.args.index.now } in
     let entry : Entry = entry_for c.args.rec.now.time c.args.rec.now.block c.args.bytes.now in
-    let can = subst (λ (l : Log). CanCommit l old entry c.args.parity.now c.args.spelled.now) (sym c.self.view_is) c.requires.can in
+    let can = subst (λ (l : Log). CanCommit (with_index l c.args.index.now) old entry c.args.parity.now c.args.spelled.now) (sym c.self.view_is) c.requires.can in
     let rec_is = subst (λ (l : Log). c.args.rec.now ≡ next_rec l.head c.args.rec.now.time c.args.rec.now.block (length c.args.spelled.now)) (sym c.self.view_is) c.requires.rec in
     let known = c.add.ensures ∙ ap (λ (r : LogRec). with_record log.index r) rec_is in
     next_in_step log.head entry (length c.args.spelled.now) log.stage c.fill.new.self _ log.index c.add.new.self can.in_step c.in_ok-fill.ensures.ok known
@@ -160,20 +189,24 @@ pub returns-in_err-append-clause-touches : goal.returns-in_err-append-clause-tou
 returns-in_err-append-clause-touches g c =
     let old = g.B.Bank.view c.args.bank.now in
     let v1 = g.B.Bank.view c.append.new.bank in
-    let log : Log = record { g = c.self.inside.g; head = c.self.inside.head; cell = c.self.inside.cell; stage = c.self.inside.stage; index = c.self.inside.index } in
-    let can = subst (λ (l : Log). CanCommit l old (entry_for c.args.rec.now.time c.args.rec.now.block c.args.bytes.now) c.args.parity.now c.args.spelled.now) (sym c.self.view_is) c.requires.can in
-    subst (λ (l : Log). Touches (InCommit (running l)) old v1) c.self.view_is
-    (append_touches log c.self.invariant.place c.self.invariant.same c.ring_of-ring.result c.ring_of-ring.ensures (length c.args.spelled.now) can.next.offsets.window old v1 c.append.ensures.contents c.append.ensures.any_moment)
+    let log : IndexedLog = record { g = c.self.inside.g; head = c.self.inside.head; cell = c.self.inside.cell; stage = c.self.inside.stage; index = c.args.index.now } in
+    let can = subst (λ (l : Log). CanCommit (with_index l c.args.index.now) old (entry_for c.args.rec.now.time c.args.rec.now.block c.args.bytes.now) c.args.parity.now
+    c.args.spelled.now) (sym c.self.view_is) c.requires.can in
+    subst (λ (l : Log). Touches (InCommit (running (with_index l c.args.index.now))) old v1) c.self.view_is
+    (append_touches log c.self.invariant.place c.self.invariant.same c.ring_of-ring.result c.ring_of-ring.ensures (length c.args.spelled.now) can.next.offsets.window old
+    v1 c.append.ensures.contents c.append.ensures.any_moment)
 
 pub returns-in_err-fill-clause-touches : goal.returns-in_err-fill-clause-touches
 returns-in_err-fill-clause-touches g c =
     let old = g.B.Bank.view c.args.bank.now in
     let v1 = g.B.Bank.view c.append.new.bank in
     let v2 = g.B.Bank.view c.fill.new.bank in
-    let log : Log = record { g = c.self.inside.g; head = c.self.inside.head; cell = c.self.inside.cell; stage = c.self.inside.stage; index = c.self.inside.index } in
-    let can = subst (λ (l : Log). CanCommit l old (entry_for c.args.rec.now.time c.args.rec.now.block c.args.bytes.now) c.args.parity.now c.args.spelled.now) (sym c.self.view_is) c.requires.can in
-    subst (λ (l : Log). Touches (InCommit (running l)) old v2) c.self.view_is
-    (fill_touches log c.self.invariant.place c.self.invariant.same c.ring_of-ring.result c.ring_of-ring.ensures (length c.args.spelled.now) can.next.offsets.window old v1 c.append.ensures.contents c.append.ensures.any_moment v2 c.fill.ensures.contents c.fill.ensures.any_moment)
+    let log : IndexedLog = record { g = c.self.inside.g; head = c.self.inside.head; cell = c.self.inside.cell; stage = c.self.inside.stage; index = c.args.index.now } in
+    let can = subst (λ (l : Log). CanCommit (with_index l c.args.index.now) old (entry_for c.args.rec.now.time c.args.rec.now.block c.args.bytes.now) c.args.parity.now
+    c.args.spelled.now) (sym c.self.view_is) c.requires.can in
+    subst (λ (l : Log). Touches (InCommit (running (with_index l c.args.index.now))) old v2) c.self.view_is
+    (fill_touches log c.self.invariant.place c.self.invariant.same c.ring_of-ring.result c.ring_of-ring.ensures (length c.args.spelled.now) can.next.offsets.window old v1
+    c.append.ensures.contents c.append.ensures.any_moment v2 c.fill.ensures.contents c.fill.ensures.any_moment)
 
 pub returns-in_err-put-clause-touches : goal.returns-in_err-put-clause-touches
 returns-in_err-put-clause-touches g c =
@@ -184,10 +217,13 @@ returns-in_err-put-clause-touches g c =
     let torn_same = c.sync.ensures.call.same in
     let torn_sync = sync_steps _ _ _ _ c.sync.ensures.call in
     let v4 = g.B.Bank.view c.put.new.bank in
-    let log : Log = record { g = c.self.inside.g; head = c.self.inside.head; cell = c.self.inside.cell; stage = c.self.inside.stage; index = c.self.inside.index } in
-    let can = subst (λ (l : Log). CanCommit l old (entry_for c.args.rec.now.time c.args.rec.now.block c.args.bytes.now) c.args.parity.now c.args.spelled.now) (sym c.self.view_is) c.requires.can in
-    subst (λ (l : Log). Touches (InCommit (running l)) old v4) c.self.view_is
-    (commit_touches log c.self.invariant.place c.self.invariant.same c.ring_of-ring.result c.ring_of-ring.ensures (length c.args.spelled.now) can.next.offsets.window old v1 c.append.ensures.contents c.append.ensures.any_moment v2 c.fill.ensures.contents c.fill.ensures.any_moment torn_v3 torn_same torn_sync v4 c.value_of-value.result c.put.ensures.contents c.put.ensures.any_moment)
+    let log : IndexedLog = record { g = c.self.inside.g; head = c.self.inside.head; cell = c.self.inside.cell; stage = c.self.inside.stage; index = c.args.index.now } in
+    let can = subst (λ (l : Log). CanCommit (with_index l c.args.index.now) old (entry_for c.args.rec.now.time c.args.rec.now.block c.args.bytes.now) c.args.parity.now
+    c.args.spelled.now) (sym c.self.view_is) c.requires.can in
+    subst (λ (l : Log). Touches (InCommit (running (with_index l c.args.index.now))) old v4) c.self.view_is
+    (commit_touches log c.self.invariant.place c.self.invariant.same c.ring_of-ring.result c.ring_of-ring.ensures (length c.args.spelled.now) can.next.offsets.window old
+    v1 c.append.ensures.contents c.append.ensures.any_moment v2 c.fill.ensures.contents c.fill.ensures.any_moment torn_v3 torn_same torn_sync v4
+    c.value_of-value.result c.put.ensures.contents c.put.ensures.any_moment)
 
 pub returns-clause-touches : goal.returns-clause-touches
 returns-clause-touches g c =
@@ -198,28 +234,72 @@ returns-clause-touches g c =
     let whole_same = c.sync.ensures.call.same in
     let whole_sync = sync_steps _ _ _ _ c.sync.ensures.call in
     let v4 = g.B.Bank.view c.put.new.bank in
-    let log : Log = record { g = c.self.inside.g; head = c.self.inside.head; cell = c.self.inside.cell; stage = c.self.inside.stage; index = c.self.inside.index } in
-    let can = subst (λ (l : Log). CanCommit l old (entry_for c.args.rec.now.time c.args.rec.now.block c.args.bytes.now) c.args.parity.now c.args.spelled.now) (sym c.self.view_is) c.requires.can in
-    subst (λ (l : Log). Touches (InCommit (running l)) old v4) c.self.view_is
-    (commit_touches log c.self.invariant.place c.self.invariant.same c.ring_of-ring.result c.ring_of-ring.ensures (length c.args.spelled.now) can.next.offsets.window old v1 c.append.ensures.contents c.append.ensures.any_moment v2 c.fill.ensures.contents c.fill.ensures.any_moment whole_v3 whole_same whole_sync v4 c.value_of-value.result c.put.ensures.contents c.put.ensures.any_moment)
+    let log : IndexedLog = record { g = c.self.inside.g; head = c.self.inside.head; cell = c.self.inside.cell; stage = c.self.inside.stage; index = c.args.index.now } in
+    let can = subst (λ (l : Log). CanCommit (with_index l c.args.index.now) old (entry_for c.args.rec.now.time c.args.rec.now.block c.args.bytes.now) c.args.parity.now
+    c.args.spelled.now) (sym c.self.view_is) c.requires.can in
+    subst (λ (l : Log). Touches (InCommit (running (with_index l c.args.index.now))) old v4) c.self.view_is
+    (commit_touches log c.self.invariant.place c.self.invariant.same c.ring_of-ring.result c.ring_of-ring.ensures (length c.args.spelled.now) can.next.offsets.window old
+    v1 c.append.ensures.contents c.append.ensures.any_moment v2 c.fill.ensures.contents c.fill.ensures.any_moment whole_v3 whole_same whole_sync v4
+    c.value_of-value.result c.put.ensures.contents c.put.ensures.any_moment)
 
-pub returns-in_err-append-clause-goes_on : goal.returns-in_err-append-clause-goes_on
-returns-in_err-append-clause-goes_on g c = goes_still (running c.args.self.now)
+pub returns-in_err-append-clause-same_array : goal.returns-in_err-append-clause-same_array
+returns-in_err-append-clause-same_array g c = goes_still (running (with_index c.args.self.now c.args.index.now))
 
-pub returns-in_err-fill-clause-goes_on : goal.returns-in_err-fill-clause-goes_on
-returns-in_err-fill-clause-goes_on g c =
-    let log : Log = record { g = c.self.inside.g; head = c.self.inside.head; cell = c.self.inside.cell; stage = c.self.inside.stage; index = c.self.inside.index } in
-    let after : Log = record { g = c.self.inside.g; head = c.self.inside.head; cell = c.self.inside.cell; stage = c.fill.new.self; index = c.self.inside.index } in
-    subst (λ (l : Log). SameArray (running l) (running after)) c.self.view_is (goes_same log after refl refl)
+pub returns-in_err-fill-clause-same_array : goal.returns-in_err-fill-clause-same_array
+returns-in_err-fill-clause-same_array g c =
+    let log : IndexedLog = record { g = c.self.inside.g; head = c.self.inside.head; cell = c.self.inside.cell; stage = c.self.inside.stage; index = c.args.index.now } in
+    let after : IndexedLog = record { g = c.self.inside.g; head = c.self.inside.head; cell = c.self.inside.cell; stage = c.fill.new.self; index = c.args.index.now } in
+    subst (λ (l : Log). SameArray (running (with_index l c.args.index.now)) (running after)) c.self.view_is (goes_same log after refl refl)
 
-pub returns-in_err-put-clause-goes_on : goal.returns-in_err-put-clause-goes_on
-returns-in_err-put-clause-goes_on g c =
-    let log : Log = record { g = c.self.inside.g; head = c.self.inside.head; cell = c.self.inside.cell; stage = c.self.inside.stage; index = c.self.inside.index } in
-    let after : Log = record { g = c.self.inside.g; head = c.self.inside.head; cell = c.put.new.self; stage = c.fill.new.self; index = c.self.inside.index } in
-    subst (λ (l : Log). SameArray (running l) (running after)) c.self.view_is (goes_same log after refl refl)
+pub returns-in_err-put-clause-same_array : goal.returns-in_err-put-clause-same_array
+returns-in_err-put-clause-same_array g c =
+    let log : IndexedLog = record { g = c.self.inside.g; head = c.self.inside.head; cell = c.self.inside.cell; stage = c.self.inside.stage; index = c.args.index.now } in
+    let after : IndexedLog = record { g = c.self.inside.g; head = c.self.inside.head; cell = c.put.new.self; stage = c.fill.new.self; index = c.args.index.now } in
+    subst (λ (l : Log). SameArray (running (with_index l c.args.index.now)) (running after)) c.self.view_is (goes_same log after refl refl)
 
-pub returns-clause-goes_on : goal.returns-clause-goes_on
-returns-clause-goes_on g c =
-    let log : Log = record { g = c.self.inside.g; head = c.self.inside.head; cell = c.self.inside.cell; stage = c.self.inside.stage; index = c.self.inside.index } in
-    let after : Log = record { g = c.self.inside.g; head = committed c.self.inside.head c.args.rec.now.time (length c.args.spelled.now); cell = c.put.new.self; stage = c.fill.new.self; index = c.add.new.self } in
-    subst (λ (l : Log). SameArray (running l) (running after)) c.self.view_is (goes_later log after refl (later_committed log.head c.args.rec.now.time (length c.args.spelled.now)))
+pub returns-clause-same_array : goal.returns-clause-same_array
+returns-clause-same_array g c =
+    let log : IndexedLog = record { g = c.self.inside.g; head = c.self.inside.head; cell = c.self.inside.cell; stage = c.self.inside.stage; index = c.args.index.now } in
+    let after : IndexedLog = record {
+      g = c.self.inside.g;
+      head = committed c.self.inside.head c.args.rec.now.time (length c.args.spelled.now);
+      cell = c.put.new.self;
+      stage = c.fill.new.self;
+      index = c.add.new.self;
+    } in
+    subst (λ (l : Log). SameArray (running (with_index l c.args.index.now)) (running after)) c.self.view_is
+    (goes_later log after refl (later_committed log.head c.args.rec.now.time (length c.args.spelled.now)))
+
+-- ---- what the log is after it
+pub invariant_of-self-in_err-put : goal.invariant_of-self-in_err-put
+invariant_of-self-in_err-put g c = record {
+  is_head = c.self.invariant.is_head;
+  one_slot = c.self.invariant.one_slot;
+  place = c.put.ensures.place ∙ c.self.invariant.place;
+  same = ap (λ (s : Stage). s.g) c.in_ok-fill.ensures.ok ∙ c.self.invariant.same;
+}
+
+pub invariant_of-self-2 : goal.invariant_of-self-2
+invariant_of-self-2 g c = record {
+  is_head = subst (λ (l : Log). IsHead l.g (committed l.head c.args.rec.now.time (length c.args.spelled.now))) (sym c.self.view_is) c.requires.can.next;
+  one_slot = c.self.invariant.one_slot;
+  place = c.put.ensures.place ∙ c.self.invariant.place;
+  same = ap (λ (s : Stage). s.g) c.in_ok-fill.ensures.ok ∙ c.self.invariant.same;
+}
+
+pub returns-clause-sizes : goal.returns-clause-sizes
+returns-clause-sizes g c e = c.put.ensures.sizes e ∙ c.sync.ensures.call.sizes e ∙ c.fill.ensures.sizes e ∙ c.append.ensures.sizes e
+
+err_any : {T E : Type 0} (r : Result T E) (P : Type 0) → P → OnErr r P
+err_any (Ok value) P p = tt
+err_any (Err e) P p = p
+
+pub returns-in_err-put-clause-cause : goal.returns-in_err-put-clause-cause
+returns-in_err-put-clause-cause g c =
+    let blamed_v3 = g.B.Bank.view c.sync.new.self in
+    let v4 = g.B.Bank.view c.put.new.bank in
+    let disk : c.self.inside.cell.place.disk ≡ 0 = ap (λ (p : Place). p.disk) c.self.invariant.place in
+    let rose = subst (λ (d : ℕ). Rose (blamed_v3.faults d) (v4.faults d)) disk c.in_err-put.ensures.cause in
+    let blamed_sync : Moves (g.B.Bank.view c.fill.new.bank) blamed_v3 Same Same = sync_steps _ _ _ _ c.sync.ensures.call in
+    let whole : Rose ((g.B.Bank.view c.args.bank.now).faults 0) (v4.faults 0) = omega (arith, rose, c.append.ensures.any_moment.faults 0, c.fill.ensures.any_moment.faults 0, blamed_sync.faults 0) in
+    err_any c.from_residual-in_err-put.result (Rose ((g.B.Bank.view c.args.bank.now).faults 0) (v4.faults 0)) whole

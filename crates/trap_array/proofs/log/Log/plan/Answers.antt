@@ -1,4 +1,4 @@
-use Rattle.std.proofs.Common.{rules, ◌≡◌, ℕ, List, length, take, drop, ◌++◌, sym, subst}
+use Rattle.std.proofs.Common.{rules, ◌≡◌, ℕ, List, [], ◌∷◌, length, OnOk, ap, sym, subst, ◌∙◌}
 use Rattle.std.proofs.lemmas.Result.{on_ok_weaker}
 use Rattle.trap_model.specs.Image.{IsImage}
 use Rattle.trap_model.specs.State.{image}
@@ -7,8 +7,13 @@ use Rattle.trap_raid.specs.Members.{BlockFits, HoldImage, member_place}
 use Rattle.trap_raid.specs.Plan.{IsPlan}
 use Rattle.trap_raid.proofs.FitLemmas.{fits_from_sizes, block_fits}
 use Rattle.trap_array.specs.Calls.{running}
-use Rattle.trap_array.specs.Log.{Log}
-use Rattle.trap_array.proofs.Reading.{stand_now, image_now, filled_whole}
+use Rattle.trap_array.specs.Log.{Log, with_index}
+use Rattle.trap_array.specs.Held.{Held, leases_of}
+use Rattle.trap_pool.specs.Frames.{AreLeases, Only}
+use Rattle.trap_pool.specs.Lending.{lent}
+use Rattle.trap_pool.specs.Pooled.{pool_block}
+use Rattle.trap_raid.proofs.PoolLemmas.{only_then, only_among, only_lent, lent_here}
+use Rattle.trap_array.proofs.Reading.{stand_now, image_now}
 use Rattle.trap_array.proofs.log.Log.plan.Goals as goal
 
 pub write_plan-requires-clause-disks : goal.write_plan-requires-clause-disks
@@ -22,25 +27,42 @@ write_plan-requires-clause-disks g c =
     (block_fits here.g here.head.lost here.head.rebuilt here.stage.pending old c.args.block (fits_from_sizes here.g here.head.lost here.head.rebuilt old c.requires.sizes.members) c.requires.block))
 
 pub returns-clause-plan : goal.returns-clause-plan
-returns-clause-plan g c told s stands =
+returns-clause-plan g c told i s stands =
     let old = g.B.Bank.view c.args.bank.now in
-    let log : Log = record { g = c.self.inside.g; head = c.self.inside.head; cell = c.self.inside.cell; stage = c.self.inside.stage; index = c.self.inside.index } in
+    let log : Log = record { g = c.self.inside.g; head = c.self.inside.head; cell = c.self.inside.cell; stage = c.self.inside.stage } in
     let here = c.args.self.now in
     let P : Log → Type 0 = λ (l : Log). HoldImage l.g l.head.lost l.stage.pending (member_place l.g old.now.disks) (image s) in
     let K : Condition → Type 0 = λ (k : Condition). HoldImage k.g k.lost log.stage.pending (member_place k.g old.now.disks) (image s) in
-    let stand = subst K (sym c.new-raid.ensures) (subst P (sym c.self.view_is) (stand_now (running here) old s (g.met.B.Bank.lawful c.args.bank.now) c.requires.sizes told stands)) in
+    let stand = subst K (sym c.new-raid.ensures) (subst P (sym c.self.view_is) (stand_now (running (with_index here i)) old s (g.met.B.Bank.lawful c.args.bank.now) c.requires.sizes told stands)) in
     let I : Log → Type 0 = λ (l : Log). IsImage l.g (image s) in
     let J : Condition → Type 0 = λ (k : Condition). IsImage k.g (image s) in
-    let is_image = subst J (sym c.new-raid.ensures) (subst I (sym c.self.view_is) (image_now (running here) s old.now.disks stands)) in
-    let long : length c.write_plan.new.delta ≡ c.room.inside.delta.len = search rules in
-    let long_too : length c.write_plan.new.parity ≡ c.room.inside.parity.len = search rules in
-    let D : List ℕ → Type 0 = λ (delta : List ℕ). IsPlan here.g (image s) c.args.block c.args.bytes.now delta c.write_plan.new.parity in
-    on_ok_weaker c.write_plan.result
-    (λ plan.
-    let C : Condition → Type 0 = λ (k : Condition). IsPlan k.g (image s) c.args.block c.args.bytes.now c.write_plan.new.delta c.write_plan.new.parity in
-    let L : Log → Type 0 = λ (l : Log). IsPlan l.g (image s) c.args.block c.args.bytes.now c.write_plan.new.delta c.write_plan.new.parity in
-    let is = subst L c.self.view_is (subst C c.new-raid.ensures plan) in
-    let E : List ℕ → Type 0 = λ (parity : List ℕ). IsPlan here.g (image s) c.args.block c.args.bytes.now (take c.room.inside.delta.len (c.write_plan.new.delta ++ drop (length c.write_plan.new.delta) c.room.inside.delta.items)) parity in
-    subst E (sym (filled_whole c.write_plan.new.parity c.room.inside.parity.items c.room.inside.parity.len long_too))
-    (subst D (sym (filled_whole c.write_plan.new.delta c.room.inside.delta.items c.room.inside.delta.len long)) is))
-    (c.write_plan.ensures.plan told (image s) is_image stand)
+    let is_image = subst J (sym c.new-raid.ensures) (subst I (sym c.self.view_is) (image_now (running (with_index here i)) s old.now.disks stands)) in
+    let held : Held = record { contents = c.held.inside.contents; delta = c.held.inside.delta; parity = c.held.inside.parity; scratch = c.held.inside.scratch } in
+    let are = subst (λ (h : Held). AreLeases c.args.pool.now (leases_of h)) (sym c.held.view_is) c.requires.leases in
+    let after = c.write_plan.new.pool in
+    let delta = pool_block after held.delta in
+    let parity = pool_block after held.parity in
+    let copy = c.copy_from_slice.new.self in
+    let same : copy ≡ c.args.bytes.now = search rules in
+    let lent_ = lent c.args.pool.now held.contents copy in
+    let fits : length copy ≡ c.args.pool.now.size = ap (λ (l : List ℕ). length l) same ∙ c.requires.bytes ∙ sym c.requires.size in
+    let fresh : pool_block lent_ held.contents ≡ c.args.bytes.now = lent_here c.args.pool.now held.contents copy fits are.0 ∙ same in
+    let F : List ℕ → Type 0 = λ (bytes : List ℕ). IsPlan here.g (image s) c.args.block bytes delta parity in
+    let C : Condition → Type 0 = λ (k : Condition). IsPlan k.g (image s) c.args.block (pool_block lent_ held.contents) delta parity in
+    let L : Log → Type 0 = λ (l : Log). IsPlan l.g (image s) c.args.block (pool_block lent_ held.contents) delta parity in
+    subst (λ (h : Held). OnOk c.write_plan.result (IsPlan here.g (image s) c.args.block c.args.bytes.now (pool_block after h.delta) (pool_block after h.parity))) c.held.view_is
+    (on_ok_weaker c.write_plan.result (λ plan. subst F fresh (subst L c.self.view_is (subst C c.new-raid.ensures plan)))
+    (c.write_plan.ensures.plan told (image s) is_image stand))
+
+pub returns-clause-rest : goal.returns-clause-rest
+returns-clause-rest g c =
+    let held : Held = record { contents = c.held.inside.contents; delta = c.held.inside.delta; parity = c.held.inside.parity; scratch = c.held.inside.scratch } in
+    let after = c.write_plan.new.pool in
+    let copy = c.copy_from_slice.new.self in
+    let same : copy ≡ c.args.bytes.now = search rules in
+    let lent_ = lent c.args.pool.now held.contents copy in
+    let fits : length copy ≡ c.args.pool.now.size = ap (λ (l : List ℕ). length l) same ∙ c.requires.bytes ∙ sym c.requires.size in
+    subst (λ (h : Held). Only (leases_of h) c.args.pool.now after) c.held.view_is
+    (only_then (leases_of held) c.args.pool.now lent_ after
+    (only_among (held.contents ∷ []) (leases_of held) c.args.pool.now lent_ (λ k apart. (apart.0, tt)) (only_lent c.args.pool.now held.contents copy fits))
+    (only_among (held.delta ∷ held.parity ∷ held.scratch ∷ []) (leases_of held) lent_ after (λ k apart. apart.1) c.write_plan.ensures.rest))

@@ -1,67 +1,93 @@
-use Rattle.std.proofs.Common.{rules, ◌≡◌, ℕ, Some, None, Result, Err, ap, subst, arith}
+use Rattle.std.proofs.Common.{rules, ◌≡◌, ℕ, Some, None, Result, Err, IfSome, inl, inr, ⊎_elim, refl, sym, ap, subst, ◌∙◌, arith}
 use Rattle.trap_format.specs.declared.head.Head.{Head}
 use Rattle.trap_model.specs.declared.numbers.Geometry.{Geometry}
-use Rattle.trap_array.specs.Turning.{Turns, early_refusal}
+use Rattle.trap_model.specs.declared.request.Refusal.TheVariants.{Full}
+use Rattle.trap_model.specs.declared.request.Reply.{Reply}
+use Rattle.trap_model.specs.declared.request.Request.TheVariants.{Write}
+use Rattle.trap_array.specs.Owed.{owed, pending_writes, reply_of_write}
+use Rattle.trap_stage.specs.Slots.{Stage}
+use Rattle.trap_array.specs.Turning.{MovesLog, early_refusal}
 use Rattle.trap_array.specs.declared.fault.Denied.{Denied}
+use Rattle.trap_array.specs.Log.{with_index}
 use Rattle.trap_array.specs.Areas.{InWrite}
 use Rattle.trap_array.specs.Calls.{running}
 use Rattle.trap_array.specs.Growing.{IndexAfter}
 use Rattle.trap_array.proofs.AreaSteps.{touches_none, drain_within, since_touches, drain_beside}
 use Rattle.trap_array.proofs.Denials.{untouched_none}
 use Rattle.trap_array.proofs.KeepSteps.{next_of, reply_of, room_failed, early_none, early_turns}
-use Rattle.trap_array.proofs.IndexSteps.{index_still, index_since}
-use Rattle.trap_array.proofs.TurnSteps.{turns_after}
+use Rattle.trap_array.proofs.IndexSteps.{drained_step, fault_owes, fault_refuses, index_still, index_since}
+use Rattle.trap_array.proofs.TurnSteps.{array_of, turns_after}
 use Rattle.trap_array.proofs.log.Log.write_block.Goals as goal
 
-pub returns-in-Some-clause-turns : goal.returns-in-Some-clause-turns
-returns-in-Some-clause-turns g c =
-    let here = c.args.self.now in
+pub returns-in-Some-clause-moves : goal.returns-in-Some-clause-moves
+returns-in-Some-clause-moves g c =
+    let here = with_index c.args.self.now c.args.index.now in
     let is : early_refusal here.head c.args.time ≡ Some c.in-Some.why = search rules in
     early_turns here (g.B.Bank.view c.args.bank.now) c.args.time c.args.block c.args.bytes.now _ c.requires.can c.requires.block is
 
-pub returns-in_err-drain_for_room-clause-turns : goal.returns-in_err-drain_for_room-clause-turns
-returns-in_err-drain_for_room-clause-turns g c =
+pub returns-in_err-drain_for_room-clause-moves : goal.returns-in_err-drain_for_room-clause-moves
+returns-in_err-drain_for_room-clause-moves g c =
     let old = g.B.Bank.view c.args.bank.now in
     let new = g.B.Bank.view c.drain_for_room.new.bank in
-    let here = c.args.self.now in
+    let here = with_index c.args.self.now c.args.index.now in
     let next = next_of here.g c.args.time c.args.block c.args.bytes.now in
     let replies = reply_of here.g c.args.time c.args.block c.args.bytes.now in
     let is : Err c.in_err-drain_for_room.field-0.0 ≡ c.from_residual.result = search rules in
-    let P : Result ℕ Denied → Type 0 = λ (r : Result ℕ Denied). Turns here c.drain_for_room.new.self next replies r old new in
-    subst P is (room_failed here c.drain_for_room.new.self old new next replies c.in_err-drain_for_room.field-0.0 c.in_err-drain_for_room.ensures.cause c.drain_for_room.ensures.goes_on c.drain_for_room.ensures.sizes (drain_beside (running here) old new c.drain_for_room.ensures.touches) c.drain_for_room.ensures.any_moment)
+    let P : Result ℕ Denied → Type 0 = λ (r : Result ℕ Denied). MovesLog here (with_index c.drain_for_room.new.self c.args.index.now) next replies r old new in
+    subst P is (room_failed here (with_index c.drain_for_room.new.self c.args.index.now) old new next replies c.in_err-drain_for_room.field-0.0
+    (c.in_err-drain_for_room.ensures.cause c.args.index.now) (array_of c.args.self.now c.drain_for_room.new.self c.args.index.now c.args.index.now
+    c.drain_for_room.ensures.same_log) c.drain_for_room.ensures.sizes (drain_beside (running here) old new (c.drain_for_room.ensures.touches c.args.index.now))
+    (c.drain_for_room.ensures.any_moment c.args.index.now))
+
+pub plan_and_commit-requires-clause-can : goal.plan_and_commit-requires-clause-can
+plan_and_commit-requires-clause-can g c =
+    let can = c.in_ok-drain_for_room.ensures.can in
+    record {
+      in_step = drained_step c.args.self.now.head c.drain_for_room.new.self.head c.args.self.now.stage c.drain_for_room.new.self.stage c.args.index.now _
+          c.in_ok-drain_for_room.ensures.head can.staged c.requires.can.in_step;
+      same = c.requires.can.same ∙ sym c.drain_for_room.ensures.same_log.g;
+      sizes = can.sizes;
+      cell = can.cell;
+    }
 
 pub plan_and_commit-requires-clause-not_worn : goal.plan_and_commit-requires-clause-not_worn
 plan_and_commit-requires-clause-not_worn g c =
-    let here = c.args.self.now in
+    let here = with_index c.args.self.now c.args.index.now in
     let none : early_refusal here.head c.args.time ≡ None = search rules in
     let number = (early_none here.head c.args.time none).1 in
     let last = ap (λ (h : Head). h.last) c.in_ok-drain_for_room.ensures.head in
     omega (arith, number, last, c.refusal.ensures.head.numbers.last_most)
 
-pub returns-clause-turns : goal.returns-clause-turns
-returns-clause-turns g c =
+pub returns-clause-moves : goal.returns-clause-moves
+returns-clause-moves g c =
     let old = g.B.Bank.view c.args.bank.now in
     let mid = g.B.Bank.view c.drain_for_room.new.bank in
     let new = g.B.Bank.view c.plan_and_commit.new.bank in
-    let here = c.args.self.now in
-    let between = c.drain_for_room.new.self in
-    let P : Geometry → Type 0 = λ (geometry : Geometry). Turns between c.plan_and_commit.new.self (next_of geometry c.args.time c.args.block c.args.bytes.now) (reply_of geometry c.args.time c.args.block c.args.bytes.now) c.plan_and_commit.result mid new in
-    turns_after here c.plan_and_commit.new.self (next_of here.g c.args.time c.args.block c.args.bytes.now) (reply_of here.g c.args.time c.args.block c.args.bytes.now)
-    between c.plan_and_commit.result old mid new c.drain_for_room.ensures.goes_on c.in_ok-drain_for_room.ensures.ok c.drain_for_room.ensures.sizes (drain_beside (running here) old mid c.drain_for_room.ensures.touches)
-    (subst P c.drain_for_room.ensures.goes_on.g c.plan_and_commit.ensures.turns)
+    let here = with_index c.args.self.now c.args.index.now in
+    let between = with_index c.drain_for_room.new.self c.args.index.now in
+    let P : Geometry → Type 0 = λ (geometry : Geometry). MovesLog between (with_index c.plan_and_commit.new.self c.plan_and_commit.new.index)
+    (next_of geometry c.args.time c.args.block c.args.bytes.now) (reply_of geometry c.args.time c.args.block c.args.bytes.now) c.plan_and_commit.result mid new in
+    turns_after here (with_index c.plan_and_commit.new.self c.plan_and_commit.new.index) (next_of here.g c.args.time c.args.block c.args.bytes.now)
+    (reply_of here.g c.args.time c.args.block c.args.bytes.now)
+    between c.plan_and_commit.result old mid new (array_of c.args.self.now c.drain_for_room.new.self c.args.index.now c.args.index.now c.drain_for_room.ensures.same_log)
+    (c.in_ok-drain_for_room.ensures.ok c.args.index.now) c.drain_for_room.ensures.sizes (drain_beside (running here) old mid (c.drain_for_room.ensures.touches c.args.index.now))
+    (subst P c.drain_for_room.ensures.same_log.g c.plan_and_commit.ensures.moves)
 
 pub returns-in-Some-clause-touches : goal.returns-in-Some-clause-touches
 returns-in-Some-clause-touches g c =
-    touches_none (InWrite (running c.args.self.now) c.args.block) (g.B.Bank.view c.args.bank.now)
+    touches_none (InWrite (running (with_index c.args.self.now c.args.index.now)) c.args.block) (g.B.Bank.view c.args.bank.now)
 
 pub returns-in_err-drain_for_room-clause-touches : goal.returns-in_err-drain_for_room-clause-touches
 returns-in_err-drain_for_room-clause-touches g c =
-    drain_within (running c.args.self.now) c.args.block (g.B.Bank.view c.args.bank.now) (g.B.Bank.view c.drain_for_room.new.bank) c.drain_for_room.ensures.touches
+    drain_within (running (with_index c.args.self.now c.args.index.now)) c.args.block (g.B.Bank.view c.args.bank.now) (g.B.Bank.view c.drain_for_room.new.bank)
+    (c.drain_for_room.ensures.touches c.args.index.now)
 
 pub returns-clause-touches : goal.returns-clause-touches
 returns-clause-touches g c =
-    since_touches (running c.args.self.now) (running c.drain_for_room.new.self) c.args.block _ c.drain_for_room.ensures.goes_on.g c.in_ok-drain_for_room.ensures.head c.in_ok-drain_for_room.ensures.stage
-    (g.B.Bank.view c.args.bank.now) (g.B.Bank.view c.drain_for_room.new.bank) (g.B.Bank.view c.plan_and_commit.new.bank) c.drain_for_room.ensures.touches c.plan_and_commit.ensures.touches
+    since_touches (running (with_index c.args.self.now c.args.index.now)) (running (with_index c.drain_for_room.new.self c.args.index.now)) c.args.block _
+    c.drain_for_room.ensures.same_log.g c.in_ok-drain_for_room.ensures.head c.in_ok-drain_for_room.ensures.stage
+    (g.B.Bank.view c.args.bank.now) (g.B.Bank.view c.drain_for_room.new.bank) (g.B.Bank.view c.plan_and_commit.new.bank)
+    (c.drain_for_room.ensures.touches c.args.index.now) c.plan_and_commit.ensures.touches
 
 pub returns-in-Some-clause-at_once : goal.returns-in-Some-clause-at_once
 returns-in-Some-clause-at_once g c why some = untouched_none (g.B.Bank.view c.args.bank.now)
@@ -78,13 +104,52 @@ returns-clause-at_once g c why some =
 
 pub returns-in_err-drain_for_room-clause-index : goal.returns-in_err-drain_for_room-clause-index
 returns-in_err-drain_for_room-clause-index g c =
-    let here = running c.args.self.now in
-    let after = running c.drain_for_room.new.self in
+    let here = running (with_index c.args.self.now c.args.index.now) in
+    let after = running (with_index c.drain_for_room.new.self c.args.index.now) in
     let is : Err c.in_err-drain_for_room.field-0.0 ≡ c.from_residual.result = search rules in
     subst (λ (r : Result ℕ Denied). IndexAfter here after c.args.time c.args.block r) is
-    (index_still here after (g.B.Bank.view c.args.bank.now) (g.B.Bank.view c.drain_for_room.new.bank) c.args.time c.args.block c.in_err-drain_for_room.field-0.0 c.in_err-drain_for_room.ensures.cause c.drain_for_room.ensures.index)
+    (index_still here after (g.B.Bank.view c.args.bank.now) (g.B.Bank.view c.drain_for_room.new.bank) c.args.time c.args.block c.in_err-drain_for_room.field-0.0
+    (c.in_err-drain_for_room.ensures.cause c.args.index.now) refl)
 
 pub returns-clause-index : goal.returns-clause-index
 returns-clause-index g c =
-    index_since (running c.args.self.now) (running c.drain_for_room.new.self) (running c.plan_and_commit.new.self) c.args.time c.args.block c.plan_and_commit.result
-    c.drain_for_room.ensures.index (ap (λ (h : Head). h.end_off) c.in_ok-drain_for_room.ensures.head) c.plan_and_commit.ensures.index
+    index_since (running (with_index c.args.self.now c.args.index.now)) (running (with_index c.drain_for_room.new.self c.args.index.now))
+    (running (with_index c.plan_and_commit.new.self c.plan_and_commit.new.index)) c.args.time c.args.block
+    refl c.in_ok-drain_for_room.ensures.head c.plan_and_commit.result c.plan_and_commit.ensures.index
+
+pub returns-in_err-drain_for_room-clause-staged : goal.returns-in_err-drain_for_room-clause-staged
+returns-in_err-drain_for_room-clause-staged g c why refused =
+    let is : Err c.in_err-drain_for_room.field-0.0 ≡ c.from_residual.result = search rules in
+    absurd (fault_refuses (running (with_index c.args.self.now c.args.index.now)) (g.B.Bank.view c.args.bank.now) (g.B.Bank.view c.drain_for_room.new.bank)
+    c.in_err-drain_for_room.field-0.0 why (is ∙ refused) (c.in_err-drain_for_room.ensures.cause c.args.index.now))
+
+pub returns-clause-staged : goal.returns-clause-staged
+returns-clause-staged g c why refused =
+    let same = ap (λ (stage : Stage). stage.pending) (c.plan_and_commit.ensures.staged why refused) in
+    ⊎_elim (λ kept. inl (same ∙ kept)) (λ none. inr (same ∙ none)) c.in_ok-drain_for_room.ensures.stage
+
+pub returns-in_err-drain_for_room-clause-pending : goal.returns-in_err-drain_for_room-clause-pending
+returns-in_err-drain_for_room-clause-pending g c =
+    let here = running (with_index c.args.self.now c.args.index.now) in
+    let is : Err c.in_err-drain_for_room.field-0.0 ≡ c.from_residual.result = search rules in
+    let P : Reply → Type 0 = λ (reply : Reply). pending_writes c.drain_for_room.new.self.head ≡ owed c.args.self.now.g (Write c.args.time c.args.block c.args.bytes.now)
+    reply (pending_writes c.args.self.now.head) in
+    subst (λ (r : Result ℕ Denied). IfSome (reply_of_write r) P) is
+    (fault_owes here (g.B.Bank.view c.args.bank.now) (g.B.Bank.view c.drain_for_room.new.bank) P c.in_err-drain_for_room.field-0.0 (c.in_err-drain_for_room.ensures.cause c.args.index.now))
+
+pub returns-in_err-drain_for_room-clause-refused : goal.returns-in_err-drain_for_room-clause-refused
+returns-in_err-drain_for_room-clause-refused g c why other =
+    let here = running (with_index c.args.self.now c.args.index.now) in
+    let is : Err c.in_err-drain_for_room.field-0.0 ≡ c.from_residual.result = search rules in
+    let none : early_refusal c.args.self.now.head c.args.time ≡ None = search rules in (
+      (λ refused. absurd (fault_refuses here (g.B.Bank.view c.args.bank.now) (g.B.Bank.view c.drain_for_room.new.bank) c.in_err-drain_for_room.field-0.0 why
+          (is ∙ refused) (c.in_err-drain_for_room.ensures.cause c.args.index.now))),
+      (λ some. absurd (cc (none, some))),
+    )
+
+pub returns-in_err-drain_for_room-clause-full : goal.returns-in_err-drain_for_room-clause-full
+returns-in_err-drain_for_room-clause-full g c full =
+    let here = running (with_index c.args.self.now c.args.index.now) in
+    let is : Err c.in_err-drain_for_room.field-0.0 ≡ c.from_residual.result = search rules in
+    absurd (fault_refuses here (g.B.Bank.view c.args.bank.now) (g.B.Bank.view c.drain_for_room.new.bank) c.in_err-drain_for_room.field-0.0 Full (is ∙ full)
+    (c.in_err-drain_for_room.ensures.cause c.args.index.now))

@@ -5,9 +5,11 @@ use Rattle.trap_model.specs.State.{last}
 use Rattle.trap_model.specs.declared.history.State.{State}
 use Rattle.trap_model.specs.declared.log_record.LogRec.{LogRec}
 use Rattle.trap_model.specs.declared.request.Reply.TheVariants.{Kept}
+use Rattle.trap_pool.specs.Pooled.{pool_block}
+use Rattle.trap_array.specs.Log.{with_index}
 use Rattle.trap_array.specs.Growing.{HeadAfter, IndexAfter}
 use Rattle.trap_array.specs.Ready.{CanCommit}
-use Rattle.trap_array.specs.Turning.{Turns, IsFull}
+use Rattle.trap_array.specs.Turning.{MovesLog, IsFull}
 use Rattle.trap_array.specs.NextHead.{entry_for, next_rec}
 use Rattle.trap_array.specs.declared.fault.Denied.{Denied}
 use Rattle.trap_array.specs.declared.fault.Denied.TheVariants.{MemberFault}
@@ -15,22 +17,22 @@ use Rattle.trap_array.specs.Areas.{Touches, InWrite}
 use Rattle.trap_array.specs.Calls.{running}
 use Rattle.trap_array.proofs.AreaSteps.{touches_then, touches_same}
 use Rattle.trap_array.proofs.KeepSteps.{next_of, reply_of, plan_failed, full_turns, can_commit, kept_turns}
-use Rattle.trap_array.proofs.log.Log.plan_and_commit.Goals as goal
+use Rattle.trap_array.proofs.log.Log.write_leased.Goals as goal
 
-pub returns-in_err-plan-clause-turns : goal.returns-in_err-plan-clause-turns
-returns-in_err-plan-clause-turns g c =
+pub returns-in_err-plan-clause-moves : goal.returns-in_err-plan-clause-moves
+returns-in_err-plan-clause-moves g c =
     let old = g.B.Bank.view c.args.bank.now in
     let mid = g.B.Bank.view c.plan.new.bank in
-    let here = c.args.self.now in
+    let here = with_index c.args.self.now c.args.index.now in
     let next = next_of here.g c.args.time c.args.block c.args.bytes.now in
     let replies = reply_of here.g c.args.time c.args.block c.args.bytes.now in
     let m = c.in_err-plan.field-0.0.member in
     let is : Err (MemberFault m m) ≡ c.from_residual.result = search rules in
-    let P : Result ℕ Denied → Type 0 = λ (r : Result ℕ Denied). Turns here here next replies r old mid in
+    let P : Result ℕ Denied → Type 0 = λ (r : Result ℕ Denied). MovesLog here here next replies r old mid in
     subst P is (plan_failed here old mid next replies m c.in_err-plan.ensures.cause c.plan.ensures.any_moment)
 
-pub returns-then-is_full-clause-turns : goal.returns-then-is_full-clause-turns
-returns-then-is_full-clause-turns g c =
+pub returns-then-is_full-clause-moves : goal.returns-then-is_full-clause-moves
+returns-then-is_full-clause-moves g c =
     let rec_ = c.spell-rec.result in
     let header = c.spell-rec.ensures.header in
     let size = 26 + rec_.plen in
@@ -39,15 +41,16 @@ returns-then-is_full-clause-turns g c =
     let same : c.from-size.result ≡ c.spell-rec.result.plen = search rules in
     let code : (30 ≤ size) × (size ≤ c.args.self.now.g.block + 33) = (omega (arith, c.spell-rec.ensures.code.0), omega (arith, c.spell-rec.ensures.code.1)) in
     let long : length (take size spelled) ≡ size = omega (arith, length-take size spelled, within) in
-    full_turns c.args.self.now (g.B.Bank.view c.args.bank.now) (g.B.Bank.view c.plan.new.bank) c.args.time c.args.block size c.args.bytes.now c.plan.new.room.delta c.plan.new.room.parity (take size spelled)
+    full_turns (with_index c.args.self.now c.args.index.now) (g.B.Bank.view c.args.bank.now) (g.B.Bank.view c.plan.new.bank) c.args.time c.args.block size
+    c.args.bytes.now (pool_block c.plan.new.pool c.args.held.now.delta) (pool_block c.plan.new.pool c.args.held.now.parity) (take size spelled)
     c.is_full.ensures.head c.requires.can c.plan.ensures.any_moment c.requires.free c.requires.later c.requires.not_worn c.ranges.time.fits
-    c.requires.block c.requires.bytes c.plan.ensures.room.parity long c.spell-rec.ensures.short code c.in_ok-plan.ensures.plan c.spell-rec.ensures.spelled
+    c.requires.block c.requires.bytes long c.spell-rec.ensures.short code (λ told s stands. c.in_ok-plan.ensures.plan told c.args.index.now s stands) c.spell-rec.ensures.spelled
     (subst (λ (n : ℕ). IsFull c.args.self.now.g c.args.self.now.head (26 + n)) same (c.is_full.ensures.full.0 c.if-is_full.true))
 
 pub commit_and_drain-requires : goal.commit_and_drain-requires
 commit_and_drain-requires g c =
     let mid = g.B.Bank.view c.plan.new.bank in
-    let here = c.args.self.now in
+    let here = with_index c.args.self.now c.args.index.now in
     let rec_ = c.spell-rec.result in
     let header = c.spell-rec.ensures.header in
     let size = 26 + rec_.plen in
@@ -57,28 +60,32 @@ commit_and_drain-requires g c =
     let code : (30 ≤ size) × (size ≤ c.args.self.now.g.block + 33) = (omega (arith, c.spell-rec.ensures.code.0), omega (arith, c.spell-rec.ensures.code.1)) in
     let long : length (take size spelled) ≡ size = omega (arith, length-take size spelled, within) in
     let not_full : IsFull here.g here.head size → ⊥ = search rules in
-    let parity : c.plan.new.room.parity ≡ c.as_slice.result.now = search rules in
-    let record_ : spelled ≡ c.as_slice-2.result.now = search rules in
+    let parity : (pool_block c.plan.new.pool c.args.held.now.parity) ≡ c.bytes.result.now = search rules in
+    let record_ : spelled ≡ c.as_slice.result.now = search rules in
+    let long_parity : length c.bytes.result.now ≡ c.args.self.now.g.block = search rules in
+    let parity_size : length (pool_block c.plan.new.pool c.args.held.now.parity) ≡ c.args.self.now.g.block = ap (λ (l : List ℕ). length l) parity ∙ long_parity in
     let P : List ℕ → Type 0 = λ (bytes : List ℕ). CanCommit here mid (entry_for c.args.time c.args.block c.args.bytes.now) bytes (take size spelled) in
-    let Q : List ℕ → Type 0 = λ (bytes : List ℕ). CanCommit here mid (entry_for c.args.time c.args.block c.args.bytes.now) c.as_slice.result.now (take size bytes) in
-    let R : LogRec → Type 0 = λ (r : LogRec). CanCommit here mid (entry_for r.time r.block c.args.bytes.now) c.as_slice.result.now (take size c.as_slice-2.result.now) in
+    let Q : List ℕ → Type 0 = λ (bytes : List ℕ). CanCommit here mid (entry_for c.args.time c.args.block c.args.bytes.now) c.bytes.result.now (take size bytes) in
+    let R : LogRec → Type 0 = λ (r : LogRec). CanCommit here mid (entry_for r.time r.block c.args.bytes.now) c.bytes.result.now (take size c.as_slice.result.now) in
     let S : List ℕ → Type 0 = λ (bytes : List ℕ). rec_ ≡ next_rec here.head c.args.time c.args.block (length (take size bytes)) in
-    let T : LogRec → Type 0 = λ (r : LogRec). rec_ ≡ next_rec here.head r.time r.block (length (take size c.as_slice-2.result.now)) in
-    let M : ℕ → Type 0 = λ (n : ℕ). CanCommit here mid (entry_for rec_.time rec_.block c.args.bytes.now) c.as_slice.result.now (take (26 + n) c.as_slice-2.result.now) in
-    let N : ℕ → Type 0 = λ (n : ℕ). rec_ ≡ next_rec here.head rec_.time rec_.block (length (take (26 + n) c.as_slice-2.result.now)) in
+    let T : LogRec → Type 0 = λ (r : LogRec). rec_ ≡ next_rec here.head r.time r.block (length (take size c.as_slice.result.now)) in
+    let M : ℕ → Type 0 = λ (n : ℕ). CanCommit here mid (entry_for rec_.time rec_.block c.args.bytes.now) c.bytes.result.now (take (26 + n) c.as_slice.result.now) in
+    let N : ℕ → Type 0 = λ (n : ℕ). rec_ ≡ next_rec here.head rec_.time rec_.block (length (take (26 + n) c.as_slice.result.now)) in
     record {
       can = subst M (sym same) (subst R (sym header)
           (subst Q record_
           (subst P parity
-          (can_commit here (g.B.Bank.view c.args.bank.now) mid c.args.time c.args.block size c.args.bytes.now c.plan.new.room.delta c.plan.new.room.parity (take size spelled)
+          (can_commit here (g.B.Bank.view c.args.bank.now) mid c.args.time c.args.block size c.args.bytes.now (pool_block c.plan.new.pool c.args.held.now.delta)
+          (pool_block c.plan.new.pool c.args.held.now.parity) (take size spelled)
           c.is_full.ensures.head c.requires.can c.plan.ensures.any_moment c.requires.free c.requires.later c.requires.not_worn c.ranges.time.fits
-          c.requires.block c.requires.bytes c.plan.ensures.room.parity long c.spell-rec.ensures.short code c.in_ok-plan.ensures.plan c.spell-rec.ensures.spelled not_full))));
+          c.requires.block c.requires.bytes long c.spell-rec.ensures.short code (λ told s stands. c.in_ok-plan.ensures.plan told c.args.index.now s stands)
+          c.spell-rec.ensures.spelled parity_size not_full))));
       rec = subst N (sym same) (subst T (sym header) (subst S record_ (header ∙ ap (λ (n : ℕ). next_rec here.head c.args.time c.args.block n) (sym long))));
     }
 
-pub returns-clause-turns : goal.returns-clause-turns
-returns-clause-turns g c =
-    let here = c.args.self.now in
+pub returns-clause-moves : goal.returns-clause-moves
+returns-clause-moves g c =
+    let here = with_index c.args.self.now c.args.index.now in
     let rec_ = c.spell-rec.result in
     let header = c.spell-rec.ensures.header in
     let size = 26 + rec_.plen in
@@ -88,43 +95,48 @@ returns-clause-turns g c =
     let long : length (take size spelled) ≡ size = omega (arith, length-take size spelled, within) in
     let not_full : IsFull here.g here.head size → ⊥ = search rules in
     let next : LogRec → State → State = λ (r : LogRec) (s : State). added s (entry_for r.time r.block c.args.bytes.now) in
-    let U : LogRec → Type 0 = λ (r : LogRec). Turns here c.commit_and_drain.new.self (next r) (λ s. Kept (last s + 1)) c.commit_and_drain.result (g.B.Bank.view c.plan.new.bank) (g.B.Bank.view c.commit_and_drain.new.bank) in
-    kept_turns here (g.B.Bank.view c.args.bank.now) (g.B.Bank.view c.plan.new.bank) c.args.time c.args.block size c.args.bytes.now c.plan.new.room.delta c.plan.new.room.parity (take size spelled)
+    let U : LogRec → Type 0 = λ (r : LogRec). MovesLog here (with_index c.commit_and_drain.new.self c.commit_and_drain.new.index) (next r) (λ s. Kept (last s + 1))
+    c.commit_and_drain.result (g.B.Bank.view c.plan.new.bank) (g.B.Bank.view c.commit_and_drain.new.bank) in
+    kept_turns here (g.B.Bank.view c.args.bank.now) (g.B.Bank.view c.plan.new.bank) c.args.time c.args.block size c.args.bytes.now
+    (pool_block c.plan.new.pool c.args.held.now.delta) (pool_block c.plan.new.pool c.args.held.now.parity) (take size spelled)
     c.is_full.ensures.head c.requires.can c.plan.ensures.any_moment c.requires.free c.requires.later c.requires.not_worn c.ranges.time.fits
-    c.requires.block c.requires.bytes c.plan.ensures.room.parity long c.spell-rec.ensures.short code c.in_ok-plan.ensures.plan c.spell-rec.ensures.spelled not_full
-    c.commit_and_drain.new.self c.commit_and_drain.result (g.B.Bank.view c.commit_and_drain.new.bank) (subst U header c.commit_and_drain.ensures.turns)
+    c.requires.block c.requires.bytes long c.spell-rec.ensures.short code (λ told s stands. c.in_ok-plan.ensures.plan told c.args.index.now s stands) c.spell-rec.ensures.spelled not_full
+    (with_index c.commit_and_drain.new.self c.commit_and_drain.new.index) c.commit_and_drain.result (g.B.Bank.view c.commit_and_drain.new.bank) (subst U header c.commit_and_drain.ensures.moves)
 
 pub returns-in_err-plan-clause-touches : goal.returns-in_err-plan-clause-touches
 returns-in_err-plan-clause-touches g c =
-    touches_same (InWrite (running c.args.self.now) c.args.block) (g.B.Bank.view c.args.bank.now) (g.B.Bank.view c.plan.new.bank) c.plan.ensures.any_moment.same c.plan.ensures.any_moment.moves
+    touches_same (InWrite (running (with_index c.args.self.now c.args.index.now)) c.args.block) (g.B.Bank.view c.args.bank.now) (g.B.Bank.view c.plan.new.bank)
+    c.plan.ensures.any_moment.same c.plan.ensures.any_moment.moves
 
 pub returns-then-is_full-clause-touches : goal.returns-then-is_full-clause-touches
 returns-then-is_full-clause-touches g c =
-    touches_same (InWrite (running c.args.self.now) c.args.block) (g.B.Bank.view c.args.bank.now) (g.B.Bank.view c.plan.new.bank) c.plan.ensures.any_moment.same c.plan.ensures.any_moment.moves
+    touches_same (InWrite (running (with_index c.args.self.now c.args.index.now)) c.args.block) (g.B.Bank.view c.args.bank.now) (g.B.Bank.view c.plan.new.bank)
+    c.plan.ensures.any_moment.same c.plan.ensures.any_moment.moves
 
 pub returns-clause-touches : goal.returns-clause-touches
 returns-clause-touches g c =
-    let area = InWrite (running c.args.self.now) c.args.block in
+    let area = InWrite (running (with_index c.args.self.now c.args.index.now)) c.args.block in
     let old = g.B.Bank.view c.args.bank.now in
     let mid = g.B.Bank.view c.plan.new.bank in
     let new = g.B.Bank.view c.commit_and_drain.new.bank in
-    let P : LogRec → Type 0 = λ (r : LogRec). Touches (InWrite (running c.args.self.now) r.block) mid new in
+    let P : LogRec → Type 0 = λ (r : LogRec). Touches (InWrite (running (with_index c.args.self.now c.args.index.now)) r.block) mid new in
     touches_then area old mid new (touches_same area old mid c.plan.ensures.any_moment.same c.plan.ensures.any_moment.moves)
     (subst P c.spell-rec.ensures.header c.commit_and_drain.ensures.touches)
 
 pub returns-clause-head : goal.returns-clause-head
 returns-clause-head g c =
-    let here = c.args.self.now in
+    let here = with_index c.args.self.now c.args.index.now in
     subst (λ (r : LogRec). HeadAfter here.g here.head c.commit_and_drain.new.self.head r.time c.commit_and_drain.result) c.spell-rec.ensures.header c.commit_and_drain.ensures.head
 
 pub returns-in_err-plan-clause-index : goal.returns-in_err-plan-clause-index
 returns-in_err-plan-clause-index g c =
-    let here = running c.args.self.now in
+    let here = running (with_index c.args.self.now c.args.index.now) in
     let m = c.in_err-plan.field-0.0.member in
     let is : Err (MemberFault m m) ≡ c.from_residual.result = search rules in
     subst (λ (r : Result ℕ Denied). IndexAfter here here c.args.time c.args.block r) is (inl refl)
 
 pub returns-clause-index : goal.returns-clause-index
 returns-clause-index g c =
-    let here = running c.args.self.now in
-    subst (λ (r : LogRec). IndexAfter here (running c.commit_and_drain.new.self) r.time r.block c.commit_and_drain.result) c.spell-rec.ensures.header c.commit_and_drain.ensures.index
+    let here = running (with_index c.args.self.now c.args.index.now) in
+    subst (λ (r : LogRec). IndexAfter here (running (with_index c.commit_and_drain.new.self c.commit_and_drain.new.index)) r.time r.block c.commit_and_drain.result)
+    c.spell-rec.ensures.header c.commit_and_drain.ensures.index
