@@ -1,5 +1,5 @@
 -- The store of a mounted array, as it goes on.
-use Rattle.std.proofs.Common.{◌≡◌, ◌⊎◌, inl, inr, ⊎_elim, ℕ, ◌+◌, ◌<◌, ◌≤◌, Option, Some, None, true, Result, Ok, Err, refl, subst, ◌∙◌, arith}
+use Rattle.std.proofs.Common.{◌≡◌, ◌⊎◌, inl, inr, ⊎_elim, ℕ, ◌+◌, ◌<◌, ◌≤◌, Option, Some, None, true, Result, Ok, Err, subst, ◌∙◌, arith}
 use Rattle.std.specs.Prelude.{◌≢◌}
 use Rattle.trap_bank.specs.Disks.{Contents, Disks, View}
 use Rattle.trap_model.specs.ArrayStep.{step, or_refused, refusal, accepted}
@@ -15,7 +15,7 @@ use Rattle.trap_script.proofs.GivenLemmas.{AnswersByLines}
 use Rattle.trap_array.specs.Calls.{Mounted, HoldsLike, SameArray}
 use Rattle.trap_array.specs.declared.fault.Denied.{Denied}
 use Rattle.trap_array.specs.declared.fault.Denied.TheVariants.{Refused, LogFault, MemberFault, Damaged, Stopped}
-use Rattle.trap_array.proofs.Turns.{later_same, later_then}
+use Rattle.trap_array.proofs.Turns.{later_then}
 use Rattle.trap_session.specs.Store.{Store, array_store, FaultCause, Served, Answering, CutShort, Struck, Waits, StandsForNone, FaultRose}
 use Rattle.trap_session.specs.declared.outcome.Next.{Next}
 use Rattle.trap_session.specs.declared.outcome.Next.TheVariants.{More, Quit}
@@ -61,7 +61,7 @@ comes_gives (MemberFault first second) comes = comes
 comes_gives (Damaged offset) comes = absurd comes
 comes_gives Stopped comes = comes
 
--- whatever a line's answer is, the disks hold a state behind it
+-- whatever a line's answer is, the disks hold a state after it
 pub served_some : (a : Mounted) (result : Result Next SessionFault) (s : State) (asked : Request) (x y : Contents)
     → Served (array_store a) result s asked x y → (t : State) × HoldsLike a.g a.head t y.disks
 served_some a (Ok More) s asked x y served = (_, served.holds)
@@ -70,9 +70,6 @@ served_some a (Err (Array denied)) s asked x y served = ⊎_elim (λ holds. (_, 
 served_some a (Err WriteFault) s asked x y served = (_, served.holds)
 served_some a (Err ReadFault) s asked x y served = absurd served
 served_some a (Err TooLong) s asked x y served = absurd served
-
-pub goes_nowhere : (a : Mounted) → SameArray a a
-goes_nowhere a = record { g = refl; follows = later_same a.head }
 
 pub goes_then : {a b c : Mounted} → SameArray a b → SameArray b c → SameArray a c
 goes_then {a} {b} {c} p q = record { g = q.g ∙ p.g; follows = later_then a.head b.head c.head p.follows q.follows }

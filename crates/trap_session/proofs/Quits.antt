@@ -21,7 +21,7 @@ use Rattle.trap_session.specs.Serving.{ended_by}
 abbrev pub AllGoOn : ℕ → List (List ℕ) → Type 0
 AllGoOn size lines = All (λ line. goes_on (request_of size line) ≡ true) lines
 
--- None of these whole lines is a `Q`: whatever lines come behind them, all go on if those do.
+-- None of these whole lines is a `Q`: whatever lines come after them, all go on if those do.
 pub record IsUnquit (size : ℕ) (passed : List ℕ) : Type 0 where
   pub all : (rest : List ℕ) → AllGoOn size (lines_of rest) → AllGoOn size (lines_of (passed ++ rest))
 
@@ -50,7 +50,7 @@ last_goes_on size line none some more = subst (AllGoOn size) (sym (lines_of-last
 pub none_goes_on : (size : ℕ) → AllGoOn size (lines_of [])
 none_goes_on size = All-nil (λ line. goes_on (request_of size line) ≡ true)
 
--- The input ends behind these lines, or with a last one that has no line feed.
+-- The input ends after these lines, or with a last one that has no line feed.
 pub ends_unquit : (size : ℕ) (input passed last : List ℕ) (left : Option (List ℕ)) → Consumes (Some input) left passed → IsUnquit size passed
     → drop (length passed) input ≡ last → AllGoOn size (lines_of last) → AllGoOn size (lines_of input)
 ends_unquit size input passed last left gave was here those =

@@ -1,11 +1,12 @@
 -- What a crash leaves while one line is answered, from the calls that it makes.
 use Rattle.std.proofs.Common.{◌≡◌, ◌⊎◌, ◌↔◌, inl, inr, ℕ, ◌+◌, ◌<◌, ◌≤◌, Option, List, ◌++◌, length, take, Some, None, Bool, true, false, ◌||◌, IsTrue, Result, Ok, Err, OnErr, IfOk, IfErr, IsErr, IsErrAnd, refl, sym, ap, subst, ◌∙◌, arith}
+use Rattle.std.specs.Prelude.{◌≢◌, IfSome}
 use Rattle.std.proofs.Math.Seq.{take-append_seam}
 use Rattle.trap_bank.specs.Disks.{Contents, Disks, View, Quiet}
 use Rattle.trap_bank.specs.Calls.{MayLeave, IsLawful, Says}
 use Rattle.trap_bank.specs.Faults.{Rose}
 use Rattle.trap_bank.specs.Steps.{Steps, Moves, Same, Spoke, SpokePart, Always}
-use Rattle.trap_bank.proofs.Moves.{say_steps, said_steps, then_, weaken, nothing_done, always_same, no_moves, read_is_left}
+use Rattle.trap_bank.proofs.Moves.{say_steps, said_steps, then_, weaken, nothing_done, always_same, read_is_left}
 use Rattle.trap_model.specs.Image.{volume}
 use Rattle.trap_model.specs.ArrayStep.{step, or_refused, refusal}
 use Rattle.trap_model.specs.declared.history.State.{State}
@@ -18,11 +19,14 @@ use Rattle.trap_model.specs.declared.request.Reply.{Reply}
 use Rattle.trap_model.specs.declared.request.Reply.TheVariants.{No, Span}
 use Rattle.trap_script.specs.Lines.{goes_on}
 use Rattle.trap_script.specs.Replies.{reply_text}
-use Rattle.trap_array.specs.Areas.{Touches, MayTouch}
+use Rattle.trap_array.specs.Areas.{Touches, InWrite, MayTouch}
 use Rattle.trap_array.specs.Holding.{HoldsBy}
 use Rattle.trap_array.specs.Beside.{StaysFrom}
 use Rattle.trap_array.specs.Instants.{HasBadRecord}
 use Rattle.trap_array.specs.Calls.{Mounted, WriteReplies, ReadReplies, AtReplies, is_fault, MemberFails, StandsFor, HoldsLike, IsReady, SameArray, AtAnyMoment, StandsAfterCall}
+use Rattle.trap_array.specs.Growing.{HeadAfter, IndexAfter}
+use Rattle.trap_array.specs.Owed.{owed, pending_writes, reply_of_write}
+use Rattle.trap_array.specs.Taking.{StagedAfter}
 use Rattle.trap_array.specs.Turning.{early_refusal}
 use Rattle.trap_array.specs.Untouched.{Untouched}
 use Rattle.trap_array.specs.declared.fault.Denied.{Denied}
@@ -31,12 +35,16 @@ use Rattle.trap_array.proofs.Beside.{stays_none, stays_same, stays_then}
 use Rattle.trap_array.proofs.AreaSteps.{touches_same}
 use Rattle.trap_array.proofs.Denials.{untouched_none}
 use Rattle.trap_array.proofs.Sizes.{sizes_still}
+use Rattle.trap_array.proofs.TurnSteps.{goes_still, none_moves}
 use Rattle.trap_array.proofs.Turns.{later_same}
+use Rattle.trap_session.specs.After.{KnowsSame, AfterReply, AfterFault}
+use Rattle.trap_session.specs.Changing.{InLine, InNothing, makes_no_call}
+use Rattle.trap_session.specs.Fitting.{FaultFits, FailsReading, ReadsNoRecord, AsksBlock}
 use Rattle.trap_session.specs.Store.{Store, array_store, FaultCause, Replied, CutShort, Struck, StandsForNone, FaultRose, NamesBad}
 use Rattle.trap_session.specs.Deciding.{decided_of_block, decided_reply, MayReply}
 use Rattle.trap_session.specs.Indexing.{IndexAfterLine}
 use Rattle.trap_session.specs.Denying.{EndsSession}
-use Rattle.trap_session.specs.Answers.{Answers, HasAnswered, StandsOn, AsksBlock, stops_array, is_stopping, UnlessStopped, UnlessFailed, SaidInOneCall, Speaks, Replies, AnswersLine}
+use Rattle.trap_session.specs.Answers.{Answers, HasAnswered, StandsOn, stops_array, is_stopping, UnlessStopped, UnlessFailed, SaidInOneCall, Speaks, Replies, AnswersLine}
 use Rattle.trap_session.specs.declared.outcome.Next.{Next}
 use Rattle.trap_session.specs.declared.outcome.Next.TheVariants.{More, Quit}
 use Rattle.trap_session.specs.declared.outcome.SessionFault.{SessionFault}
@@ -74,26 +82,26 @@ module _ {S : Type 0} (store : Store S) (s : S) (asked : Request) (piece : List 
 abbrev pub HasDone : Mounted → View → Request → Contents → Contents → Type 0
 HasDone a v asked old new = (s : State) → Always v (StandsFor a s) → IsDone (array_store a) s asked old new
 
--- A reply is said behind a request that is done.
-pub reply_behind : (a : Mounted) (v u w : View) (asked : Request) (reply : Reply) (result : Result Next SessionFault)
+-- A reply is said after a request that is done.
+pub reply_after : (a : Mounted) (v u w : View) (asked : Request) (reply : Reply) (result : Result Next SessionFault)
     → (IsTrue v.tells → (s : State) → Always v (StandsFor a s) → (step a.g).reply s asked ≡ reply)
     → Steps v u (Answers a v asked) (HasDone a v asked) → Says (reply_text reply) result u w
     → IfOk result (λ next. next ≡ More) → IfErr result (λ fault. fault ≡ WriteFault)
     → Steps v w (Answers a v asked) (HasAnswered a v result asked)
-reply_behind a v u w asked reply (Ok More) is done call ok err = then_ v u w (Answers a v asked) (HasDone a v asked) (SpokePart (reply_text reply)) (Spoke (reply_text reply))
+reply_after a v u w asked reply (Ok More) is done call ok err = then_ v u w (Answers a v asked) (HasDone a v asked) (SpokePart (reply_text reply)) (Spoke (reply_text reply))
     (Answers a v asked) (HasAnswered a v (Ok More) asked) done (said_steps {T = Next} {E = SessionFault} More u w (reply_text reply) call)
     (λ x y was step. step)
     (λ x y z was done mid spoke s stands. inr (inr (cut_part (array_store a) s asked (reply_text reply) (ap reply_text (sym (is was.told s stands))) x y z (done s stands) spoke)))
     (λ x y z was done mid spoke s stands. said_all (array_store a) s asked (reply_text reply) (ap reply_text (sym (is was.told s stands))) x y z (done s stands) spoke)
-reply_behind a v u w asked reply (Ok Quit) is done call ok err = absurd (cc ok)
-reply_behind a v u w asked reply (Err (Array denied)) is done call ok err = absurd (cc err)
-reply_behind a v u w asked reply (Err ReadFault) is done call ok err = absurd (cc err)
-reply_behind a v u w asked reply (Err WriteFault) is done call ok err = then_ v u w (Answers a v asked) (HasDone a v asked) (SpokePart (reply_text reply)) (SpokePart (reply_text reply))
+reply_after a v u w asked reply (Ok Quit) is done call ok err = absurd (cc ok)
+reply_after a v u w asked reply (Err (Array denied)) is done call ok err = absurd (cc err)
+reply_after a v u w asked reply (Err ReadFault) is done call ok err = absurd (cc err)
+reply_after a v u w asked reply (Err WriteFault) is done call ok err = then_ v u w (Answers a v asked) (HasDone a v asked) (SpokePart (reply_text reply)) (SpokePart (reply_text reply))
     (Answers a v asked) (HasAnswered a v (Err WriteFault) asked) done (say_steps {T = Next} {E = SessionFault} (Err WriteFault) u w (reply_text reply) call)
     (λ x y was step. step)
     (λ x y z was done mid spoke s stands. inr (inr (cut_part (array_store a) s asked (reply_text reply) (ap reply_text (sym (is was.told s stands))) x y z (done s stands) spoke)))
     (λ x y z was done mid spoke s stands. cut_part (array_store a) s asked (reply_text reply) (ap reply_text (sym (is was.told s stands))) x y z (done s stands) spoke)
-reply_behind a v u w asked reply (Err TooLong) is done call ok err = absurd (cc err)
+reply_after a v u w asked reply (Err TooLong) is done call ok err = absurd (cc err)
 
 -- what every crash leaves is the same after a reply
 always_said : {T E : Type 0} (u w : View) (result : Result T E) (piece : List ℕ) (has : Disks → Type 0) → Says piece result u w → Always u has → Always w has
@@ -210,36 +218,87 @@ unless_also (Ok value) also p = also p
 unless_also (Err fault) also p = unless_stopped_also fault also p
 
 -- a possible reply that is said after calls that say nothing
-replied_as : (a : Mounted) (asked : Request) (reply : Reply) (v u w : View) (result : Result Next SessionFault)
-    → (decided_reply a asked ≡ Some reply) ⊎ MayReply a asked reply → u.tells ≡ v.tells → (IsTrue v.tells → u.now.said ≡ v.now.said)
-    → Says (reply_text reply) result u w → IfOk result (λ next. next ≡ More) → IfErr result (λ fault. fault ≡ WriteFault) → Replies a asked result v w
-replied_as a asked reply v u w (Ok More) possible tells quiet call ok err = record {
+replied_as : (a b : Mounted) (asked : Request) (reply : Reply) (v u w : View) (result : Result Next SessionFault)
+    → (decided_reply a asked ≡ Some reply) ⊎ MayReply a asked reply → AfterReply a b asked reply → u.tells ≡ v.tells → (IsTrue v.tells → u.now.said ≡ v.now.said)
+    → Says (reply_text reply) result u w → IfOk result (λ next. next ≡ More) → IfErr result (λ fault. fault ≡ WriteFault) → Replies a b asked result v w
+replied_as a b asked reply v u w (Ok More) possible after tells quiet call ok err = record {
   reply = reply;
   possible = possible;
+  after = after;
   said = λ told. call.said (subst IsTrue (sym tells) told) ∙ ap (λ (l : List ℕ). l ++ reply_text reply) (quiet told);
 }
-replied_as a asked reply v u w (Ok Quit) possible tells quiet call ok err = tt
-replied_as a asked reply v u w (Err (Array denied)) possible tells quiet call ok err = tt
-replied_as a asked reply v u w (Err ReadFault) possible tells quiet call ok err = absurd (cc err)
-replied_as a asked reply v u w (Err WriteFault) possible tells quiet call ok err = record {
+replied_as a b asked reply v u w (Ok Quit) possible after tells quiet call ok err = absurd (cc ok)
+replied_as a b asked reply v u w (Err (Array denied)) possible after tells quiet call ok err = absurd (cc err)
+replied_as a b asked reply v u w (Err ReadFault) possible after tells quiet call ok err = absurd (cc err)
+replied_as a b asked reply v u w (Err WriteFault) possible after tells quiet call ok err = record {
   reply = reply;
   possible = possible;
+  after = after;
   said = λ told. let some = call.part (subst IsTrue (sym tells) told) in
       record { part = some.part; rest = some.rest; whole = some.whole; said = some.said ∙ ap (λ (l : List ℕ). l ++ some.part) (quiet told) };
 }
-replied_as a asked reply v u w (Err TooLong) possible tells quiet call ok err = absurd (cc err)
+replied_as a b asked reply v u w (Err TooLong) possible after tells quiet call ok err = absurd (cc err)
+
+-- a line with a reply makes a call
+calls_said : {P : Type 0} (result : Result Next SessionFault) → IfOk result (λ next. next ≡ More) → IfErr result (λ fault. fault ≡ WriteFault) → makes_no_call result ≡ true → P
+calls_said (Ok More) ok err none = absurd (cc none)
+calls_said (Ok Quit) ok err none = absurd (cc ok)
+calls_said (Err (Array denied)) ok err none = absurd (cc err)
+calls_said (Err ReadFault) ok err none = absurd (cc err)
+calls_said (Err WriteFault) ok err none = absurd (cc none)
+calls_said (Err TooLong) ok err none = absurd (cc err)
+
+-- a line that fails makes none where the array is stopped
+calls_denied : {P : Type 0} (denied : Denied) → (denied ≡ Stopped → P) → makes_no_call (Err (Array denied)) ≡ true → P
+calls_denied (Refused why) still none = absurd (cc none)
+calls_denied LogFault still none = absurd (cc none)
+calls_denied (MemberFault first second) still none = absurd (cc none)
+calls_denied (Damaged offset) still none = absurd (cc none)
+calls_denied Stopped still none = still refl
+
+-- the port may fail in every reply
+fits_port : (a : Mounted) (asked : Request) → goes_on asked ≡ true → FaultFits a asked WriteFault
+fits_port a (Write time block bytes) more = tt
+fits_port a (Read block) more = (tt, tt)
+fits_port a (At seq block) more = tt
+fits_port a (By time block) more = tt
+fits_port a (Keep seq) more = refl
+fits_port a Info more = refl
+fits_port a Q more = absurd (cc more)
+fits_port a Bad more = refl
+
+port_fits : (a : Mounted) (asked : Request) → goes_on asked ≡ true → (result : Result Next SessionFault) → IfErr result (λ fault. fault ≡ WriteFault) → IfErr result (FaultFits a asked)
+port_fits a asked more (Ok next) is = is
+port_fits a asked more (Err fault) is = subst (FaultFits a asked) (sym is) (fits_port a asked more)
+
+-- a call that reads no record again finds none damaged
+pub no_record : (denied : Denied) → ((offset : ℕ) → denied ≡ Damaged offset → ⊥) → ReadsNoRecord (Array denied)
+no_record (Refused why) never = tt
+no_record LogFault never = tt
+no_record (MemberFault first second) never = tt
+no_record (Damaged offset) never = never offset refl
+no_record Stopped never = tt
+
+-- and one that never reads the lost member doesn't fail by it
+pub not_by_lost : (a : Mounted) {T : Type 0} (call : Result T Denied) (denied : Denied) → call ≡ Err denied
+    → ((first second : ℕ) → call ≡ Err (MemberFault first second) → a.head.lost ≢ Some second) → FailsReading a (Array denied)
+not_by_lost a call (Refused why) is used = tt
+not_by_lost a call LogFault is used = tt
+not_by_lost a call (MemberFault first second) is used = used first second is
+not_by_lost a call (Damaged offset) is used = tt
+not_by_lost a call Stopped is used = tt
 
 -- One line whose reply is said: all that is owed of it.
-pub line_replied : (a b : Mounted) (v u w : View) (asked : Request) (reply : Reply) (result : Result Next SessionFault)
+pub line_replied : (a b : Mounted) (v u w : View) (asked : Request) → goes_on asked ≡ true → (reply : Reply) (result : Result Next SessionFault)
     → (IsTrue v.tells → (s : State) → Always v (StandsFor a s) → (step a.g).reply s asked ≡ reply)
     → Steps v u (Answers a v asked) (HasDone a v asked) → StandsOn a b asked v u
-    → (decided_reply a asked ≡ Some reply) ⊎ MayReply a asked reply
-    → ((r : Reply) → decided_reply a asked ≡ Some r → (reply ≡ r) × Untouched v u) → IndexAfterLine asked a.index b.index → Touches (MayTouch a) v u
+    → (decided_reply a asked ≡ Some reply) ⊎ MayReply a asked reply → AfterReply a b asked reply
+    → ((r : Reply) → decided_reply a asked ≡ Some r → (reply ≡ r) × Untouched v u) → IndexAfterLine asked a.index b.index → Touches (MayTouch a) v u → Touches (InLine a asked) v u
     → ((e : ℕ) → u.sizes e ≡ v.sizes e) → StaysFrom (a.g.members + 1) v u → IsReady b u → b.is_stopped ≡ a.is_stopped → SameArray a b → (IsTrue v.tells → u.now.said ≡ v.now.said)
     → Says (reply_text reply) result u w → SaidInOneCall u w → IfOk result (λ next. next ≡ More) → IfErr result (λ fault. fault ≡ WriteFault) → (AsksBlock a.g asked → a.is_stopped ≡ true → ⊥)
     → AnswersLine a b result asked v w
-line_replied a b v u w asked reply result is done stands possible own index touched sizes others ready alike goes_on quiet call once ok err asks = record {
-  steps = reply_behind a v u w asked reply result is done call ok err;
+line_replied a b v u w asked more reply result is done stands possible after own index touched near sizes others ready alike goes_on quiet call once ok err asks = record {
+  steps = reply_after a v u w asked reply result is done call ok err;
   stands = unless_failed result (λ s was. always_said u w result (reply_text reply) (StandsFor b ((step a.g).next s asked)) call (stands s was));
   stopped = alike ∙ or_false a.is_stopped ∙ ap (λ (stops : Bool). a.is_stopped || stops) (sym (not_stopping result err));
   speaks = speaks_reply result v w (said_once v u w done.tells quiet once) ok err;
@@ -248,10 +307,13 @@ line_replied a b v u w asked reply result is done stands possible own index touc
   goes_on = goes_on;
   cause = rose_port a v u w result done.port_faults call.cause err;
   bad = names_port b w result err;
-  replies = replied_as a asked reply v u w result possible done.tells quiet call ok err;
+  asks = port_fits a asked more result err;
+  replies = replied_as a b asked reply v u w result possible after done.tells quiet call ok err;
   own = λ r same. let both = own r same in says_since (reply_text r) result v u w both.1 (subst (λ (t : Reply). Says (reply_text t) result u w) both.0 call);
   index = index;
   changes = says_then (MayTouch a) (reply_text reply) result v u w touched call;
+  touches = says_then (InLine a asked) (reply_text reply) result v u w near call;
+  untouched = calls_said result ok err;
   sizes = λ e. call.sizes e ∙ sizes e;
   others = stays_then (a.g.members + 1) v u w done.tells others (stays_said (a.g.members + 1) u w call.disks);
 }
@@ -366,12 +428,13 @@ stops_as {T} call denied is = ap (λ (r : Result T Denied). is_fault r) is ∙ d
 -- One line in which a disk failed.
 pub line_struck : (a b : Mounted) (v u : View) (asked : Request) (denied : Denied)
     → Steps v u (Answers a v asked) (HasAnswered a v (Err (Array denied)) asked)
-    → ((r : Reply) → decided_reply a asked ≡ Some r → ⊥) → IndexAfterLine asked a.index b.index → Touches (MayTouch a) v u
+    → ((r : Reply) → decided_reply a asked ≡ Some r → ⊥) → IndexAfterLine asked a.index b.index
+    → Touches (MayTouch a) v u → Touches (InLine a asked) v u → (a.is_stopped ≡ true → Untouched v u)
     → b.is_stopped ≡ (a.is_stopped || stops_array (Array denied)) → (IsTrue v.tells → u.now.said ≡ v.now.said)
     → ((e : ℕ) → u.sizes e ≡ v.sizes e) → StaysFrom (a.g.members + 1) v u → IsReady b u → SameArray a b → FaultRose a (Array denied) v u → NamesBad b (Array denied) u
-    → (denied ≡ Stopped) ↔ (AsksBlock a.g asked × (a.is_stopped ≡ true))
+    → FaultFits a asked (Array denied) → AfterFault a b asked denied → (denied ≡ Stopped) ↔ (AsksBlock a.g asked × (a.is_stopped ≡ true))
     → AnswersLine a b (Err (Array denied)) asked v u
-line_struck a b v u asked denied steps own index touched stopped quiet sizes others ready goes risen names exact = record {
+line_struck a b v u asked denied steps own index touched near still stopped quiet sizes others ready goes risen names fits after exact = record {
   steps = steps;
   stands = stands_struck a b v u asked denied steps.tells risen;
   stopped = stopped;
@@ -381,10 +444,13 @@ line_struck a b v u asked denied steps own index touched stopped quiet sizes oth
   goes_on = goes;
   cause = risen;
   bad = names;
-  replies = tt;
+  asks = fits;
+  replies = after;
   own = λ r same. absurd (own r same);
   index = index;
   changes = says_nothing (MayTouch a) v u touched;
+  touches = says_nothing (InLine a asked) v u near;
+  untouched = calls_denied denied (λ same. still (exact.0 same).1);
   sizes = sizes;
   others = others;
 }
@@ -398,30 +464,33 @@ still_going false now is = is
 pub write_replied : (a b : Mounted) (v u w : View) (time block : ℕ) (bytes fresh : List ℕ) → bytes ≡ fresh → (reply : Reply) (result : Result Next SessionFault)
     → (IsTrue v.tells → (s : State) → Always v (StandsFor a s) → (step a.g).reply s (Write time block bytes) ≡ reply)
     → Moves v u (AtAnyMoment a v (λ s. (step a.g).next s (Write time block bytes))) (StandsAfterCall a b v (λ s. (step a.g).next s (Write time block bytes)))
-    → (decided_of_block a block (early_refusal a.head time) ≡ Some reply) ⊎ MayReply a (Write time block bytes) reply
-    → ((r : Reply) → decided_of_block a block (early_refusal a.head time) ≡ Some r → (reply ≡ r) × Untouched v u) → IndexAfterLine (Write time block bytes) a.index b.index → Touches (MayTouch a) v u
+    → (decided_of_block a block (early_refusal a.head time) ≡ Some reply) ⊎ MayReply a (Write time block bytes) reply → AfterReply a b (Write time block bytes) reply
+    → ((r : Reply) → decided_of_block a block (early_refusal a.head time) ≡ Some r → (reply ≡ r) × Untouched v u) → IndexAfterLine (Write time block bytes) a.index b.index
+    → Touches (MayTouch a) v u → Touches (InWrite a block) v u
     → ((e : ℕ) → u.sizes e ≡ v.sizes e) → StaysFrom (a.g.members + 1) v u → IsReady b u → b.is_stopped ≡ a.is_stopped → SameArray a b
     → Says (reply_text reply) result u w → SaidInOneCall u w → IfOk result (λ next. next ≡ More) → IfErr result (λ fault. fault ≡ WriteFault) → (block < volume a.g → a.is_stopped ≡ true → ⊥)
     → AnswersLine a b result (Write time block fresh) v w
-write_replied a b v u w time block bytes fresh same reply result is moves possible own index touched sizes others ready alike goes call once ok err asks =
+write_replied a b v u w time block bytes fresh same reply result is moves possible after own index touched near sizes others ready alike goes call once ok err asks =
     subst (λ l. AnswersLine a b result (Write time block l) v w) same
-    (line_replied a b v u w (Write time block bytes) reply result is (turned_done a v u (Write time block bytes) refl b goes moves)
-    (turned_stands a v u (Write time block bytes) refl b moves) possible own index touched sizes others ready alike goes
+    (line_replied a b v u w (Write time block bytes) refl reply result is (turned_done a v u (Write time block bytes) refl b goes moves)
+    (turned_stands a v u (Write time block bytes) refl b moves) possible after own index touched near sizes others ready alike goes
     (quiet_moves v u (AtAnyMoment a v (λ s. (step a.g).next s (Write time block bytes))) (StandsAfterCall a b v (λ s. (step a.g).next s (Write time block bytes))) moves) call once ok err asks)
 
 -- a write in which a disk failed
 pub write_struck : (a b : Mounted) (v u : View) (time block : ℕ) (bytes fresh : List ℕ) → bytes ≡ fresh → (denied : Denied)
     → Moves v u (AtAnyMoment a v (λ s. (step a.g).next s (Write time block bytes))) (AtAnyMoment a v (λ s. (step a.g).next s (Write time block bytes)))
-    → ((r : Reply) → decided_of_block a block (early_refusal a.head time) ≡ Some r → ⊥) → IndexAfterLine (Write time block bytes) a.index b.index → Touches (MayTouch a) v u
+    → ((r : Reply) → decided_of_block a block (early_refusal a.head time) ≡ Some r → ⊥) → IndexAfterLine (Write time block bytes) a.index b.index
+    → Touches (MayTouch a) v u → Touches (InWrite a block) v u → (a.is_stopped ≡ true → Untouched v u)
     → b.is_stopped ≡ (a.is_stopped || stops_array (Array denied))
     → ((e : ℕ) → u.sizes e ≡ v.sizes e) → StaysFrom (a.g.members + 1) v u → IsReady b u → SameArray a b → FaultRose a (Array denied) v u → ((offset : ℕ) → denied ≡ Damaged offset → ⊥)
+    → AfterFault a b (Write time block bytes) denied
     → (denied ≡ Stopped) ↔ ((block < volume a.g) × (a.is_stopped ≡ true))
     → AnswersLine a b (Err (Array denied)) (Write time block fresh) v u
-write_struck a b v u time block bytes fresh same denied moves own index touched stopped sizes others ready goes risen never exact =
+write_struck a b v u time block bytes fresh same denied moves own index touched near still stopped sizes others ready goes risen never after exact =
     subst (λ l. AnswersLine a b (Err (Array denied)) (Write time block l) v u) same
-    (line_struck a b v u (Write time block bytes) denied (turned_struck a v u (Write time block bytes) refl denied risen moves) own index touched stopped
+    (line_struck a b v u (Write time block bytes) denied (turned_struck a v u (Write time block bytes) refl denied risen moves) own index touched near still stopped
     (quiet_moves v u (AtAnyMoment a v (λ s. (step a.g).next s (Write time block bytes))) (AtAnyMoment a v (λ s. (step a.g).next s (Write time block bytes))) moves) sizes others ready goes risen
-    (names_none b u denied never) exact)
+    (names_none b u denied never) (no_record denied never) after exact)
 
 -- a call that changes nothing of the array but perhaps whether it is stopped
 pub same_goes : (a b : Mounted) (stopped : Bool) → b ≡ record a { is_stopped = stopped } → SameArray a b
@@ -441,18 +510,23 @@ same_index a b asked stopped same = left asked (ap (λ (m : Mounted). m.index) s
     left Q is = is
     left Bad is = is
 
+-- and all that the array knows
+known_same : (a b : Mounted) (stopped : Bool) → b ≡ record a { is_stopped = stopped } → KnowsSame a b
+known_same a b stopped same = same ∙ ap (λ (now : Bool). record a { is_stopped = now }) (sym (ap (λ (m : Mounted). m.is_stopped) same))
+
 -- a request that changes no state, and is replied to
 pub same_replied : (a b : Mounted) (v u w : View) (asked : Request) → goes_on asked ≡ true → ((s : State) → (step a.g).next s asked ≡ s)
     → (stopped : Bool) → b ≡ record a { is_stopped = stopped } → stopped ≡ a.is_stopped → (reply : Reply) (result : Result Next SessionFault)
     → (IsTrue v.tells → (s : State) → Always v (StandsFor a s) → (step a.g).reply s asked ≡ reply)
-    → (decided_reply a asked ≡ Some reply) ⊎ MayReply a asked reply
+    → (decided_reply a asked ≡ Some reply) ⊎ MayReply a asked reply → (KnowsSame a b → AfterReply a b asked reply)
     → ((r : Reply) → decided_reply a asked ≡ Some r → (reply ≡ r) × Untouched v u)
     → Moves v u Same Same → ((e : ℕ) → u.sizes e ≡ v.sizes e) → (IsTrue v.tells → u.now ≡ v.now) → IsReady b u
     → Says (reply_text reply) result u w → SaidInOneCall u w → IfOk result (λ next. next ≡ More) → IfErr result (λ fault. fault ≡ WriteFault) → (AsksBlock a.g asked → a.is_stopped ≡ true → ⊥)
     → AnswersLine a b result asked v w
-same_replied a b v u w asked more still stopped same is_same reply result is possible own moves sizes alike ready call once ok err asks =
-    line_replied a b v u w asked reply result is (same_done a v u asked more moves still) (same_stands a v u asked more moves b stopped same still)
-    possible own (same_index a b asked stopped same) (touches_same (MayTouch a) v u alike moves) sizes (stays_same (a.g.members + 1) v u alike) ready
+same_replied a b v u w asked more still stopped same is_same reply result is possible after own moves sizes alike ready call once ok err asks =
+    line_replied a b v u w asked more reply result is (same_done a v u asked more moves still) (same_stands a v u asked more moves b stopped same still)
+    possible (after (known_same a b stopped same)) own (same_index a b asked stopped same) (touches_same (MayTouch a) v u alike moves) (touches_same (InLine a asked) v u alike moves)
+    sizes (stays_same (a.g.members + 1) v u alike) ready
     (ap (λ (m : Mounted). m.is_stopped) same ∙ is_same) (same_goes a b stopped same)
     (λ told. ap (λ (c : Contents). c.said) (alike told)) call once ok err asks
 
@@ -461,16 +535,14 @@ pub same_failed : (a b : Mounted) (v u : View) (asked : Request) → goes_on ask
     → stopped ≡ (a.is_stopped || stops_array (Array denied))
     → ((r : Reply) → decided_reply a asked ≡ Some r → ⊥)
     → Moves v u Same Same → ((e : ℕ) → u.sizes e ≡ v.sizes e) → (IsTrue v.tells → u.now ≡ v.now) → IsReady b u → FaultRose a (Array denied) v u
-    → ((offset : ℕ) → denied ≡ Damaged offset → IsTrue v.tells → HasBadRecord a.g a.index v.now.disks offset) → (denied ≡ Stopped) ↔ (AsksBlock a.g asked × (a.is_stopped ≡ true))
+    → ((offset : ℕ) → denied ≡ Damaged offset → IsTrue v.tells → HasBadRecord a.g a.index v.now.disks offset) → FaultFits a asked (Array denied) → (KnowsSame a b → AfterFault a b asked denied)
+    → (a.is_stopped ≡ true → Untouched v u) → (denied ≡ Stopped) ↔ (AsksBlock a.g asked × (a.is_stopped ≡ true))
     → AnswersLine a b (Err (Array denied)) asked v u
-same_failed a b v u asked more stopped same denied stops own moves sizes alike ready risen bad exact =
-    line_struck a b v u asked denied (same_struck a v u asked more moves denied risen) own (same_index a b asked stopped same) (touches_same (MayTouch a) v u alike moves)
+same_failed a b v u asked more stopped same denied stops own moves sizes alike ready risen bad fits after still exact =
+    line_struck a b v u asked denied (same_struck a v u asked more moves denied risen) own (same_index a b asked stopped same)
+    (touches_same (MayTouch a) v u alike moves) (touches_same (InLine a asked) v u alike moves) still
     (ap (λ (m : Mounted). m.is_stopped) same ∙ stops) (λ told. ap (λ (c : Contents). c.said) (alike told)) sizes (stays_same (a.g.members + 1) v u alike) ready (same_goes a b stopped same) risen
-    (names_same a b v u stopped same moves.tells alike denied bad) exact
-
--- no call at all
-pub no_call : (v : View) → Moves v v Same Same
-no_call v = no_moves v Same Same (λ x was. refl)
+    (names_same a b v u stopped same moves.tells alike denied bad) fits (after (known_same a b stopped same)) exact
 
 -- The line ends the session.
 pub line_quits : (a : Mounted) (v : View) → IsReady a v → AnswersLine a a (Ok Quit) Q v v
@@ -481,13 +553,16 @@ line_quits a v ready = record {
   speaks = λ told. refl;
   denied = (λ is. cc is, λ both. absurd both.0);
   ready = ready;
-  goes_on = record { g = refl; follows = later_same a.head };
+  goes_on = goes_still a;
   cause = tt;
   bad = tt;
-  replies = tt;
+  asks = tt;
+  replies = refl;
   own = λ r is. absurd (cc is);
   index = refl;
   changes = changes_none (MayTouch a) v;
+  touches = changes_none InNothing v;
+  untouched = λ is. untouched_none v;
   sizes = λ e. refl;
   others = stays_none (a.g.members + 1) v;
 }
@@ -528,7 +603,7 @@ pub bad_replied : (a : Mounted) (v w : View) (result : Result Next SessionFault)
     → Says (reply_text (No NoLine)) result v w → SaidInOneCall v w → IfOk result (λ next. next ≡ More) → IfErr result (λ fault. fault ≡ WriteFault)
     → AnswersLine a a result Bad v w
 bad_replied a v w result ready call once ok err = same_replied a a v v w Bad refl (λ s. refl) a.is_stopped refl refl (No NoLine) result
-    (λ told s stands. refl) (inl refl) (λ r is. (cc is, untouched_none v)) (no_call v) (λ e. refl) (λ told. refl) ready call once ok err (λ asks stopped. asks)
+    (λ told s stands. refl) (inl refl) (λ same. same) (λ r is. (cc is, untouched_none v)) (none_moves v) (λ e. refl) (λ told. refl) ready call once ok err (λ asks stopped. asks)
 
 same_reply : {x y : Reply} → Some x ≡ Some y → x ≡ y
 same_reply is = cc is
@@ -541,13 +616,8 @@ pub info_replied : (a : Mounted) (v w : View) (first last base_time last_time : 
     → AnswersLine a a result Info v w
 info_replied a v w first last base_time last_time result ready span head call once ok err =
     same_replied a a v v w Info refl (λ s. refl) a.is_stopped refl refl (Span first last base_time last_time) result
-    (λ told s stands. span s v.now.disks (stands v.now (read_is_left v told))) (inl (ap Some (sym head))) (λ r is. (head ∙ same_reply is, untouched_none v)) (no_call v) (λ e. refl)
+    (λ told s stands. span s v.now.disks (stands v.now (read_is_left v told))) (inl (ap Some (sym head))) (λ same. same) (λ r is. (head ∙ same_reply is, untouched_none v)) (none_moves v) (λ e. refl)
     (λ told. refl) ready call once ok err (λ asks stopped. asks)
-
--- an array that isn't stopped doesn't say that it is
-pub not_both : (b : Bool) → b ≡ false → b ≡ true → ⊥
-not_both true is other = cc is
-not_both false is other = cc other
 
 -- What ended the session rose, as the array's call says.
 pub risen_of : (a : Mounted) (v u : View) {T : Type 0} (call : Result T Denied)
@@ -577,6 +647,28 @@ line_ended a b v u asked denied result fault handed is answers =
 -- an array that refused wasn't stopped, or no such block is there
 pub refused_not_denied : {T : Type 0} {P Q : Type 0} (call : Result T Denied) (why : Refusal) → call ≡ Err (Refused why) → (call ≡ Err Stopped) ↔ (P × Q) → P → Q → ⊥
 refused_not_denied call why is exact p q = cc (is, exact.1 (p, q))
+
+-- what the array knows after a write that it refused
+pub write_refused_after : (a b : Mounted) (time block : ℕ) (bytes : List ℕ) (call : Result ℕ Denied) (why : Refusal) → call ≡ Err (Refused why)
+    → HeadAfter a.g a.head b.head time call → IndexAfter a b time block call → StagedAfter a b call
+    → IfSome (reply_of_write call) (λ reply. pending_writes b.head ≡ owed a.g (Write time block bytes) reply (pending_writes a.head))
+    → AfterReply a b (Write time block bytes) (No why)
+write_refused_after a b time block bytes call why is head index staged pending = (
+  (
+    subst (λ (r : Result ℕ Denied). HeadAfter a.g a.head b.head time r) is head,
+    subst (λ (r : Result ℕ Denied). IndexAfter a b time block r) is index,
+    staged why is,
+  ),
+  subst (λ (r : Result ℕ Denied). IfSome (reply_of_write r) (λ reply. pending_writes b.head ≡ owed a.g (Write time block bytes) reply (pending_writes a.head))) is pending,
+)
+
+-- and after one that failed
+pub write_failed_after : (a b : Mounted) (time block : ℕ) (bytes : List ℕ) (call : Result ℕ Denied) (denied : Denied) → call ≡ Err denied
+    → HeadAfter a.g a.head b.head time call → IndexAfter a b time block call → AfterFault a b (Write time block bytes) denied
+write_failed_after a b time block bytes call denied is head index = (
+  subst (λ (r : Result ℕ Denied). HeadAfter a.g a.head b.head time r) is head,
+  subst (λ (r : Result ℕ Denied). IndexAfter a b time block r) is index,
+)
 
 -- what the array denied is what is handed on
 pub denied_as : {T : Type 0} {P : Type 0} (call : Result T Denied) (denied : Denied) → call ≡ Err denied → (call ≡ Err Stopped) ↔ P → (denied ≡ Stopped) ↔ P

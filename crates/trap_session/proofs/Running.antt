@@ -32,7 +32,7 @@ use Rattle.trap_session.specs.declared.outcome.Ended.TheVariants as ended
 use Rattle.trap_session.specs.declared.outcome.SessionFault.{SessionFault}
 use Rattle.trap_session.specs.declared.outcome.SessionFault.TheVariants.{Array, ReadFault, WriteFault, TooLong}
 use Rattle.trap_session.proofs.Walking.{Walked, walk_start}
-use Rattle.trap_session.proofs.Replying.{holds_own, holds_on, not_both, unless_failed, unless_also}
+use Rattle.trap_session.proofs.Replying.{holds_own, holds_on, unless_failed, unless_also}
 use Rattle.trap_session.proofs.Quits.{quit_stays}
 use Rattle.trap_session.proofs.Touching.{changes_none, changed_then}
 use Rattle.trap_session.proofs.Indexing.{records_none, records_then, line_records}
@@ -140,20 +140,20 @@ module _ (a : Mounted) (v : View) (from : Stream) where
       }
 
       pub risen : b.is_stopped ≡ false → (fault : SessionFault) → next ≡ Err fault → FaultRose a fault v u
-      risen running fault is = risen_first a b goes v w u steps.faults steps.port_faults none_first (λ stopped. absurd (not_both b.is_stopped running stopped)) fault
+      risen running fault is = risen_first a b goes v w u steps.faults steps.port_faults none_first (λ stopped. absurd (cc (running, stopped))) fault
           (subst (λ r. IfErr r (λ f. FaultRose b f w u)) is answers.cause)
 
-      -- and behind another line
-      pub held_behind : StandsAtEnd a v u
-      held_behind told s stands =
+      -- and after another line
+      pub held_after : StandsAtEnd a v u
+      held_after told s stands =
           let came = asked_first.steps.now u.now (read_is_left u (subst IsTrue (sym asked_first.steps.tells) (told_now told))) in
           served_some a next (turn s) (request_of a.g.block line) came.origin u.now (served_now s stands came.origin u.now came.by)
 
-      -- the array behind it
+      -- the array after it
       module _ (ahead : (s : State) (input : List ℕ) → from.left ≡ Some input → (x y : Contents) → Walked (array_store a) s input passed x y
           → goes_on (request_of a.g.block line) ≡ true → (rest : List Request) × (drop (line_feeds passed) (lines a.g.block input) ≡ request_of a.g.block line ∷ rest)) where
-        stands_behind : StandsOn b c (request_of a.g.block line) w u → IsTrue v.tells → (s : State) → Always v (StandsFor a s) → StandsAfter a c s u from
-        stands_behind on told s stands = record {
+        stands_after : StandsOn b c (request_of a.g.block line) w u → IsTrue v.tells → (s : State) → Always v (StandsFor a s) → StandsAfter a c s u from
+        stands_after on told s stands = record {
           state = (step a.g).next (turn s) (request_of a.g.block line);
           stands = subst (λ (g : Geometry). Always u (StandsFor c ((step g).next (turn s) (request_of a.g.block line)))) goes.g (on (turn s) (turns s stands));
           after = λ input known.
@@ -181,7 +181,7 @@ module _ (a : Mounted) (v : View) (from : Stream) where
                 (true_or_false (goes_on (request_of a.g.block line)))
 
         stands_unless : UnlessFailed next (IsTrue v.tells → (s : State) → Always v (StandsFor a s) → StandsAfter a c s u from)
-        stands_unless = unless_also next stands_behind asked_first.stands
+        stands_unless = unless_also next stands_after asked_first.stands
 
         pub served_fault : (to : Stream) (fault : SessionFault) → HasKept a b v w → next ≡ Err fault → b.is_stopped ≡ false → Took from to → HasServed a c (Err fault) v u from to
         served_fault to fault kept is running took = let after = kept_further kept in record {
@@ -287,7 +287,7 @@ fault_stops a v u from to running (Array (Refused why)) risen = risen
 fault_stops a v u from to running (Array LogFault) risen = risen
 fault_stops a v u from to running (Array (MemberFault first second)) risen = risen
 fault_stops a v u from to running (Array (Damaged offset)) risen = risen
-fault_stops a v u from to running (Array Stopped) risen = not_both a.is_stopped running risen
+fault_stops a v u from to running (Array Stopped) risen = absurd (cc (running, risen))
 fault_stops a v u from to running ReadFault risen = absurd risen
 fault_stops a v u from to running WriteFault risen = risen
 fault_stops a v u from to running TooLong risen = absurd risen

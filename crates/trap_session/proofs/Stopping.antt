@@ -39,7 +39,7 @@ module _ (r0 r : LineReader) (s0 s : Stream) (none0 : pending r0 ≡ []) (input 
       next_passed input passed (line ++ 10 ∷ []) (to_come r s) (to_come r' s') consumed next.bytes
       ∙ append_assoc line (10 ∷ []) (drop (length (line ++ 10 ∷ [])) (drop (length passed) input))
 
-  -- and behind it some more
+  -- and after it some more
   pub line_at : (r' : LineReader) (s' : Stream) (line : List ℕ) → Passes (line ++ 10 ∷ []) r r' s s'
       → (rest : List ℕ) × (drop (length passed) input ≡ line ++ 10 ∷ rest)
   line_at r' s' line next = (drop (length (line ++ 10 ∷ [])) (drop (length passed) input), line_here r' s' line next)
@@ -52,13 +52,12 @@ all_passed : (r : LineReader) → pending r ≡ [] → r.end ≤ length r.chunk.
 all_passed r none inside =
     omega (arith, inside, ap (λ (l : List ℕ). length l) none, length-take (r.end - r.at) (drop r.at r.chunk.items), length-drop r.at r.chunk.items)
 
--- No line was found: the lines that were taken whole were answered.
-pub stops_reading : {S : Type 0} (store : Store S) (st : S) (input passed front : List ℕ) (old now : Contents)
-    (r0 r r' : LineReader) (s0 s s' : Stream) → Walked store st input passed old now
+-- No line was found: as many lines were taken whole as were passed over.
+pub feeds_taken : (input passed front : List ℕ) (r0 r r' : LineReader) (s0 s s' : Stream)
     → pending r0 ≡ [] → taken r0 ≡ 0 → s0.left ≡ Some input
     → Passes passed r0 r s0 s → Passes front r r' s s' → HasNoFeed front → pending r' ≡ [] → r'.end ≤ length r'.chunk.items
-    → StopsReading store st input old now s0 s'
-stops_reading store st input passed front old now r0 r r' s0 s s' walked none0 untaken left before next none none' inside =
+    → line_feeds (bytes_taken input s0 s') ≡ line_feeds passed
+feeds_taken input passed front r0 r r' s0 s s' none0 untaken left before next none none' inside =
     let both = passes_trans before next in
     let given = both.given in
     let used = both.used in
@@ -68,7 +67,16 @@ stops_reading store st input passed front old now r0 r r' s0 s s' walked none0 u
     let bytes : bytes_taken input s0 s' ≡ passed ++ front =
     ap (λ n. take n input) count ∙ ap (take (length (passed ++ front))) whole.1
     ∙ take-append_seam (passed ++ front) (drop (length (passed ++ front)) input) in
-    let feeds : line_feeds (bytes_taken input s0 s') ≡ line_feeds passed = ap line_feeds bytes ∙ line_feeds-front passed front none in
+    ap line_feeds bytes ∙ line_feeds-front passed front none
+
+-- those lines were answered
+pub stops_reading : {S : Type 0} (store : Store S) (st : S) (input passed front : List ℕ) (old now : Contents)
+    (r0 r r' : LineReader) (s0 s s' : Stream) → Walked store st input passed old now
+    → pending r0 ≡ [] → taken r0 ≡ 0 → s0.left ≡ Some input
+    → Passes passed r0 r s0 s → Passes front r r' s s' → HasNoFeed front → pending r' ≡ [] → r'.end ≤ length r'.chunk.items
+    → StopsReading store st input old now s0 s'
+stops_reading store st input passed front old now r0 r r' s0 s s' walked none0 untaken left before next none none' inside =
+    let feeds = feeds_taken input passed front r0 r r' s0 s s' none0 untaken left before next none none' inside in
     subst (λ j. StopsAfter store st input j old now) (sym feeds) walked.answered
 
 -- The answer to one line.

@@ -8,7 +8,7 @@ use Rattle.trap_model.specs.declared.request.Request.{Request}
 use Rattle.trap_script.specs.Lines.{lines, line_feeds, request_of, goes_on, HasNoFeed}
 use Rattle.trap_script.specs.Replies.{reply_text}
 use Rattle.trap_script.specs.Walk.{state_after, reply_texts, first_texts, all_texts}
-use Rattle.trap_script.proofs.WalkLemmas.{state_after-next, first_texts-next, state_after-all, first_texts-all, texts_behind}
+use Rattle.trap_script.proofs.WalkLemmas.{state_after-next, first_texts-next, state_after-all, first_texts-all, texts_after}
 use Rattle.trap_script.proofs.InputLemmas.{lines-next, lines-last, lines_go_on, line_feeds-line, drop-line}
 use Rattle.trap_script.proofs.GivenLemmas.{AnswersByLines, given_or_next}
 use Rattle.trap_script.proofs.Answering.{answered_part}
@@ -128,7 +128,7 @@ module _ {S : Type 0} (store : Store S) (s : S) (input passed : List ℕ) (old m
       let front = first_texts m s requests j in
       let more = all_texts m (m.next now_at x) rest in
       let behind : all_texts m s requests ≡ front ++ (text ++ more) =
-      texts_behind m s requests j ∙ ap (λ (all : List Request). front ++ all_texts m now_at all) next in
+      texts_after m s requests j ∙ ap (λ (all : List Request). front ++ all_texts m now_at all) next in
       let next_state = state_after-next m s requests j x rest next in
       let holds : store.holds new.disks (state_after m s requests (j + 1)) = subst (store.holds new.disks) (sym next_state) step.holds in
       record {

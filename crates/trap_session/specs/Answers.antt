@@ -1,23 +1,23 @@
 -- What a line does to a mounted array: the state that it stands for is the one after the request,
 -- and the reply is said.
-use Rattle.std.specs.Prelude.{◌≡◌, ◌↔◌, ℕ, ◌+◌, ◌-◌, ◌^◌, ◌<◌, max, min, true, false, Bool, ◌||◌, ◌++◌, Some, IsTrue, Result, Ok, Err, IfErr}
+use Rattle.std.specs.Prelude.{◌≡◌, ◌↔◌, ℕ, ◌+◌, ◌-◌, ◌^◌, max, min, true, false, Bool, ◌||◌, ◌++◌, Some, IsTrue, Result, Ok, Err, IfErr}
 use Rattle.trap_bank.specs.Disks.{Contents, View}
 use Rattle.trap_bank.specs.Calls.{Says, SaysPart}
 use Rattle.trap_bank.specs.Steps.{Steps, Always}
 use Rattle.trap_model.specs.ArrayStep.{step}
 use Rattle.trap_model.specs.declared.history.State.{State}
-use Rattle.trap_model.specs.Image.{volume}
-use Rattle.trap_model.specs.declared.numbers.Geometry.{Geometry}
 use Rattle.trap_model.specs.declared.request.Reply.{Reply}
 use Rattle.trap_model.specs.declared.request.Request.{Request}
-use Rattle.trap_model.specs.declared.request.Request.TheVariants.{Write, Read, At, By, Info, Keep, Bad, Quit as Q}
 use Rattle.trap_script.specs.Replies.{reply_text}
 use Rattle.trap_array.specs.Areas.{MayTouch}
 use Rattle.trap_array.specs.Beside.{StaysFrom}
 use Rattle.trap_array.specs.Calls.{Mounted, IsReady, SameArray, StandsFor}
+use Rattle.trap_array.specs.Untouched.{Untouched}
 use Rattle.trap_array.specs.declared.fault.Denied.TheVariants.{Refused, LogFault, MemberFault, Damaged, Stopped}
-use Rattle.trap_session.specs.Changing.{ChangesOnly}
+use Rattle.trap_session.specs.After.{AfterFault}
+use Rattle.trap_session.specs.Changing.{ChangesOnly, InLine, makes_no_call}
 use Rattle.trap_session.specs.Deciding.{decided_reply, RepliesTo}
+use Rattle.trap_session.specs.Fitting.{AsksBlock, FaultFits}
 use Rattle.trap_session.specs.Indexing.{IndexAfterLine}
 use Rattle.trap_session.specs.Store.{array_store, Served, Answering, FaultRose, NamesBad}
 use Rattle.trap_session.specs.declared.outcome.Next.{Next}
@@ -98,33 +98,24 @@ Speaks (Err ReadFault) old new = SaidNothing old new
 Speaks (Err WriteFault) old new = SaidInOneCall old new
 Speaks (Err TooLong) old new = SaidNothing old new
 
--- whatever the disks hold, a possible reply was said: whole, or in part where the port failed
-abbrev pub Replies : Mounted → Request → Result Next SessionFault → View → View → Type 0
-Replies a asked (Ok More) old new =
-    RepliesTo a asked (λ text. IsTrue old.tells → new.now.said ≡ old.now.said ++ text)
-Replies a asked (Ok Quit) old new = Unit {0}
-Replies a asked (Err (Array denied)) old new = Unit {0}
-Replies a asked (Err ReadFault) old new = ⊥
-Replies a asked (Err WriteFault) old new =
-    RepliesTo a asked (λ text. IsTrue old.tells → SaysPart text old.now new.now)
-Replies a asked (Err TooLong) old new = ⊥
-
--- the request is one of a block that the array has
-abbrev pub AsksBlock : Geometry → Request → Type 0
-AsksBlock g (Write time block bytes) = block < volume g
-AsksBlock g (Read block) = block < volume g
-AsksBlock g (At seq block) = block < volume g
-AsksBlock g (By time block) = block < volume g
-AsksBlock g (Keep seq) = ⊥
-AsksBlock g Info = ⊥
-AsksBlock g Q = ⊥
-AsksBlock g Bad = ⊥
+-- Whatever the disks hold, a possible reply was said: whole, or in part where the port failed. What
+-- the array knows after the line is what follows from that reply, or from its fault.
+abbrev pub Replies : Mounted → Mounted → Request → Result Next SessionFault → View → View → Type 0
+Replies a b asked (Ok More) old new =
+    RepliesTo a b asked (λ text. IsTrue old.tells → new.now.said ≡ old.now.said ++ text)
+Replies a b asked (Ok Quit) old new = b ≡ a
+Replies a b asked (Err (Array denied)) old new = AfterFault a b asked denied
+Replies a b asked (Err ReadFault) old new = ⊥
+Replies a b asked (Err WriteFault) old new =
+    RepliesTo a b asked (λ text. IsTrue old.tells → SaysPart text old.now new.now)
+Replies a b asked (Err TooLong) old new = ⊥
 
 -- One line and its reply, over the array before and after it. A reply comes when the request is
 -- committed, in one call; after the fault of a disk the array is stopped, and the disks may hold
 -- either state. A stopped array answers all but requests of its blocks. What the array's own
 -- numbers decide is replied whatever the disks hold, and whatever they hold, no byte changes but
--- those that calls of this array may touch, at the end and at any moment.
+-- those that a write of the line's block may touch, at the end and at any moment. A `Q`, and a line
+-- that a stopped array denies, make no call of the bank.
 pub record AnswersLine (a b : Mounted) (result : Result Next SessionFault) (asked : Request)
     (old new : View) : Type 0 where
   pub steps : Steps old new (Answers a old asked) (HasAnswered a old result asked)
@@ -136,10 +127,13 @@ pub record AnswersLine (a b : Mounted) (result : Result Next SessionFault) (aske
   pub goes_on : SameArray a b
   pub cause : IfErr result (λ fault. FaultRose a fault old new)
   pub bad : IfErr result (λ fault. NamesBad b fault new)
-  pub replies : Replies a asked result old new
+  pub asks : IfErr result (FaultFits a asked)
+  pub replies : Replies a b asked result old new
   pub own : (reply : Reply) → decided_reply a asked ≡ Some reply
       → Says (reply_text reply) result old new
   pub index : IndexAfterLine asked a.index b.index
   pub changes : ChangesOnly (MayTouch a) old new
+  pub touches : ChangesOnly (InLine a asked) old new
+  pub untouched : makes_no_call result ≡ true → Untouched old new
   pub sizes : (e : ℕ) → new.sizes e ≡ old.sizes e
   pub others : StaysFrom (a.g.members + 1) old new

@@ -12,6 +12,7 @@ use Rattle.trap_script.specs.Replies.{reply_text}
 use Rattle.trap_array.specs.Calls.{Mounted}
 use Rattle.trap_array.specs.Instants.{number_refused, time_refused}
 use Rattle.trap_array.specs.Turning.{IsFull, early_refusal}
+use Rattle.trap_session.specs.After.{AfterReply}
 
 -- the reply of a refusal, where there is one
 abbrev pub refused_as : Option Refusal → Option Reply
@@ -51,8 +52,10 @@ MayReply a Bad reply = ⊥
 MayReply a (Keep seq) reply = ⊥
 MayReply a Quit reply = ⊥
 
--- this reply to the request, which is decided or may be given, was said so
-pub record RepliesTo (a : Mounted) (asked : Request) (Said : List ℕ → Type 0) : Type 0 where
+-- this reply to the request, which is decided or may be given, was said so, and what the array
+-- knows now is what follows from it
+pub record RepliesTo (a b : Mounted) (asked : Request) (Said : List ℕ → Type 0) : Type 0 where
   pub reply : Reply
   pub possible : (decided_reply a asked ≡ Some reply) ⊎ MayReply a asked reply
+  pub after : AfterReply a b asked reply
   pub said : Said (reply_text reply)

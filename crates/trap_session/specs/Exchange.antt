@@ -1,17 +1,18 @@
 -- A session as its lines, one after another.
-use Rattle.std.specs.Prelude.{◌≡◌, ℕ, List, [], ◌∷◌, ◌++◌, Some, Result, Ok, Err}
+use Rattle.std.specs.Prelude.{◌≡◌, ℕ, List, [], ◌∷◌, ◌++◌, length, Some, Result, Ok, Err}
 use Rattle.trap_bank.specs.Disks.{View}
 use Rattle.trap_bank.specs.Stream.{Stream}
 use Rattle.trap_model.specs.declared.request.Request.{Request}
 use Rattle.trap_model.specs.declared.request.Request.TheVariants.{Quit as Q}
-use Rattle.trap_script.specs.Lines.{lines}
+use Rattle.trap_script.specs.Lines.{lines, line_feeds}
 use Rattle.trap_array.specs.Calls.{Mounted}
 use Rattle.trap_session.specs.Answers.{AnswersLine}
+use Rattle.trap_session.specs.Serving.{bytes_taken}
 use Rattle.trap_session.specs.declared.outcome.Ended.{Ended}
 use Rattle.trap_session.specs.declared.outcome.Ended.TheVariants as ended
 use Rattle.trap_session.specs.declared.outcome.Next.TheVariants.{More, Quit}
 use Rattle.trap_session.specs.declared.outcome.SessionFault.{SessionFault}
-use Rattle.trap_session.specs.declared.outcome.SessionFault.TheVariants.{ReadFault, TooLong}
+use Rattle.trap_session.specs.declared.outcome.SessionFault.TheVariants.{Array, ReadFault, WriteFault, TooLong}
 
 -- A session over an array and a bank answers these requests, one line after another, and ends so.
 -- No call of the bank comes between two lines, nor before the first or after the last.
@@ -45,9 +46,23 @@ AreLinesOf size from (Err fault) asked =
     (input : List ℕ) → from.left ≡ Some input
     → (rest : List Request) × (lines size input ≡ asked ++ rest)
 
--- a session of these lines
-pub record IsSession {B : Type 0} (view : B → View) (a b : Mounted)
-    (result : Result Ended SessionFault) (first last : B) (from : Stream) : Type 0 where
+-- where the input is known, these are as many requests as lines were taken whole
+abbrev pub AreTaken : Stream → Stream → List Request → Type 0
+AreTaken from to asked = (input : List ℕ) → from.left ≡ Some input
+    → length asked ≡ line_feeds (bytes_taken input from to)
+
+-- where the source failed, or gave too much, every line that was taken whole was answered
+abbrev pub ReadsLines : Result Ended SessionFault → Stream → Stream → List Request → Type 0
+ReadsLines (Ok value) from to asked = Unit {0}
+ReadsLines (Err (Array denied)) from to asked = Unit {0}
+ReadsLines (Err ReadFault) from to asked = AreTaken from to asked
+ReadsLines (Err WriteFault) from to asked = Unit {0}
+ReadsLines (Err TooLong) from to asked = AreTaken from to asked
+
+-- a session of these lines, which it read from the source
+pub record IsSessionOver {B : Type 0} (view : B → View) (a b : Mounted)
+    (result : Result Ended SessionFault) (first last : B) (from to : Stream) : Type 0 where
   pub asked : List Request
   pub exchange : Exchange view a first asked result b last
   pub lines : AreLinesOf a.g.block from result asked
+  pub read : ReadsLines result from to asked

@@ -1,7 +1,9 @@
 pub mod Store
+pub mod Fitting
 pub mod Forms
 pub mod Denying
 pub mod Changing
+pub mod After
 pub mod Deciding
 pub mod Indexing
 pub mod Answers

@@ -49,7 +49,7 @@ impl Buffers {
         requires ready { IsReady array.old (B.view bank.old) }
         ensures answers { AnswersLine array.old array.new result
             (request.Write time block self.old.fresh.items) (B.view bank.old) (B.view bank.new) }
-        ensures more { result ≡ Ok Next.Quit → ⊥ }
+        ensures no_quit { result ≡ Ok Next.Quit → ⊥ }
         ensures same { self.new.g ≡ self.old.g }
     {
         // The write is committed before its reply is said.
@@ -73,7 +73,7 @@ impl Buffers {
         requires ready { IsReady array.old (B.view bank.old) }
         ensures answers { AnswersLine array.old array.new result (request.Read block)
             (B.view bank.old) (B.view bank.new) }
-        ensures more { result ≡ Ok Next.Quit → ⊥ }
+        ensures no_quit { result ≡ Ok Next.Quit → ⊥ }
         ensures same { self.new.g ≡ self.old.g }
     {
         match array.read(bank, block, self.fresh.as_mut_slice()) {
@@ -100,7 +100,7 @@ impl Buffers {
         requires ready { IsReady array.old (B.view bank.old) }
         ensures answers { AnswersLine array.old array.new result (request.At seq block)
             (B.view bank.old) (B.view bank.new) }
-        ensures more { result ≡ Ok Next.Quit → ⊥ }
+        ensures no_quit { result ≡ Ok Next.Quit → ⊥ }
         ensures same { self.new.g ≡ self.old.g }
     {
         match array.at_seq(bank, block, seq, self.fresh.as_mut_slice()) {
@@ -127,7 +127,7 @@ impl Buffers {
         requires ready { IsReady array.old (B.view bank.old) }
         ensures answers { AnswersLine array.old array.new result (request.By time block)
             (B.view bank.old) (B.view bank.new) }
-        ensures more { result ≡ Ok Next.Quit → ⊥ }
+        ensures no_quit { result ≡ Ok Next.Quit → ⊥ }
         ensures same { self.new.g ≡ self.old.g }
     {
         match array.at_time(bank, block, time, self.fresh.as_mut_slice()) {
@@ -148,7 +148,7 @@ impl Buffers {
         requires ready { IsReady array.now (B.view bank.old) }
         ensures answers { AnswersLine array.now array.now result request.Info
             (B.view bank.old) (B.view bank.new) }
-        ensures more { result ≡ Ok Next.Quit → ⊥ }
+        ensures no_quit { result ≡ Ok Next.Quit → ⊥ }
         ensures same { self.new.g ≡ self.old.g }
     {
         let retained = array.span();

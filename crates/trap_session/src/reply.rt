@@ -22,7 +22,7 @@ pub fn say_answer<B: Bank>(
     ensures says { Says (reply_text (reply_from answer.now)) result
         (B.view bank.old) (B.view bank.new) }
     ensures once { SaidInOneCall (B.view bank.old) (B.view bank.new) }
-    ensures more { IfOk result (λ next. next ≡ Next.More) }
+    ensures no_quit { IfOk result (λ next. next ≡ Next.More) }
     ensures port { IfErr result (λ fault. fault ≡ SessionFault.WriteFault) }
 {
     let len = write_answer(answer, out);

@@ -6,7 +6,7 @@ ghost use Rattle.trap_lines.specs.Reader.{pending, taken, room};
 ghost use Rattle.trap_array.specs.Calls.{IsReady};
 ghost use Rattle.trap_session.specs.Store.{NamesBad};
 ghost use Rattle.trap_session.specs.Leaving.{HasServed};
-ghost use Rattle.trap_session.specs.Exchange.{IsSession};
+ghost use Rattle.trap_session.specs.Exchange.{IsSessionOver};
 ghost use Rattle.trap_session.specs.Serving.{Serves, HasStopped, StopsBy};
 ghost use Rattle.trap_session.specs.Serving.{HadNoQuit, StandsAtEnd, ended_by};
 
@@ -52,8 +52,8 @@ pub fn serve<B: Bank, S: Source>(
     ensures held { StandsAtEnd array.old (B.view bank.old) (B.view bank.new) }
     ensures leaves { HasServed array.old array.new result (B.view bank.old) (B.view bank.new)
         (S.stream source.old) (S.stream source.new) }
-    ensures session { IsSession B.view array.old array.new result bank.old bank.new
-        (S.stream source.old) }
+    ensures exchange { IsSessionOver B.view array.old array.new result bank.old bank.new
+        (S.stream source.old) (S.stream source.new) }
 {
     'lines: loop {
         match reader.next(source) {

@@ -7,7 +7,7 @@ ghost use Rattle.trap_array.specs.Calls.{IsReady};
 ghost use Rattle.trap_session.specs.Answers.{AnswersLine};
 ghost use Rattle.trap_session.specs.Store.{NamesBad};
 ghost use Rattle.trap_session.specs.Leaving.{HasServed};
-ghost use Rattle.trap_session.specs.Exchange.{IsSession};
+ghost use Rattle.trap_session.specs.Exchange.{IsSessionOver};
 ghost use Rattle.trap_session.specs.Serving.{Serves, HasStopped, StopsBy, HadNoQuit, StandsAtEnd};
 
 use crate::buffers::Buffers;
@@ -95,8 +95,8 @@ impl Session {
         ensures held { StandsAtEnd array.old (B.view bank.old) (B.view bank.new) }
         ensures leaves { HasServed array.old array.new result (B.view bank.old) (B.view bank.new)
             (S.stream source.old) (S.stream source.new) }
-        ensures session { IsSession B.view array.old array.new result bank.old bank.new
-            (S.stream source.old) }
+        ensures exchange { IsSessionOver B.view array.old array.new result bank.old bank.new
+            (S.stream source.old) (S.stream source.new) }
     {
         let mut buffers = self.buffers;
         let mut reader = self.reader;

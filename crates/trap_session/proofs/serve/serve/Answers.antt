@@ -13,16 +13,16 @@ use Rattle.trap_model.specs.declared.numbers.Geometry.{Geometry}
 use Rattle.trap_script.specs.Lines.{lines, request_of, goes_on}
 use Rattle.trap_session.specs.Store.{array_store, NamesBad}
 use Rattle.trap_session.specs.Answers.{is_stopping}
-use Rattle.trap_session.specs.Exchange.{IsSession}
+use Rattle.trap_session.specs.Exchange.{IsSessionOver}
 use Rattle.trap_session.specs.Serving.{Serves, HasStopped, StopsBy}
 use Rattle.trap_session.specs.Leaving.{HasServed}
-use Rattle.trap_session.proofs.Arrays.{goes_nowhere}
+use Rattle.trap_array.proofs.TurnSteps.{goes_still}
 use Rattle.trap_session.proofs.Exchanging.{gone_nowhere, gone_on, session_ends, session_fails, session_too_long, session_quits, session_line_fails, session_last, session_last_fails}
 use Rattle.trap_session.proofs.Walking.{next_line, next_last}
-use Rattle.trap_session.proofs.Stopping.{line_at, last_line, stops_reading, stops_end, consumed, one_more_line, took_some, took_quit, took_last_quit, none_left, ended_last}
+use Rattle.trap_session.proofs.Stopping.{line_at, last_line, feeds_taken, stops_reading, stops_end, consumed, one_more_line, took_some, took_quit, took_last_quit, none_left, ended_last}
 use Rattle.trap_session.proofs.Replying.{err_is}
 use Rattle.trap_session.proofs.Quits.{unquit_start, unquit_on, last_goes_on, none_goes_on, ends_unquit, more_goes, input_goes}
-use Rattle.trap_session.proofs.Running.{run_begins, run_ends, held_so_far, held_behind, line_more, line_turns, line_quit, line_fault, last_done, last_fault, risen, fault_stops, served_so_far, served_fault, served_ok, goes_further, kept_none, kept_further}
+use Rattle.trap_session.proofs.Running.{run_begins, run_ends, held_so_far, held_after, line_more, line_turns, line_quit, line_fault, last_done, last_fault, risen, fault_stops, served_so_far, served_fault, served_ok, goes_further, kept_none, kept_further}
 use Rattle.trap_session.proofs.serve.serve.Goals as goal
 
 pub lines-init : goal.lines-init
@@ -35,7 +35,7 @@ lines-init g c =
       inl refl,
       λ some. absurd (omega (arith, some, c.requires.untaken)),
       kept_none array (view c.args.bank.now),
-      goes_nowhere array,
+      goes_still array,
       c.requires.running,
       c.requires.ready,
       refl,
@@ -69,7 +69,8 @@ returns-in-Err-Source g c =
       held = held_so_far array old from c.lines.array mid inv.0 inv.10.0 inv.5 inv.10.1 inv.10.2;
       leaves = served_so_far array old from c.lines.array mid inv.0 inv.10.0 inv.5 inv.10.1 inv.10.2 (Err ReadFault) to inv.4 inv.6 inv.7 refl
           (took_some r0 r' from to (inv.0 ++ none.0) c.requires.none c.requires.untaken (omega (arith, r'.within, r'.chunk.ok.0)) (passes_trans inv.1 none.2)) (λ is. absurd (cc is));
-      session = session_fails view array c.lines.array c.args.bank.now c.lines.bank from inv.0 inv.11;
+      exchange = session_fails view array c.lines.array c.args.bank.now c.lines.bank from to inv.0 inv.11
+          (λ input left. feeds_taken input inv.0 none.0 r0 r r' from at to c.requires.none c.requires.untaken left inv.1 none.2 none.1 none.3.0 (omega (arith, r'.within, r'.chunk.ok.0)));
     }
 
 pub returns-in-Err-TooLong : goal.returns-in-Err-TooLong
@@ -97,7 +98,8 @@ returns-in-Err-TooLong g c =
       held = held_so_far array old from c.lines.array mid inv.0 inv.10.0 inv.5 inv.10.1 inv.10.2;
       leaves = served_so_far array old from c.lines.array mid inv.0 inv.10.0 inv.5 inv.10.1 inv.10.2 (Err TooLong) to inv.4 inv.6 inv.7 refl
           (took_some r0 r' from to (inv.0 ++ none.0) c.requires.none c.requires.untaken (omega (arith, r'.within, r'.chunk.ok.0)) (passes_trans inv.1 none.2)) (λ is. absurd (cc is));
-      session = session_too_long view array c.lines.array c.args.bank.now c.lines.bank from inv.0 inv.11;
+      exchange = session_too_long view array c.lines.array c.args.bank.now c.lines.bank from to inv.0 inv.11
+          (λ input left. feeds_taken input inv.0 none.0 r0 r r' from at to c.requires.none c.requires.untaken left inv.1 none.2 none.1 none.3.0 (omega (arith, r'.within, r'.chunk.ok.0)));
     }
 
 pub returns-in-Ok-End : goal.returns-in-Ok-End
@@ -126,7 +128,7 @@ returns-in-Ok-End g c =
       held = held_so_far array old from c.lines.array mid inv.0 inv.10.0 inv.5 inv.10.1 inv.10.2;
       leaves = served_so_far array old from c.lines.array mid inv.0 inv.10.0 inv.5 inv.10.1 inv.10.2 (Ok ended.Input) to inv.4 inv.6 inv.7 refl
           (took_some r0 r' from to (inv.0 ++ []) c.requires.none c.requires.untaken (omega (arith, r'.within, r'.chunk.ok.0)) (passes_trans inv.1 end.0)) (λ is. none_left r' to end.1.0);
-      session = session_ends view array c.lines.array c.args.bank.now c.lines.bank from inv.0 inv.11 here;
+      exchange = session_ends view array c.lines.array c.args.bank.now c.lines.bank from to inv.0 inv.11 here;
     }
 
 pub returns-in_err-next-in-Ok-Last : goal.returns-in_err-next-in-Ok-Last
@@ -164,15 +166,15 @@ returns-in_err-next-in-Ok-Last g c =
       bad = subst (λ (r : Result Ended SessionFault). IfErr r (λ f. NamesBad after f new)) is
           (subst (λ (r : Result Next SessionFault). IfErr r (λ f. NamesBad after f new)) was answers.bad);
       no_quit = λ quit. absurd (cc (is, quit));
-      held = held_behind array old from c.lines.array mid inv.0 inv.10.0 inv.5 inv.10.1 inv.10.2
+      held = held_after array old from c.lines.array mid inv.0 inv.10.0 inv.5 inv.10.1 inv.10.2
           after new found.0 found.1.no_feed call.result answers;
       leaves = subst (λ (r : Result Ended SessionFault). HasServed array after r old new from to) is
           (served_fault array old from c.lines.array mid inv.0 inv.10.0 inv.5 inv.10.1 inv.10.2
           after new found.0 found.1.no_feed call.result answers
           (λ s input left x y walked more. ([], next_last (array_store array) s input inv.0 x y walked found.0 (here input left) found.1.no_feed some more))
           to fault inv.4 was inv.6 (took_some r0 r' from to (inv.0 ++ found.0) c.requires.none c.requires.untaken (omega (arith, r'.within, r'.chunk.ok.0)) (passes_trans inv.1 found.2)));
-      session = subst (λ (r : Result Ended SessionFault). IsSession view array after r c.args.bank.now call.new.bank from) is
-          (session_last_fails view array c.lines.array c.args.bank.now c.lines.bank from inv.0 inv.11 after call.new.bank found.0 found.1.no_feed call.result inv.5.g answers exact
+      exchange = subst (λ (r : Result Ended SessionFault). IsSessionOver view array after r c.args.bank.now call.new.bank from to) is
+          (session_last_fails view array c.lines.array c.args.bank.now c.lines.bank from to inv.0 inv.11 after call.new.bank found.0 found.1.no_feed call.result inv.5.g answers exact
           here some fault was);
     }
 
@@ -210,7 +212,7 @@ returns-in_err-answer_found-in-Ok-Line g c =
       bad = subst (λ (r : Result Ended SessionFault). IfErr r (λ f. NamesBad after f new)) is
           (subst (λ (r : Result Next SessionFault). IfErr r (λ f. NamesBad after f new)) was answers.bad);
       no_quit = λ quit. absurd (cc (is, quit));
-      held = held_behind array old from c.lines.array mid inv.0 inv.10.0 inv.5 inv.10.1 inv.10.2
+      held = held_after array old from c.lines.array mid inv.0 inv.10.0 inv.5 inv.10.1 inv.10.2
           after new found.0 found.1.no_feed call.result answers;
       leaves = subst (λ (r : Result Ended SessionFault). HasServed array after r old new from to) is
           (served_fault array old from c.lines.array mid inv.0 inv.10.0 inv.5 inv.10.1 inv.10.2
@@ -218,8 +220,8 @@ returns-in_err-answer_found-in-Ok-Line g c =
           (λ s input left x y walked more. let next = here input left in
           (lines array.g.block next.0, next_line (array_store array) s input inv.0 x y walked found.0 next.0 next.1 found.1.no_feed more))
           to fault inv.4 was inv.6 (took_some r0 r' from to (inv.0 ++ (found.0 ++ 10 ∷ [])) c.requires.none c.requires.untaken (omega (arith, r'.within, r'.chunk.ok.0)) (passes_trans inv.1 found.2)));
-      session = subst (λ (r : Result Ended SessionFault). IsSession view array after r c.args.bank.now call.new.bank from) is
-          (session_line_fails view array c.lines.array c.args.bank.now c.lines.bank from inv.0 inv.11 after call.new.bank found.0 found.1.no_feed call.result inv.5.g answers exact
+      exchange = subst (λ (r : Result Ended SessionFault). IsSessionOver view array after r c.args.bank.now call.new.bank from to) is
+          (session_line_fails view array c.lines.array c.args.bank.now c.lines.bank from to inv.0 inv.11 after call.new.bank found.0 found.1.no_feed call.result inv.5.g answers exact
           here fault was);
     }
 
@@ -261,7 +263,7 @@ returns-in-Ok-Last g c =
           (consumed r0 r from at c.requires.none input left inv.0 inv.1) inv.9 (here input left)
           (last_goes_on array.g.block found.0 found.1.no_feed some
           (input_goes next (goes_on (request_of array.g.block found.0)) (sym (ap Ok c.ended_by.ensures) ∙ is) quits));
-      held = held_behind array old from c.lines.array mid inv.0 inv.10.0 inv.5 inv.10.1 inv.10.2
+      held = held_after array old from c.lines.array mid inv.0 inv.10.0 inv.5 inv.10.1 inv.10.2
           after new found.0 found.1.no_feed call.result answers;
       leaves = served_ok array old from c.lines.array mid inv.0 inv.10.0 inv.5 inv.10.1 inv.10.2
           after new found.0 found.1.no_feed call.result answers
@@ -269,8 +271,8 @@ returns-in-Ok-Last g c =
           to c.ended_by.result next inv.4 was inv.6 (took_some r0 r' from to (inv.0 ++ found.0) c.requires.none c.requires.untaken (omega (arith, r'.within, r'.chunk.ok.0))
           (passes_trans inv.1 found.2))
           (λ is. none_left r' to found.4.0);
-      session = subst (λ (ended : Ended). IsSession view array after (Ok ended) c.args.bank.now call.new.bank from) (sym c.ended_by.ensures)
-          (session_last view array c.lines.array c.args.bank.now c.lines.bank from inv.0 inv.11 after call.new.bank found.0 found.1.no_feed call.result inv.5.g answers exact
+      exchange = subst (λ (ended : Ended). IsSessionOver view array after (Ok ended) c.args.bank.now call.new.bank from to) (sym c.ended_by.ensures)
+          (session_last view array c.lines.array c.args.bank.now c.lines.bank from to inv.0 inv.11 after call.new.bank found.0 found.1.no_feed call.result inv.5.g answers exact
           here some next was);
     }
 
@@ -303,7 +305,7 @@ returns-in-Quit g c =
           inv.2 inv.1 found.2 found.1.no_feed (subst (λ (g : Geometry). goes_on (request_of g.block found.0) ≡ false) inv.5.g (exact.0 was));
       bad = tt;
       no_quit = λ is. absurd (cc is);
-      held = held_behind array old from c.lines.array mid inv.0 inv.10.0 inv.5 inv.10.1 inv.10.2
+      held = held_after array old from c.lines.array mid inv.0 inv.10.0 inv.5 inv.10.1 inv.10.2
           after new found.0 found.1.no_feed call.result answers;
       leaves = served_ok array old from c.lines.array mid inv.0 inv.10.0 inv.5 inv.10.1 inv.10.2
           after new found.0 found.1.no_feed call.result answers
@@ -311,7 +313,7 @@ returns-in-Quit g c =
           (lines array.g.block next.0, next_line (array_store array) s input inv.0 x y walked found.0 next.0 next.1 found.1.no_feed more))
           to ended.Quit Quit inv.4 was inv.6 (took_some r0 r' from to (inv.0 ++ (found.0 ++ 10 ∷ [])) c.requires.none c.requires.untaken (omega (arith, r'.within, r'.chunk.ok.0))
           (passes_trans inv.1 found.2)) (λ is. absurd (cc is));
-      session = session_quits view array c.lines.array c.args.bank.now c.lines.bank from inv.0 inv.11 after call.new.bank found.0 found.1.no_feed call.result inv.5.g answers exact
+      exchange = session_quits view array c.lines.array c.args.bank.now c.lines.bank from to inv.0 inv.11 after call.new.bank found.0 found.1.no_feed call.result inv.5.g answers exact
           here was;
     }
 
@@ -358,6 +360,6 @@ lines-preserved g c =
         line_more array old from c.lines.array mid inv.0 inv.10.0 inv.5 inv.10.1 inv.10.2
             after new found.0 found.1.no_feed call.result answers here is,
       ),
-      gone_on view array c.lines.array c.args.bank.now c.lines.bank from inv.0 inv.11 after call.new.bank found.0 found.1.no_feed call.result inv.5.g answers exact
+      gone_on view array c.lines.array c.args.bank.now c.lines.bank from to inv.0 inv.11 after call.new.bank found.0 found.1.no_feed call.result inv.5.g answers exact
           here is,
     )

@@ -17,4 +17,4 @@ returns-in-Bad-clause-answers g c =
     let view = g.B.Bank.view in
     let said = c.say_answer-in-Bad in
     subst (λ (line : Line). AnswersLine c.args.array.now c.args.array.now said.result (request_with line c.args.self.now.fresh.items) (view c.args.bank.now) (view said.new.bank))
-    (sym c.in-Bad.is) (bad_replied c.args.array.now (view c.args.bank.now) (view said.new.bank) said.result c.requires.ready said.ensures.says said.ensures.once said.ensures.more said.ensures.port)
+    (sym c.in-Bad.is) (bad_replied c.args.array.now (view c.args.bank.now) (view said.new.bank) said.result c.requires.ready said.ensures.says said.ensures.once said.ensures.no_quit said.ensures.port)

@@ -5,7 +5,7 @@ use Rattle.trap_model.specs.declared.request.Reply.TheVariants.{At as Then, No}
 use Rattle.trap_model.specs.declared.request.Request.TheVariants.{At}
 use Rattle.trap_array.specs.Causes.{of_number}
 use Rattle.trap_session.proofs.Decided.{decided_well, decided_refused, decided_fault, read_possible, number_own}
-use Rattle.trap_session.proofs.Replying.{same_replied, same_failed, at_still, still_going, refused_at, refused_going, filled_whole, shown, risen_of, refused_not_denied, denied_as, line_ended, stops_as}
+use Rattle.trap_session.proofs.Replying.{same_replied, same_failed, at_still, still_going, refused_at, refused_going, filled_whole, shown, not_by_lost, risen_of, refused_not_denied, denied_as, line_ended, stops_as}
 use Rattle.trap_session.proofs.buffers.Buffers.at.Goals as goal
 
 pub returns-in-Ok-clause-answers : goal.returns-in-Ok-clause-answers
@@ -24,10 +24,10 @@ returns-in-Ok-clause-answers g c =
     (λ s. at_still array.g s c.args.seq c.args.block) _ done.same (still_going array.is_stopped _ refl)
     (Then c.as_slice-bytes.result.now) c.say_answer.result (λ told s stands. shown Then ((step array.g).reply s (At c.args.seq c.args.block)) c.at_seq.new.into c.as_slice-bytes.result.now filled
     (done.reply told s stands))
-    (inr (c.as_slice-bytes.result.now, long, refl))
+    (inr (c.as_slice-bytes.result.now, long, refl)) (λ same. same)
     (λ r same. absurd (decided_well array c.args.block (of_number array c.args.seq) _ old new done.causes (number_own array.index c.args.seq) r _ refl same))
     done.any_moment.moves done.any_moment.sizes done.any_moment.same done.ready
-    c.say_answer.ensures.says c.say_answer.ensures.once c.say_answer.ensures.more c.say_answer.ensures.port
+    c.say_answer.ensures.says c.say_answer.ensures.once c.say_answer.ensures.no_quit c.say_answer.ensures.port
     (λ asks stopped. cc (done.causes.stopped.1 (asks, stopped)))
 
 pub returns-in_ok-why-in-Err-clause-answers : goal.returns-in_ok-why-in-Err-clause-answers
@@ -43,9 +43,9 @@ returns-in_ok-why-in-Err-clause-answers g c =
     same_replied array c.at_seq.new.self old new (view said.new.bank) (At c.args.seq c.args.block) refl
     (λ s. at_still array.g s c.args.seq c.args.block) _ done.same (refused_going array.is_stopped refused)
     (No why) said.result (refused_at array old (At c.args.seq c.args.block) c.at_seq.result c.at_seq.new.into why refused done.reply)
-    (inl (read_possible array c.args.block (of_number array c.args.seq) c.at_seq.result old new done.causes (λ tight. tight) why refused))
+    (inl (read_possible array c.args.block (of_number array c.args.seq) c.at_seq.result old new done.causes (λ tight. tight) why refused)) (λ same. same)
     (λ r same. decided_refused array c.args.block (of_number array c.args.seq) c.at_seq.result old new done.causes (number_own array.index c.args.seq) r why refused same)
-    done.any_moment.moves done.any_moment.sizes done.any_moment.same done.ready said.ensures.says said.ensures.once said.ensures.more said.ensures.port
+    done.any_moment.moves done.any_moment.sizes done.any_moment.same done.ready said.ensures.says said.ensures.once said.ensures.no_quit said.ensures.port
     (refused_not_denied c.at_seq.result why refused done.causes.stopped)
 
 pub returns-in_err-why-in-Err-clause-answers : goal.returns-in_err-why-in-Err-clause-answers
@@ -65,4 +65,6 @@ returns-in_err-why-in-Err-clause-answers g c =
     (risen_of array old new c.at_seq.result done.causes.log done.causes.member done.damaged (λ is. (done.causes.stopped.0 is).1)
     denied c.in-Err.is ended.1)
     (λ offset same told. done.bad offset (c.in-Err.is ∙ ap Err same) told)
+    (not_by_lost array c.at_seq.result denied c.in-Err.is done.causes.used)
+    (λ same. same) (λ stopped. done.causes.untouched (inr stopped))
     (denied_as c.at_seq.result denied c.in-Err.is done.causes.stopped))

@@ -11,4 +11,4 @@ returns-clause-answers g c =
     let said = c.say_answer in
     info_replied c.args.array.now (view c.args.bank.now) (view said.new.bank) span.first span.last span.base_time span.last_time said.result
     c.requires.ready c.span-retained.ensures.reply
-    (ap (λ (s : Retained). Span s.first s.last s.base_time s.last_time) c.span-retained.ensures.head) said.ensures.says said.ensures.once said.ensures.more said.ensures.port
+    (ap (λ (s : Retained). Span s.first s.last s.base_time s.last_time) c.span-retained.ensures.head) said.ensures.says said.ensures.once said.ensures.no_quit said.ensures.port

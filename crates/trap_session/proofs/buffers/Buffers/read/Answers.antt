@@ -5,7 +5,7 @@ use Rattle.trap_model.specs.declared.request.Reply.TheVariants.{Is, No}
 use Rattle.trap_model.specs.declared.request.Request.TheVariants.{Read}
 use Rattle.trap_array.specs.Causes.{of_read}
 use Rattle.trap_session.proofs.Decided.{decided_well, decided_refused, decided_fault, read_possible, read_own}
-use Rattle.trap_session.proofs.Replying.{same_replied, same_failed, read_still, still_going, refused_read, refused_going, filled_whole, shown, risen_of, refused_not_denied, denied_as, line_ended, stops_as}
+use Rattle.trap_session.proofs.Replying.{same_replied, same_failed, read_still, still_going, refused_read, refused_going, filled_whole, shown, no_record, not_by_lost, risen_of, refused_not_denied, denied_as, line_ended, stops_as}
 use Rattle.trap_session.proofs.buffers.Buffers.read.Goals as goal
 
 pub returns-in-Ok-clause-answers : goal.returns-in-Ok-clause-answers
@@ -24,10 +24,10 @@ returns-in-Ok-clause-answers g c =
     (λ s. read_still array.g s c.args.block) _ done.same (still_going array.is_stopped _ refl)
     (Is c.as_slice-bytes.result.now) c.say_answer.result (λ told s stands. shown Is ((step array.g).reply s (Read c.args.block)) c.read.new.into c.as_slice-bytes.result.now filled
     (done.reply told s stands))
-    (inr (c.as_slice-bytes.result.now, long, refl))
+    (inr (c.as_slice-bytes.result.now, long, refl)) (λ same. same)
     (λ r same. absurd (decided_well array c.args.block (of_read array) _ old new done.causes read_own r _ refl same))
     done.any_moment.moves done.any_moment.sizes done.any_moment.same done.ready
-    c.say_answer.ensures.says c.say_answer.ensures.once c.say_answer.ensures.more c.say_answer.ensures.port
+    c.say_answer.ensures.says c.say_answer.ensures.once c.say_answer.ensures.no_quit c.say_answer.ensures.port
     (λ asks stopped. cc (done.causes.stopped.1 (asks, stopped)))
 
 pub returns-in_ok-why-in-Err-clause-answers : goal.returns-in_ok-why-in-Err-clause-answers
@@ -43,9 +43,9 @@ returns-in_ok-why-in-Err-clause-answers g c =
     same_replied array c.read.new.self old new (view said.new.bank) (Read c.args.block) refl
     (λ s. read_still array.g s c.args.block) _ done.same (refused_going array.is_stopped refused)
     (No why) said.result (refused_read array old (Read c.args.block) c.read.result c.read.new.into why refused done.reply)
-    (inl (read_possible array c.args.block (of_read array) c.read.result old new done.causes (λ tight. tight) why refused))
+    (inl (read_possible array c.args.block (of_read array) c.read.result old new done.causes (λ tight. tight) why refused)) (λ same. same)
     (λ r same. decided_refused array c.args.block (of_read array) c.read.result old new done.causes read_own r why refused same)
-    done.any_moment.moves done.any_moment.sizes done.any_moment.same done.ready said.ensures.says said.ensures.once said.ensures.more said.ensures.port
+    done.any_moment.moves done.any_moment.sizes done.any_moment.same done.ready said.ensures.says said.ensures.once said.ensures.no_quit said.ensures.port
     (refused_not_denied c.read.result why refused done.causes.stopped)
 
 pub returns-in_err-why-in-Err-clause-answers : goal.returns-in_err-why-in-Err-clause-answers
@@ -65,4 +65,6 @@ returns-in_err-why-in-Err-clause-answers g c =
     (risen_of array old new c.read.result done.causes.log done.causes.member (λ offset is. absurd (done.damaged offset is)) (λ is. (done.causes.stopped.0 is).1)
     denied c.in-Err.is ended.1)
     (λ offset same told. absurd (done.damaged offset (c.in-Err.is ∙ ap Err same)))
+    (not_by_lost array c.read.result denied c.in-Err.is done.causes.used, no_record denied (λ offset same. done.damaged offset (c.in-Err.is ∙ ap Err same)))
+    (λ same. same) (λ stopped. done.causes.untouched (inr stopped))
     (denied_as c.read.result denied c.in-Err.is done.causes.stopped))
