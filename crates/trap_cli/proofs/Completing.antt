@@ -28,7 +28,7 @@ use Rattle.trap_cli.specs.Said.{BeginsHeld}
 use Rattle.trap_cli.specs.Run.{SaysLast, ThenLastLine, EndsAs}
 use Rattle.trap_cli.specs.Completes.{output, NothingFails, IsUnused, IsDone, Completes}
 
--- nothing is said behind what was done
+-- nothing is said after what was done
 nothing_more : (before : List ℕ) (old new : View) → SaysLast [] before old new → new.now.said ≡ before
 nothing_more before old new last = last.said ∙ ap (λ (l : List ℕ). before ++ l) (front last.part last.rest last.whole) ∙ append-nil before
   where

@@ -65,9 +65,9 @@ module _ (g : Geometry) (s : State) (input : List ℕ) (old : View) (from : Stre
   crash_holds always p disks (inr (inr next)) = (_, inr refl, record { head = next.head; by = next.by })
 
   -- and then a line is said
-  pub said_behind : (before : List ℕ) (z : Contents) (p0 front : List ℕ) → z.said ≡ before ++ p0 → SessionLeaves g s input old (p0 ++ front) z.disks
+  pub said_after : (before : List ℕ) (z : Contents) (p0 front : List ℕ) → z.said ≡ before ++ p0 → SessionLeaves g s input old (p0 ++ front) z.disks
       → LeftSaid (SessionLeaves g s input old) before (record { disks = z.disks; said = z.said ++ front })
-  said_behind before z p0 front said leaves = record {
+  said_after before z p0 front said leaves = record {
     part = p0 ++ front;
     said = ap (λ (l : List ℕ). l ++ front) said ∙ append_assoc before p0 front;
     leaves = leaves;
@@ -79,7 +79,7 @@ module _ (g : Geometry) (s : State) (input : List ℕ) (old : View) (from : Stre
       → LeftSaid (SessionLeaves g s input old) x.said (record { disks = z.disks; said = z.said ++ front })
   answered_leaves x y z j front fault quiet within said holds =
       let given = given_fault (step g) (array_answers g) s (lines g.block input) j front (lines_go_on g.block input) within fault in
-      said_behind x.said z (first_texts (step g) s (lines g.block input) j) front
+      said_after x.said z (first_texts (step g) s (lines g.block input) j) front
       (said ∙ ap (λ (l : List ℕ). l ++ first_texts (step g) s (lines g.block input) j) quiet)
       (inr (subst (λ (k : ℕ). HoldsAfter g s old input k z.disks ⊎ HoldsAfter g s old input (k + 1) z.disks) (sym given) holds))
 
@@ -108,7 +108,7 @@ module _ (g : Geometry) (s : State) (input : List ℕ) (old : View) (from : Stre
   stopped_leaves (Stopped serving.ReadFault) to x y z quiet stops front rest is =
       answered_leaves x y z (line_feeds (bytes_taken input from to)) front (Stopped serving.ReadFault, rest, is) quiet stops.within stops.said (inl stops.holds)
   stopped_leaves (Stopped serving.WriteFault) to x y z quiet stops [] rest is =
-      said_behind x.said z stops.part [] (stops.said ∙ ap (λ (l : List ℕ). l ++ stops.part) quiet)
+      said_after x.said z stops.part [] (stops.said ∙ ap (λ (l : List ℕ). l ++ stops.part) quiet)
       (subst (λ (p : List ℕ). SessionLeaves g s input old p z.disks) (sym (append-nil stops.part)) (inr stops.holds))
   stopped_leaves (Stopped serving.WriteFault) to x y z quiet stops (byte ∷ front) rest is = absurd (cc is)
   stopped_leaves (Stopped serving.TooLong) to x y z quiet stops front rest is =
@@ -136,7 +136,7 @@ unmounted_steps a b from why moves = weaken a b (Quiet (Mounting a)) (Quiet (Mou
       said = step.said ∙ sym (append-nil x.said);
       leaves = mount_leaves g s input a from begins [] no_front x y was step.disks;
     })
-    (λ x y was left step front rest is g s input begins. said_behind g s input a from begins x.said y [] front (step.said ∙ sym (append-nil x.said))
+    (λ x y was left step front rest is g s input begins. said_after g s input a from begins x.said y [] front (step.said ∙ sym (append-nil x.said))
     (mount_leaves g s input a from begins front (NotMounted why, rest, is) x y was step.disks))
 
 -- A session goes on over the mounted array, and stops.

@@ -4,7 +4,7 @@ use Rattle.std.proofs.lemmas.Bool.{cases_eq}
 use Rattle.trap_bank.specs.Faults.{Rose}
 use Rattle.trap_bank.specs.Disks.{Contents, Disks, View, Quiet, Differs, size_of}
 use Rattle.trap_bank.specs.Calls.{MayLeave, IsLawful, Says}
-use Rattle.trap_bank.specs.Steps.{Steps, Moves, Same, SpokePart}
+use Rattle.trap_bank.specs.Steps.{Steps, Moves, Same, SpokePart, OnlyReads}
 use Rattle.trap_bank.specs.Stream.{Stream}
 use Rattle.trap_bank.proofs.Moves.{then_, weaken, nothing_done, read_is_left, say_steps}
 use Rattle.trap_model.specs.State.{fresh}
@@ -15,8 +15,8 @@ use Rattle.trap_format.specs.declared.limits.Field.{Field}
 use Rattle.trap_format.specs.MemberDisk.{member_size}
 use Rattle.trap_format.proofs.Spellings.{same_geometry}
 use Rattle.trap_array.specs.Holding.{Holds}
-use Rattle.trap_array.specs.Creating.{CreateFails as MakeFails, IsNoArray, Creates, HasCreated, IsLowest, NoneIsThere, IsUntouched, fresh_head}
-use Rattle.trap_mount.specs.CreateEnds.{IsMade, IsMaking, StaysBeyond, OthersStay}
+use Rattle.trap_array.specs.Creating.{CreateFails as MakeFails, IsNoArray, Creates, HasCreated, MembersFirst, IsLowest, NoneIsThere, fresh_head}
+use Rattle.trap_mount.specs.CreateEnds.{IsMade, IsMaking, KeepsOrder, StaysBeyond, DisksBeyondStay}
 use Rattle.trap_mount.specs.declared.fault.CreateFault.{CreateFault}
 use Rattle.trap_mount.specs.declared.fault.CreateFault.TheVariants.{Exists, LogFault, MemberFault}
 use Rattle.trap_cli.specs.declared.outcome.Ended.{Ended}
@@ -62,7 +62,41 @@ none_there g v none d inside = below (suc d) d (omega arith) inside
 absent_no_log : (disks : Disks) → size_of (disks 0) ≡ None → IsNoArray disks
 absent_no_log disks absent begins = let both : None ≡ Some begins.bytes = sym absent ∙ begins.there in cc
 
+-- a disk without a size is absent
+absent : (disk : Option (List ℕ)) → size_of disk ≡ None → disk ≡ None
+absent None is = refl
+absent (Some bytes) is = absurd (cc is)
+
+-- each crash in a run leaves what comes by its relation and has this too, where another fact of the same run says so
+steps_with : (a b : View) (d1 a1 d2 a2 : Contents → Contents → Type 0) (has : Contents → Type 0) → Steps a b d1 a1 → Steps a b d2 a2
+    → ((x y : Contents) → MayLeave a x → d2 x y → has y) → ((x y : Contents) → MayLeave a x → a2 x y → has y)
+    → Steps a b (λ x y. d1 x y × has y) (λ x y. a1 x y × has y)
+steps_with a b d1 a1 d2 a2 has first second during after = record {
+  tells = first.tells;
+  faults = first.faults;
+  port_faults = first.port_faults;
+  later = first.later;
+  in_run = λ t w le left. ⊎_elim inl
+      (λ one. ⊎_elim inl
+      (λ two. inr (record { origin = one.origin; was = one.was; by = (one.by, during two.origin w two.was two.by) }))
+      (second.in_run t w le left))
+      (first.in_run t w le left);
+  now = λ w left.
+      let one = first.now w left in
+      let two = second.now w left in
+      record { origin = one.origin; was = one.was; by = (one.by, after two.origin w two.was two.by) };
+}
+
 module _ (asked : Asked) (a : View) (lawful : IsLawful a) where
+  -- disk 0 is absent on entry, whatever a crash leaves
+  log_absent : (g : Geometry) → NoneIsThere g a → (x : Contents) → MayLeave a x → x.disks 0 ≡ None
+  log_absent g none x was = absent (x.disks 0) (was.torn.disks.sizes 0 ∙ lawful.sized was.told 0 ∙ none 0 (omega arith))
+
+  -- so the members came first by what a read gives on entry
+  members_first : (g : Geometry) → NoneIsThere g a → (x : Contents) → MayLeave a x → (disks : Disks) → MembersFirst g x.disks disks → MembersFirst g a.now.disks disks
+  members_first g none x was disks first = ⊎_elim
+      (λ (same : disks 0 ≡ x.disks 0). inl (same ∙ log_absent g none x was ∙ sym (log_absent g none a.now (read_is_left a was.told)))) (λ made. inr made) first
+
   -- disks that a crash on entry might have left
   unchanged : (p : List ℕ) (x : Contents) (disks : Disks) → IsFaultFront p → MayLeave a x → disks ≡ x.disks → CreateLeaves asked a p disks
   unchanged p x disks front was same =
@@ -70,7 +104,10 @@ module _ (asked : Asked) (a : View) (lawful : IsLawful a) where
       record {
         broken = λ field is. left;
         there = λ g d numbers low. left;
-        made = λ g numbers none. inl (absent_no_log disks (ap (λ (disks : Disks). size_of (disks 0)) same ∙ was.torn.disks.sizes 0 ∙ lawful.sized was.told 0 ∙ none 0 (omega arith)));
+        made = λ g numbers none. (
+          inl (absent_no_log disks (ap (λ (disks : Disks). size_of (disks 0)) same ∙ was.torn.disks.sizes 0 ∙ lawful.sized was.told 0 ∙ none 0 (omega arith))),
+          members_first g none x was disks (inl (ap (λ (disks : Disks). disks 0) same)),
+        );
         whole = λ g rest numbers none is. absurd (not_created asked.id p rest front is);
       }
     where
@@ -96,7 +133,8 @@ module _ (asked : Asked) (a : View) (lawful : IsLawful a) where
   broken_outcome field from is = record {
     cause = is;
     first = (λ other broken. let both : Some field ≡ Some other = sym is ∙ broken in cc, λ g d kept numbers low. let both : None ≡ Some field = sym kept ∙ is in absurd (cc both));
-    refused = λ refused. record { sizes = λ e. refl; changes = changes_none a };
+    unchanged = λ refused. record { sizes = λ e. refl; changes = changes_none a };
+    unmounted = λ why is. absurd (cc is);
     stops = λ told. refl;
     frame = record { changes = changes_wider Same (InAsked asked) a a (λ x y same. inl same) (changes_none a); sizes = λ e is. refl };
     unread = λ other. refl;
@@ -111,7 +149,7 @@ module _ (asked : Asked) (a : View) (lawful : IsLawful a) where
     no_field ended field is = let both : None ≡ Some field = sym kept ∙ is in absurd (cc both)
 
     -- A disk is there already.
-    pub exists_outcome : (d : ℕ) → IsLowest g a d → IsUntouched a b → CommandOutcome (command_create asked) (NotCreated (Exists d)) a b from from
+    pub exists_outcome : (d : ℕ) → IsLowest g a d → OnlyReads a b → CommandOutcome (command_create asked) (NotCreated (Exists d)) a b from from
     exists_outcome d low untouched = record {
       cause = (g, numbers, low);
       first = (
@@ -119,7 +157,8 @@ module _ (asked : Asked) (a : View) (lawful : IsLawful a) where
         λ h e kept also other. ap (λ (d : ℕ). NotCreated (Exists d))
             (lowest_same g a d e low (subst (λ (g : Geometry). IsLowest g a e) (numbers_same asked h g also numbers) other)),
       );
-      refused = λ refused. record { sizes = untouched.sizes; changes = still };
+      unchanged = λ refused. record { sizes = untouched.sizes; changes = still };
+      unmounted = λ why is. absurd (cc is);
       stops = untouched.same;
       frame = record { changes = changes_wider Same (InAsked asked) a b (λ x y same. inl same) still; sizes = λ e is. untouched.sizes e };
       unread = λ other. refl;
@@ -132,28 +171,36 @@ module _ (asked : Asked) (a : View) (lawful : IsLawful a) where
         still : ChangesBy Same a b
         still = changes_quiet Same a b (λ told. ap (λ (c : Contents). c.disks) (untouched.same told)) untouched.moves
 
-    module _ (no_low : (d : ℕ) → IsLowest g a d → ⊥) (beside : OthersStay g a b) (making : NoneIsThere g a → IsMaking g a b) where
+    module _ (no_low : (d : ℕ) → IsLowest g a d → ⊥) (beside : DisksBeyondStay g a b) (making : NoneIsThere g a → IsMaking g a b) (order : KeepsOrder g a b) where
       none : NoneIsThere g a
       none = none_there g a no_low
 
       not_there : (ended : Ended) (h : Geometry) (d : ℕ) → first_broken asked ≡ None → HasNumbers h asked → IsLowest h a d → ended ≡ NotCreated (Exists d)
       not_there ended h d kept also low = absurd (no_low d (subst (λ (g : Geometry). IsLowest g a d) (numbers_same asked h g also numbers) low))
 
+      -- the members were made first
+      abbrev Ordered : Contents → Type 0
+      Ordered y = MembersFirst g a.now.disks y.disks
+
+      first_in : (x y : Contents) → MayLeave a x → Quiet (MembersFirst g) x y → Ordered y
+      first_in x y was first = members_first g none x was y.disks first.disks
+
       -- while it is made
-      unmade : (p : List ℕ) (x y : Contents) → IsFaultFront p → Creates g x.disks y.disks → CreateLeaves asked a p y.disks
-      unmade p x y front creates = record {
+      unmade : (p : List ℕ) (x y : Contents) → IsFaultFront p → Creates g x.disks y.disks → Ordered y → CreateLeaves asked a p y.disks
+      unmade p x y front creates order = record {
         broken = λ field is. let both : None ≡ Some field = sym kept ∙ is in absurd (cc both);
         there = λ h d also low. absurd (no_low d (subst (λ (g : Geometry). IsLowest g a d) (numbers_same asked h g also numbers) low));
-        made = λ h also none. subst (λ (g : Geometry). Creates g a.now.disks y.disks) (numbers_same asked g h numbers also) creates;
+        made = λ h also none. subst (λ (g : Geometry). Creates g a.now.disks y.disks × MembersFirst g a.now.disks y.disks) (numbers_same asked g h numbers also) (creates, order);
         whole = λ h rest also none is. absurd (not_created asked.id p rest front is);
       }
 
       -- and when it is made
-      made : (p : List ℕ) (disks : Disks) → HoldsNew g disks → CreateLeaves asked a p disks
-      made p disks holds = record {
+      made : (p : List ℕ) (disks : Disks) → HoldsNew g disks → MembersFirst g a.now.disks disks → CreateLeaves asked a p disks
+      made p disks holds order = record {
         broken = λ field is. let both : None ≡ Some field = sym kept ∙ is in absurd (cc both);
         there = λ h d also low. absurd (no_low d (subst (λ (g : Geometry). IsLowest g a d) (numbers_same asked h g also numbers) low));
-        made = λ h also none. inr (subst (λ (g : Geometry). Holds g (fresh g) disks) (numbers_same asked g h numbers also) (record { head = fresh_head; by = holds.by }));
+        made = λ h also none. subst (λ (g : Geometry). Creates g a.now.disks disks × MembersFirst g a.now.disks disks) (numbers_same asked g h numbers also)
+            (inr (record { head = fresh_head; by = holds.by }), order);
         whole = λ h rest also none is. subst (λ (g : Geometry). HoldsNew g disks) (numbers_same asked g h numbers also) holds;
       }
 
@@ -167,12 +214,14 @@ module _ (asked : Asked) (a : View) (lawful : IsLawful a) where
       failed_outcome why fault fails = record {
         cause = (g, numbers, fails);
         first = (no_field (NotCreated why), not_there (NotCreated why));
-        refused = λ refused. absurd (cc);
+        unchanged = λ refused. absurd (cc);
+        unmounted = λ why is. absurd (cc is);
         stops = λ told. unfinished why fault (record {
           g = g;
           numbers = numbers;
           said = ((making none).contents told).said;
           disks = ((making none).contents told).disks;
+          order = (order.contents told).disks;
         });
         frame = record {
           changes = changes_wider (StaysBeyond g) (InAsked asked) a b (λ x y same. inr (g, numbers, same)) beyond_same;
@@ -182,12 +231,15 @@ module _ (asked : Asked) (a : View) (lawful : IsLawful a) where
         took = took_none from;
         silent = λ is told. ((making none).contents told).said;
         held = held_none a b (λ told. lawful.sized told 0 ∙ none 0 (omega arith));
-        steps = weaken a b (Quiet (Creates g)) (Quiet (Creates g)) (LeavesNow (command_create asked) a from) (LeavesWithFront (last_line (NotCreated why)) (command_create asked) a from) (making none).any_moment
-            (λ x y was step. record { part = []; said = step.said ∙ sym (append-nil x.said); leaves = unmade [] x y (Done, [], refl) step.disks })
+        steps = weaken a b (λ x y. Quiet (Creates g) x y × Ordered y) (λ x y. Quiet (Creates g) x y × Ordered y) (LeavesNow (command_create asked) a from)
+            (LeavesWithFront (last_line (NotCreated why)) (command_create asked) a from)
+            (steps_with a b (Quiet (Creates g)) (Quiet (Creates g)) (Quiet (MembersFirst g)) (Quiet (MembersFirst g)) Ordered
+            (making none).any_moment order.any_moment first_in first_in)
+            (λ x y was step. record { part = []; said = step.0.said ∙ sym (append-nil x.said); leaves = unmade [] x y (Done, [], refl) step.0.disks step.1 })
             (λ x y was left step front rest is. record {
               part = front;
-              said = ap (λ (l : List ℕ). l ++ front) step.said;
-              leaves = unmade front x y (NotCreated why, rest, is) step.disks;
+              said = ap (λ (l : List ℕ). l ++ front) step.0.said;
+              leaves = unmade front x y (NotCreated why, rest, is) step.0.disks step.1;
             });
       }
         where
@@ -225,26 +277,34 @@ module _ (asked : Asked) (a : View) (lawful : IsLawful a) where
         }
 
         created_steps : (line : List ℕ) → Steps a c (LeavesNow (command_create asked) a from) (LeavesWithFront line (command_create asked) a from)
-        created_steps line = then_ a b c (Quiet (Creates g)) (Quiet (HasCreated g)) (SpokePart (created_line asked.id)) (SpokePart (created_line asked.id))
-            (LeavesNow (command_create asked) a from) (LeavesWithFront line (command_create asked) a from) new.moves (say_steps result b c (created_line asked.id) says)
-            (λ x y was step. record { part = []; said = step.said ∙ sym (append-nil x.said); leaves = unmade [] x y (Done, [], refl) step.disks })
+        created_steps line = then_ a b c (λ x y. Quiet (Creates g) x y × Ordered y) (λ x y. Quiet (HasCreated g) x y × Ordered y)
+            (SpokePart (created_line asked.id)) (SpokePart (created_line asked.id))
+            (LeavesNow (command_create asked) a from) (LeavesWithFront line (command_create asked) a from)
+            (steps_with a b (Quiet (Creates g)) (Quiet (HasCreated g)) (Quiet (MembersFirst g)) (Quiet (MembersFirst g)) Ordered new.moves order.any_moment first_in first_in)
+            (say_steps result b c (created_line asked.id) says)
+            (λ x y was step. record { part = []; said = step.0.said ∙ sym (append-nil x.said); leaves = unmade [] x y (Done, [], refl) step.0.disks step.1 })
             (λ x y z was step mid spoke. record {
               part = spoke.says.part;
-              said = spoke.says.said ∙ ap (λ (l : List ℕ). l ++ spoke.says.part) step.said;
-              leaves = made spoke.says.part z.disks (subst (λ (disks : Disks). HoldsNew g disks) (sym spoke.disks) (whole_left y mid));
+              said = spoke.says.said ∙ ap (λ (l : List ℕ). l ++ spoke.says.part) step.0.said;
+              leaves = still_made spoke.says.part y z.disks (sym spoke.disks) (whole_left y mid) step.1;
             })
             (λ x y z was step mid spoke front rest is. record {
               part = spoke.says.part ++ front;
-              said = ap (λ (l : List ℕ). l ++ front) (spoke.says.said ∙ ap (λ (l : List ℕ). l ++ spoke.says.part) step.said) ∙ append_assoc x.said spoke.says.part front;
-              leaves = made (spoke.says.part ++ front) z.disks (subst (λ (disks : Disks). HoldsNew g disks) (sym spoke.disks) (whole_left y mid));
+              said = ap (λ (l : List ℕ). l ++ front) (spoke.says.said ∙ ap (λ (l : List ℕ). l ++ spoke.says.part) step.0.said)
+                  ∙ append_assoc x.said spoke.says.part front;
+              leaves = still_made (spoke.says.part ++ front) y z.disks (sym spoke.disks) (whole_left y mid) step.1;
             })
+          where
+            still_made : (p : List ℕ) (y : Contents) (disks : Disks) → y.disks ≡ disks → HoldsNew g y.disks → Ordered y → CreateLeaves asked a p disks
+            still_made p y disks same holds order = subst (λ (disks : Disks). CreateLeaves asked a p disks) same (made p y.disks holds order)
 
         -- The array is made, and its line was said.
         pub created_outcome : (IsTrue b.tells → c.now.said ≡ b.now.said ++ created_line asked.id) → CommandOutcome (command_create asked) Done a c from from
         created_outcome whole = record {
           cause = kept;
           first = (no_field Done, not_there Done);
-          refused = λ refused. absurd (cc refused);
+          unchanged = λ refused. absurd (cc refused);
+          unmounted = λ why is. absurd (cc is);
           stops = λ told. record {
             g = g;
             numbers = numbers;
@@ -264,7 +324,8 @@ module _ (asked : Asked) (a : View) (lawful : IsLawful a) where
         unsaid_outcome rose = record {
           cause = omega (arith, new.moves.port_faults, rose);
           first = (no_field Port, not_there Port);
-          refused = λ refused. absurd (cc refused);
+          unchanged = λ refused. absurd (cc refused);
+          unmounted = λ why is. absurd (cc is);
           stops = λ told.
               let part = says.part (told_mid told) in
               record {
@@ -284,18 +345,18 @@ module _ (asked : Asked) (a : View) (lawful : IsLawful a) where
 -- What `create` answers when it made no array.
 pub uncreated_outcome : {T : Type 0} (asked : Asked) (g : Geometry) (a b : View) (from : Stream) (result : Result T CreateFault) (why : CreateFault)
     → IsLawful a → first_broken asked ≡ None → HasNumbers g asked → result ≡ Err why
-    → ((d : ℕ) → (result ≡ Err (Exists d)) ↔ IsLowest g a d) → ((d : ℕ) → IsLowest g a d → IsUntouched a b)
-    → MakeFails g why a b → OthersStay g a b → (NoneIsThere g a → IsMaking g a b)
+    → ((d : ℕ) → (result ≡ Err (Exists d)) ↔ IsLowest g a d) → ((d : ℕ) → IsLowest g a d → OnlyReads a b)
+    → MakeFails g why a b → DisksBeyondStay g a b → (NoneIsThere g a → IsMaking g a b) → KeepsOrder g a b
     → CommandOutcome (command_create asked) (NotCreated why) a b from from
-uncreated_outcome asked g a b from result (Exists d) lawful kept numbers is exists untouched fails beside making =
+uncreated_outcome asked g a b from result (Exists d) lawful kept numbers is exists untouched fails beside making order =
     let low = (exists d).0 is in
     exists_outcome asked a lawful kept g numbers b from d low (untouched d low)
-uncreated_outcome asked g a b from result LogFault lawful kept numbers is exists untouched fails beside making =
+uncreated_outcome asked g a b from result LogFault lawful kept numbers is exists untouched fails beside making order =
     let no_low : (d : ℕ) → IsLowest g a d → ⊥ = λ d low. let both : Err LogFault ≡ Err (Exists d) = sym is ∙ (exists d).1 low in cc in
-    failed_outcome asked a lawful kept g numbers b from no_low beside making LogFault refl fails
-uncreated_outcome asked g a b from result (MemberFault first second) lawful kept numbers is exists untouched fails beside making =
+    failed_outcome asked a lawful kept g numbers b from no_low beside making order LogFault refl fails
+uncreated_outcome asked g a b from result (MemberFault first second) lawful kept numbers is exists untouched fails beside making order =
     let no_low : (d : ℕ) → IsLowest g a d → ⊥ = λ d low. let both : Err (MemberFault first second) ≡ Err (Exists d) = sym is ∙ (exists d).1 low in cc in
-    failed_outcome asked a lawful kept g numbers b from no_low beside making (MemberFault first second) refl (fails.1, (fails.0, fails.2))
+    failed_outcome asked a lawful kept g numbers b from no_low beside making order (MemberFault first second) refl (fails.1, (fails.0, fails.2), fails.3)
 
 -- an array that was made had none of its disks there
 pub none_before : {T : Type 0} (g : Geometry) (a : View) (result : Result T CreateFault) (value : T) → result ≡ Ok value

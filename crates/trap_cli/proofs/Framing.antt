@@ -1,6 +1,6 @@
 -- What a run changes on the disks.
 use Rattle.std.proofs.Common.{◌≡◌, ◌⊎◌, inl, inr, ⊎_elim, ℕ, ◌+◌, ◌≤◌, List, Option, Some, None, true, false, IsTrue, refl, sym, ap, subst, ◌∙◌}
-use Rattle.trap_bank.specs.Disks.{Area, Contents, Disks, View, Differs, Quiet}
+use Rattle.trap_bank.specs.Disks.{Contents, Disks, View, Differs, Quiet}
 use Rattle.trap_bank.specs.Steps.{Steps, Moves, Same, OnlyReads, SpokePart}
 use Rattle.trap_bank.proofs.Moves.{then_, weaken, nothing_done}
 use Rattle.trap_bank.proofs.Regions.{differs_mono, differs_again, differs_same}
@@ -9,12 +9,13 @@ use Rattle.trap_model.specs.declared.numbers.Geometry.{Geometry}
 use Rattle.trap_array.specs.Areas.{MayTouch}
 use Rattle.trap_array.specs.Calls.{Mounted}
 use Rattle.trap_array.specs.Holding.{InCell}
-use Rattle.trap_array.specs.Mounting.{MayPutHead, PutsHead, FoundLost, HasFound, WritesHead, is_refusal}
+use Rattle.trap_array.specs.Mounting.{MayPutHead, FoundLost, HasFound, WritesHead}
 use Rattle.trap_mount.specs.declared.fault.MountFault.{MountFault}
 use Rattle.trap_mount.specs.declared.fault.MountFault.TheVariants.{LogFault}
 use Rattle.trap_mount.proofs.Puts.{put_in_cell}
 use Rattle.trap_cli.specs.declared.command.Command.{Command}
 use Rattle.trap_cli.specs.declared.command.Command.TheVariants.{Create, Session, History}
+use Rattle.trap_cli.specs.Ended.{leaves_log}
 use Rattle.trap_cli.specs.Frame.{ByDisks, ChangesBy, InMounted, MayChange}
 use Rattle.trap_cli.proofs.Saying.{rose_later}
 
@@ -101,9 +102,9 @@ put_later old mid new later x y (inr (put, puts)) = inr (
 pub mount_changes : (a b : View) → WritesHead a b → ChangesBy (MayPutHead a b) a b
 mount_changes a b writes = changes_quiet (MayPutHead a b) a b (λ told. (writes.contents told).disks) writes.any_moment
 
--- a refusal is no failure of disk 0
-pub no_log_fault : (why : MountFault) → is_refusal why ≡ true → why ≡ LogFault → ⊥
-no_log_fault why is log = let both : true ≡ false = sym is ∙ ap is_refusal log in cc both
+-- mounting that wrote nothing didn't end by a fault of disk 0
+pub no_log_fault : (why : MountFault) → leaves_log why ≡ true → why ≡ LogFault → ⊥
+no_log_fault why is log = let both : true ≡ false = sym is ∙ ap leaves_log log in cc both
 
 -- ---- a session
 -- the head's put is in what the array may touch

@@ -1,6 +1,6 @@
 -- What a crash leaves where at most one member is out, though its disk be removed.
-use Rattle.std.proofs.Common.{◌≡◌, ◌⊎◌, inl, inr, ⊎_elim, ℕ, ◌+◌, ◌<◌, List, Option, Some, None, IsTrue, refl, sym, subst, ◌∙◌}
-use Rattle.trap_bank.specs.Disks.{Contents, Disks, View, size_of}
+use Rattle.std.proofs.Common.{◌≡◌, inl, inr, ⊎_elim, ℕ, ◌+◌, ◌<◌, List, Option, Some, None, IsTrue, refl, sym, subst, ◌∙◌}
+use Rattle.trap_bank.specs.Disks.{Disks, View, size_of}
 use Rattle.trap_bank.specs.Calls.{IsLawful, MayLeave}
 use Rattle.trap_bank.specs.Steps.{Always}
 use Rattle.trap_bank.specs.Stream.{Stream}

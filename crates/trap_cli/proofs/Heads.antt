@@ -1,5 +1,5 @@
 -- The heads by which disks hold states.
-use Rattle.std.proofs.Common.{◌≡◌, ◌⊎◌, inl, inr, ⊎_elim, ℕ, ◌+◌, ◌≤◌, Some, None, IsTrue, refl, sym, ap, subst, ◌∙◌, arith}
+use Rattle.std.proofs.Common.{◌≡◌, ◌⊎◌, inl, inr, ⊎_elim, ℕ, ◌+◌, ◌≤◌, Some, None, IsTrue, refl, sym, subst, ◌∙◌, arith}
 use Rattle.trap_bank.specs.Disks.{Disks, View, size_of}
 use Rattle.trap_bank.specs.Steps.{Moves, Always}
 use Rattle.trap_bank.proofs.Moves.{read_is_left, moves_weaken}

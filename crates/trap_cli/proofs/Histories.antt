@@ -1,9 +1,9 @@
 -- All but the last line of `history`.
-use Rattle.std.proofs.Common.{◌≡◌, ◌≢◌, inl, inr, ⊎_elim, ℕ, ◌≤◌, List, [], ◌∷◌, ◌++◌, Result, Ok, Err, true, false, IsTrue, refl, sym, ap, subst, ◌∙◌, append-nil, arith}
+use Rattle.std.proofs.Common.{◌≡◌, inl, inr, ⊎_elim, ℕ, ◌≤◌, List, [], ◌∷◌, ◌++◌, Result, Ok, Err, false, IsTrue, refl, sym, ap, subst, ◌∙◌, append-nil, arith}
 use Rattle.trap_bank.specs.Disks.{Contents, Disks, View, Quiet}
 use Rattle.trap_bank.specs.Faults.{Rose}
 use Rattle.trap_bank.specs.Calls.{MayLeave}
-use Rattle.trap_bank.specs.Steps.{Steps, Moves, OnlyReads, Always}
+use Rattle.trap_bank.specs.Steps.{Steps, Moves, Same, OnlyReads, Always}
 use Rattle.trap_bank.specs.Stream.{Stream}
 use Rattle.trap_bank.proofs.Moves.{then_, weaken, read_is_left}
 use Rattle.trap_format.specs.declared.head.Head.{Head}
@@ -19,16 +19,18 @@ use Rattle.trap_cli.specs.declared.outcome.Ended.TheVariants.{Done, NotMounted, 
 use Rattle.trap_cli.specs.Command.{command_history}
 use Rattle.trap_cli.specs.Ended.{last_line}
 use Rattle.trap_cli.specs.History.{history_text}
-use Rattle.trap_cli.specs.Listing.{KeepsDisks, Lists, HasListed}
+use Rattle.trap_cli.specs.Listing.{KeepsDisks, Lists, HasListed, index_text}
 use Rattle.trap_cli.specs.Cause.{WantsMemory, ShowsSizes}
 use Rattle.trap_cli.specs.Stopping.{IsMountable}
 use Rattle.trap_cli.specs.Crash.{IsFaultFront, HistoryLeaves, LeftSaid, LeavesNow, LeavesWithFront}
 use Rattle.trap_cli.specs.Run.{CommandOutcome}
-use Rattle.trap_cli.specs.Frame.{Frames, StaysHeld}
+use Rattle.trap_cli.specs.Frame.{ByDisks, Frames, StaysHeld}
+use Rattle.trap_cli.specs.Session.{IsMounted, MountsOnly, SaysRecords}
 use Rattle.trap_cli.proofs.Saying.{took_none}
 use Rattle.trap_cli.proofs.Saying.{rose_since}
 use Rattle.trap_cli.proofs.Framing.{changes_kept, changes_reads, no_log_fault, put_later, mount_changes}
 use Rattle.trap_cli.proofs.Heads.{same_head_holds, mounted_holds, held_mounted, found_out, Mounting, mounting_moves}
+use Rattle.trap_cli.proofs.Listings.{part_told, whole_told}
 use Rattle.trap_cli.proofs.Stopping.{LostOn}
 use Rattle.trap_cli.proofs.Crashing.{no_front}
 
@@ -52,11 +54,50 @@ module _ (g : Geometry) (s : State) (old : View) where
 some_listed : {T E : Type 0} (a : Mounted) (result : Result T E) (x y : Contents) → HasListed a result x y → Lists a x y
 some_listed a (Ok value) x y listed = record {
   disks = listed.disks;
-  says = λ s on stands. record { part = history_text s; rest = []; whole = append-nil (history_text s); said = listed.says s on stands };
+  says = record { part = index_text a.index; rest = []; whole = append-nil (index_text a.index); said = listed.says };
 }
 some_listed a (Err e) x y listed = listed
 
--- no line is said behind the history
+-- while the lines are said no disk changes
+history_mounts : {B T E : Type 0} (view : B → View) (a : Mounted) (result : Result T E) (ended : Ended) (first mounted last : B) → IsMounted a (view first) (view mounted)
+    → KeepsDisks (view mounted) (view last) → Steps (view mounted) (view last) (Lists a) (HasListed a result)
+    → ((x y : Contents) → x.said ≡ (view mounted).now.said → HasListed a result x y → SaysRecords ended (index_text a.index) (view mounted).now y) → MountsOnly view ended first last
+history_mounts view a result ended first mounted last mounts keeps listed says = record {
+  a = a;
+  mounted = mounted;
+  mounts = mounts;
+  stays = record {
+    sizes = keeps.sizes;
+    changes = record {
+      now = keeps.disks;
+      any_moment = weaken (view mounted) (view last) (Lists a) (HasListed a result) (ByDisks Same) (ByDisks Same) listed
+          (λ x y was by. by.disks) (λ x y was left by. (some_listed a result x y by).disks);
+    };
+  };
+  says = λ told.
+      let mid = subst IsTrue (sym mounts.writes.any_moment.tells) told in
+      let came = listed.now (view last).now (read_is_left (view last) (subst IsTrue (sym listed.tells) mid)) in
+      says came.origin (view last).now came.was.torn.said came.by;
+}
+
+-- all lines were said
+pub listed_mounts : {B : Type 0} (T E : Type 0) (value : T) (view : B → View) (a : Mounted) (first mounted last : B) → IsMounted a (view first) (view mounted)
+    → KeepsDisks (view mounted) (view last) → Steps (view mounted) (view last) (Lists a) (HasListed {T = T} {E = E} a (Ok value)) → MountsOnly view Done first last
+listed_mounts T E value view a first mounted last mounts keeps listed = history_mounts {T = T} {E = E} view a (Ok value) Done first mounted last mounts keeps listed
+    (λ x y same listed. listed.says ∙ ap (λ (l : List ℕ). l ++ index_text a.index) same)
+
+-- a part of them was
+pub cut_mounts : {B : Type 0} (T E : Type 0) (e : E) (view : B → View) (a : Mounted) (first mounted last : B) → IsMounted a (view first) (view mounted)
+    → KeepsDisks (view mounted) (view last) → Steps (view mounted) (view last) (Lists a) (HasListed {T = T} {E = E} a (Err e)) → MountsOnly view Port first last
+cut_mounts T E e view a first mounted last mounts keeps listed = history_mounts {T = T} {E = E} view a (Err e) Port first mounted last mounts keeps listed
+    (λ x y same listed. record {
+      part = listed.says.part;
+      rest = listed.says.rest;
+      whole = listed.says.whole;
+      said = listed.says.said ∙ ap (λ (l : List ℕ). l ++ listed.says.part) same;
+    })
+
+-- no line is said after the history
 empty_front : (front rest line : List ℕ) → line ≡ [] → front ++ rest ≡ line → front ≡ []
 empty_front [] rest line none is = refl
 empty_front (byte ∷ front) rest line none is = absurd (cc)
@@ -81,7 +122,7 @@ unlisted_steps a b from why moves = weaken a b (Quiet (Mounting a)) (Quiet (Moun
 lists_leave : (a : View) (array : Mounted) (g : Geometry) (s : State) (x y z : Contents) → y.said ≡ x.said → array.g ≡ g → StandsFor array s y.disks → LostOn g a array.head
     → Lists array y z → LeftSaid (HistoryLeaves g s a) x.said z
 lists_leave a array g s x y z quiet is stands lost listed =
-    let says = listed.says s y.disks stands in
+    let says = part_told array s y.disks y z stands listed in
     record {
       part = says.part;
       said = says.said ∙ ap (λ (l : List ℕ). l ++ says.part) quiet;
@@ -135,7 +176,8 @@ module _ (a b : View) (from : Stream) (mounted : Moves a b (Mounts a b) (Mounts 
   unlisted_outcome why no_log refuses fails wants shows unwritten held = record {
     cause = (refuses, fails, wants, shows);
     first = λ none. ap NotMounted (no_log none);
-    refused = λ is. record { sizes = sizes; changes = changes_reads a b (unwritten (no_log_fault why is)) };
+    unchanged = λ is. record { sizes = sizes; changes = changes_reads a b (unwritten (no_log_fault why is)) };
+    unmounted = λ other is. mount_changes a b writes;
     stops = λ g s told holds. (
       held g s told holds,
       record {
@@ -187,12 +229,13 @@ module _ (a b : View) (from : Stream) (mounted : Moves a b (Mounts a b) (Mounts 
     listed_outcome T E value listed = record {
       cause = mountable;
       first = λ none. absurd (log none);
-      refused = λ is. absurd (cc is);
+      unchanged = λ is. absurd (cc is);
+      unmounted = λ why is. absurd (cc is);
       stops = λ g s told holds.
           let known = stands g s told holds in
           let came = listed.now c.now (read_is_left c (told_end {T = T} {E = E} (Ok value) listed told)) in
           record {
-            said = came.by.says s came.origin.disks (known.1 came.origin came.was)
+            said = whole_told array s came.origin.disks came.origin c.now (known.1 came.origin came.was) came.by
                 ∙ ap (λ (l : List ℕ). l ++ history_text s) (came.was.torn.said ∙ (contents told).said);
             holds = holds_now {T = T} {E = E} (Ok value) listed g s told holds;
           };
@@ -209,11 +252,12 @@ module _ (a b : View) (from : Stream) (mounted : Moves a b (Mounts a b) (Mounts 
     cut_outcome T E e listed rose = record {
       cause = (mountable, rose_since a.port_faults b.port_faults c.port_faults mounted.port_faults rose);
       first = λ none. absurd (log none);
-      refused = λ is. absurd (cc is);
+      unchanged = λ is. absurd (cc is);
+      unmounted = λ why is. absurd (cc is);
       stops = λ g s told holds.
           let known = stands g s told holds in
           let came = listed.now c.now (read_is_left c (told_end {T = T} {E = E} (Err e) listed told)) in
-          let says = came.by.says s came.origin.disks (known.1 came.origin came.was) in
+          let says = part_told array s came.origin.disks came.origin c.now (known.1 came.origin came.was) came.by in
           record {
             part = record {
               part = says.part;

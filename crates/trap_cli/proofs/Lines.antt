@@ -1,4 +1,4 @@
--- A front of a fault line behind some replies adds no reply to those that are given.
+-- A front of a fault line after some replies adds no reply to those that are given.
 use Rattle.std.proofs.Common.{◌≡◌, ◌≢◌, ◌⊎◌, inl, inr, ⊎_elim, ℕ, zero, suc, ◌+◌, ◌<◌, ◌≤◌, List, [], ◌∷◌, ◌++◌, length, take, drop, get_or, Option, Some, None, Bool, true, false, cond, refl, sym, ap, ◌∙◌, append_assoc, length-append, arith}
 use Rattle.std.specs.Prelude.{nat_eq}
 use Rattle.std.specs.List.{starts_with, All}

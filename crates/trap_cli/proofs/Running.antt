@@ -1,5 +1,5 @@
 -- A run from its command and its last line.
-use Rattle.std.proofs.Common.{◌≡◌, ◌↔◌, inl, inr, ⊎_elim, ℕ, ◌+◌, ◌≤◌, List, [], ◌++◌, Option, Some, None, true, IsTrue, refl, sym, ap, subst, ◌∙◌, append-nil, arith}
+use Rattle.std.proofs.Common.{◌≡◌, ◌↔◌, inl, inr, ⊎_elim, ℕ, ◌+◌, ◌≤◌, List, [], ◌∷◌, ◌++◌, Option, Some, None, true, IsTrue, refl, sym, ap, subst, ◌∙◌, append-nil}
 use Rattle.std.specs.declared.alloc.Global.{Global}
 use Rattle.std.specs.Prelude.{String}
 use Rattle.trap_bank.specs.Disks.{Contents, Disks, View}
@@ -9,7 +9,7 @@ use Rattle.trap_bank.specs.Stream.{Stream}
 use Rattle.trap_bank.proofs.Moves.{nothing_done}
 use Rattle.trap_array.specs.Holding.{HoldsBy}
 use Rattle.trap_array.specs.Instants.{HasBadRecord}
-use Rattle.trap_array.specs.Mounting.{MountFails}
+use Rattle.trap_array.specs.Mounting.{MountFails, MayPutHead}
 use Rattle.trap_mount.specs.declared.fault.CreateFault.TheVariants as creating
 use Rattle.trap_mount.specs.declared.fault.MountFault.{MountFault}
 use Rattle.trap_mount.specs.declared.fault.MountFault.TheVariants as mounting
@@ -21,18 +21,20 @@ use Rattle.trap_cli.specs.declared.command.Command.TheVariants.{Create, Session,
 use Rattle.trap_cli.specs.declared.outcome.Ended.{Ended}
 use Rattle.trap_cli.specs.declared.outcome.Ended.TheVariants.{Done, Usage, BadGeometry, NotCreated, NotMounted, Stopped, Port, Memory}
 use Rattle.trap_cli.specs.Command.{IsCommand}
-use Rattle.trap_cli.specs.Ended.{status_of, last_line, is_refused}
+use Rattle.trap_cli.specs.Ended.{status_of, last_line, leaves_disks}
 use Rattle.trap_cli.specs.Cause.{WantsMemory, CauseOf, SessionCause, HistoryCause, CreateCause}
 use Rattle.trap_cli.specs.Stopping.{StopCause}
 use Rattle.trap_cli.specs.Said.{SaidAndHeld}
 use Rattle.trap_cli.specs.Crash.{CommandLeaves, LeavesNow, LeavesWithFront}
-use Rattle.trap_cli.specs.Run.{CommandOutcome, EndsAs, ThenLastLine, Spoken}
+use Rattle.trap_cli.specs.Run.{CommandOutcome, EndsAs, ThenLastLine, SaysLast, LeavesUnmounted}
+use Rattle.trap_cli.specs.Listing.{index_text}
+use Rattle.trap_cli.specs.Session.{MountsOnly, SaysRecords}
 use Rattle.trap_cli.specs.Frame.{MayChange, Frames, ChangesNothing, StaysHeld}
-use Rattle.trap_cli.proofs.Framing.{changes_none, changes_said, change_later}
+use Rattle.trap_cli.proofs.Framing.{changes_none, changes_said, change_later, put_later}
 use Rattle.trap_cli.proofs.Heads.{held_same}
 use Rattle.trap_cli.proofs.Words.{one_command}
 use Rattle.trap_cli.proofs.Saying.{took_none}
-use Rattle.trap_cli.proofs.Saying.{rose_later, last_since, run_leaves}
+use Rattle.trap_cli.proofs.Saying.{Spoken, rose_later, last_since, run_leaves}
 use Rattle.trap_cli.proofs.Crashing.{no_front, mount_leaves}
 use Rattle.trap_cli.proofs.Creates.{entry_creates}
 use Rattle.trap_cli.proofs.Histories.{mount_lists}
@@ -54,7 +56,8 @@ wants_later why old mid new later wants g h s told by log members = wants g h s 
     (λ rose. log (rose_later (old.faults 0) (mid.faults 0) (new.faults 0) rose (later 0)))
     (λ m inside rose. members m inside (rose_later (old.faults (m + 1)) (mid.faults (m + 1)) (new.faults (m + 1)) rose (later (m + 1))))
 
-stopped_later : (why : SessionFault) (old mid new : View) (from to : Stream) → ((e : ℕ) → mid.faults e ≤ new.faults e) → mid.port_faults ≤ new.port_faults → (IsTrue old.tells → new.now.disks ≡ mid.now.disks)
+stopped_later : (why : SessionFault) (old mid new : View) (from to : Stream) → ((e : ℕ) → mid.faults e ≤ new.faults e)
+    → mid.port_faults ≤ new.port_faults → (IsTrue old.tells → new.now.disks ≡ mid.now.disks)
     → StopCause why old mid from to → StopCause why old new from to
 stopped_later (serving.Array (denied.Refused why)) old mid new from to later port same by = absurd by
 stopped_later (serving.Array denied.LogFault) old mid new from to later port same by = rose_later (old.faults 0) (mid.faults 0) (new.faults 0) by (later 0)
@@ -79,37 +82,37 @@ stopped_later serving.WriteFault old mid new from to later port same by = rose_l
 stopped_later serving.TooLong old mid new from to later port same by = by
 
 cause_later : (command : Option Command) (ended : Ended) (old mid new : View) (from to : Stream)
-    → ((e : ℕ) → mid.faults e ≤ new.faults e) → mid.port_faults ≤ new.port_faults → (IsTrue old.tells → new.now.disks ≡ mid.now.disks)
+    → ((e : ℕ) → mid.faults e ≤ new.faults e) → mid.port_faults ≤ new.port_faults → new.sizes 0 ≡ mid.sizes 0 → (IsTrue old.tells → new.now.disks ≡ mid.now.disks)
     → CauseOf command ended old mid from to → CauseOf command ended old new from to
-cause_later None ended old mid new from to later port same by = by
-cause_later (Some Session) Done old mid new from to later port same by = by
-cause_later (Some Session) Usage old mid new from to later port same by = by
-cause_later (Some Session) (BadGeometry field) old mid new from to later port same by = by
-cause_later (Some Session) (NotCreated why) old mid new from to later port same by = by
-cause_later (Some Session) (NotMounted why) old mid new from to later port same by = (by.0, mount_later why old mid new later by.1, wants_later why old mid new later by.2, by.3)
-cause_later (Some Session) (Stopped why) old mid new from to later port same by = (by.0, stopped_later why old mid new from to later port same by.1)
-cause_later (Some Session) Port old mid new from to later port same by = by
-cause_later (Some Session) Memory old mid new from to later port same by = by
-cause_later (Some History) Done old mid new from to later port same by = by
-cause_later (Some History) Usage old mid new from to later port same by = by
-cause_later (Some History) (BadGeometry field) old mid new from to later port same by = by
-cause_later (Some History) (NotCreated why) old mid new from to later port same by = by
-cause_later (Some History) (NotMounted why) old mid new from to later port same by = (by.0, mount_later why old mid new later by.1, wants_later why old mid new later by.2, by.3)
-cause_later (Some History) (Stopped why) old mid new from to later port same by = by
-cause_later (Some History) Port old mid new from to later port same by = (by.0, rose_later old.port_faults mid.port_faults new.port_faults by.1 port)
-cause_later (Some History) Memory old mid new from to later port same by = by
-cause_later (Some (Create asked)) Done old mid new from to later port same by = by
-cause_later (Some (Create asked)) Usage old mid new from to later port same by = by
-cause_later (Some (Create asked)) (BadGeometry field) old mid new from to later port same by = by
-cause_later (Some (Create asked)) (NotCreated (creating.Exists disk)) old mid new from to later port same by = by
-cause_later (Some (Create asked)) (NotCreated creating.LogFault) old mid new from to later port same by =
+cause_later None ended old mid new from to later port size same by = by
+cause_later (Some Session) Done old mid new from to later port size same by = by
+cause_later (Some Session) Usage old mid new from to later port size same by = by
+cause_later (Some Session) (BadGeometry field) old mid new from to later port size same by = by
+cause_later (Some Session) (NotCreated why) old mid new from to later port size same by = by
+cause_later (Some Session) (NotMounted why) old mid new from to later port size same by = (by.0, mount_later why old mid new later by.1, wants_later why old mid new later by.2, by.3)
+cause_later (Some Session) (Stopped why) old mid new from to later port size same by = (by.0, stopped_later why old mid new from to later port same by.1)
+cause_later (Some Session) Port old mid new from to later port size same by = by
+cause_later (Some Session) Memory old mid new from to later port size same by = by
+cause_later (Some History) Done old mid new from to later port size same by = by
+cause_later (Some History) Usage old mid new from to later port size same by = by
+cause_later (Some History) (BadGeometry field) old mid new from to later port size same by = by
+cause_later (Some History) (NotCreated why) old mid new from to later port size same by = by
+cause_later (Some History) (NotMounted why) old mid new from to later port size same by = (by.0, mount_later why old mid new later by.1, wants_later why old mid new later by.2, by.3)
+cause_later (Some History) (Stopped why) old mid new from to later port size same by = by
+cause_later (Some History) Port old mid new from to later port size same by = (by.0, rose_later old.port_faults mid.port_faults new.port_faults by.1 port)
+cause_later (Some History) Memory old mid new from to later port size same by = by
+cause_later (Some (Create asked)) Done old mid new from to later port size same by = by
+cause_later (Some (Create asked)) Usage old mid new from to later port size same by = by
+cause_later (Some (Create asked)) (BadGeometry field) old mid new from to later port size same by = by
+cause_later (Some (Create asked)) (NotCreated (creating.Exists disk)) old mid new from to later port size same by = by
+cause_later (Some (Create asked)) (NotCreated creating.LogFault) old mid new from to later port size same by =
     (by.0, by.1, rose_later (old.faults 0) (mid.faults 0) (new.faults 0) by.2 (later 0))
-cause_later (Some (Create asked)) (NotCreated (creating.MemberFault first second)) old mid new from to later port same by =
-    (by.0, by.1, (by.2.0, (by.2.1.0, rose_later (old.faults (second + 1)) (mid.faults (second + 1)) (new.faults (second + 1)) by.2.1.1 (later (second + 1)))))
-cause_later (Some (Create asked)) (NotMounted why) old mid new from to later port same by = by
-cause_later (Some (Create asked)) (Stopped why) old mid new from to later port same by = by
-cause_later (Some (Create asked)) Port old mid new from to later port same by = rose_later old.port_faults mid.port_faults new.port_faults by port
-cause_later (Some (Create asked)) Memory old mid new from to later port same by = by
+cause_later (Some (Create asked)) (NotCreated (creating.MemberFault first second)) old mid new from to later port size same by =
+    (by.0, by.1, (by.2.0, (by.2.1.0, rose_later (old.faults (second + 1)) (mid.faults (second + 1)) (new.faults (second + 1)) by.2.1.1 (later (second + 1))), size ∙ by.2.2))
+cause_later (Some (Create asked)) (NotMounted why) old mid new from to later port size same by = by
+cause_later (Some (Create asked)) (Stopped why) old mid new from to later port size same by = by
+cause_later (Some (Create asked)) Port old mid new from to later port size same by = rose_later old.port_faults mid.port_faults new.port_faults by port
+cause_later (Some (Create asked)) Memory old mid new from to later port size same by = by
 
 -- status 2 is that of one ending alone
 not_two : (ended : Ended) → (ended ≡ Usage → ⊥) → status_of ended ≡ 2 → ⊥
@@ -177,7 +180,8 @@ pub no_command : (a : View) (from : Stream) → CommandOutcome None Usage a a fr
 no_command a from = record {
   cause = refl;
   first = tt;
-  refused = λ is. record { sizes = λ e. refl; changes = changes_none a };
+  unchanged = λ is. record { sizes = λ e. refl; changes = changes_none a };
+  unmounted = λ why is. absurd (cc is);
   stops = λ told. refl;
   frame = record { changes = changes_none a; sizes = λ e is. refl };
   unread = λ other. refl;
@@ -205,6 +209,41 @@ held_later old mid new same later stay g s h told was =
       };
     }
 
+-- no disk changed, and then a line was said
+nothing_said : (line : List ℕ) (a b c : View) → ChangesNothing a b → Spoken line b c → ChangesNothing a c
+nothing_said line a b c stays spoken = record {
+  sizes = λ e. spoken.sizes e ∙ stays.sizes e;
+  changes = changes_said Same Same a b c line (λ x y same. same) stays.changes spoken.steps spoken.disks;
+}
+
+-- no part of an empty line is said
+nothing_more : (b c : View) (part rest : List ℕ) → part ++ rest ≡ [] → c.now.said ≡ b.now.said ++ part → c.now.said ≡ b.now.said
+nothing_more b c [] rest none said = said ∙ append-nil b.now.said
+nothing_more b c (byte ∷ part) rest none said = absurd (cc none)
+
+-- what was said of the records stays so, since no line follows
+records_said : (ended : Ended) (text : List ℕ) (x : Contents) (b c : View) → SaysRecords ended text x b.now → SaysLast (last_line ended) b.now.said b c
+    → SaysRecords ended text x c.now
+records_said Done text x b c says last = nothing_more b c last.part last.rest last.whole last.said ∙ says
+records_said Usage text x b c says last = tt
+records_said (BadGeometry field) text x b c says last = tt
+records_said (NotCreated why) text x b c says last = tt
+records_said (NotMounted why) text x b c says last = tt
+records_said (Stopped why) text x b c says last = tt
+records_said Port text x b c says last = record { part = says.part; rest = says.rest; whole = says.whole; said = nothing_more b c last.part last.rest last.whole last.said ∙ says.said }
+records_said Memory text x b c says last = tt
+
+-- the array was mounted, and then the last line was said
+pub mounts_said : {B : Type 0} (view : B → View) (ended : Ended) (first mid last : B) → MountsOnly view ended first mid → (view mid).tells ≡ (view first).tells
+    → Spoken (last_line ended) (view mid) (view last) → MountsOnly view ended first last
+mounts_said view ended first mid last only tells spoken = record {
+  a = only.a;
+  mounted = only.mounted;
+  mounts = only.mounts;
+  stays = nothing_said (last_line ended) (view only.mounted) (view mid) (view last) only.stays spoken;
+  says = λ told. records_said ended (index_text only.a.index) (view only.mounted).now (view mid) (view last) (only.says told) (spoken.last (subst IsTrue (sym tells) told));
+}
+
 module _ (command : Option Command) (ended : Ended) (old mid new : View) (from to : Stream) (outcome : CommandOutcome command ended old mid from to)
     (spoken : Spoken (last_line ended) mid new) where
   told_mid : IsTrue old.tells → IsTrue mid.tells
@@ -218,11 +257,12 @@ module _ (command : Option Command) (ended : Ended) (old mid new : View) (from t
     last = last_since old mid new outcome.steps.port_faults (spoken.last (told_mid told));
   }
 
-  refuses : is_refused ended ≡ true → ChangesNothing old new
-  refuses is = record {
-    sizes = λ e. spoken.sizes e ∙ (outcome.refused is).sizes e;
-    changes = changes_said Same Same old mid new (last_line ended) (λ x y same. same) (outcome.refused is).changes spoken.steps spoken.disks;
-  }
+  leaves : leaves_disks ended ≡ true → ChangesNothing old new
+  leaves is = nothing_said (last_line ended) old mid new (outcome.unchanged is) spoken
+
+  found_none : LeavesUnmounted ended old new
+  found_none why is = changes_said (MayPutHead old mid) (MayPutHead old new) old mid new (last_line ended)
+      (put_later old mid new spoken.steps.faults) (outcome.unmounted why is) spoken.steps spoken.disks
 
   pub run_held : StaysHeld old new
   run_held = held_later old mid new (λ told. spoken.disks (told_mid told)) spoken.steps.faults outcome.held
@@ -230,9 +270,10 @@ module _ (command : Option Command) (ended : Ended) (old mid new : View) (from t
   pub run_ends : (status : ℕ) → status ≡ status_of ended → EndsAs status command ended old new from to
   run_ends status is = record {
     number = is;
-    cause = cause_later command ended old mid new from to spoken.steps.faults spoken.steps.port_faults (λ told. spoken.disks (told_mid told)) outcome.cause;
+    cause = cause_later command ended old mid new from to spoken.steps.faults spoken.steps.port_faults (spoken.sizes 0) (λ told. spoken.disks (told_mid told)) outcome.cause;
     first = outcome.first;
-    refused = refuses;
+    unchanged = leaves;
+    unmounted = found_none;
     unread = outcome.unread;
     took = outcome.took;
     silent = λ is told.

@@ -12,7 +12,14 @@ use Rattle.trap_session.specs.Serving.{Took}
 use Rattle.trap_cli.specs.declared.command.Command.{Command}
 use Rattle.trap_cli.specs.Crash.{CommandLeaves, LeavesNow, LeavesWithFront}
 use Rattle.trap_cli.specs.Session.{SaysInOne}
-use Rattle.trap_cli.specs.Run.{SaysLast, Spoken}
+use Rattle.trap_cli.specs.Run.{SaysLast}
+
+-- the line was said, or a first part of it, and nothing else was done
+pub record Spoken (line : List ℕ) (old new : View) : Type 0 where
+  pub steps : Steps old new (SpokePart line) (SpokePart line)
+  pub sizes : (e : ℕ) → new.sizes e ≡ old.sizes e
+  pub disks : IsTrue old.tells → new.now.disks ≡ old.now.disks
+  pub last : IsTrue old.tells → SaysLast line old.now.said old new
 
 says_last : {T E : Type 0} (result : Result T E) (line : List ℕ) (old new : View) → Says line result old new → IsTrue old.tells
     → SaysLast line old.now.said old new

@@ -1,5 +1,5 @@
 -- All but the last line of `session`.
-use Rattle.std.proofs.Common.{◌≡◌, ◌≢◌, inl, inr, ⊎_elim, ℕ, ◌+◌, ◌<◌, ◌≤◌, List, true, false, IsTrue, sym, Some, None, ap, subst, ◌∙◌, append-nil, arith, refl}
+use Rattle.std.proofs.Common.{◌≡◌, inl, inr, ⊎_elim, ℕ, ◌+◌, ◌<◌, ◌≤◌, List, true, false, IsTrue, sym, Some, None, ap, subst, ◌∙◌, append-nil, arith, refl}
 use Rattle.trap_bank.specs.Disks.{Contents, View, Quiet}
 use Rattle.trap_bank.specs.Steps.{Steps, Moves, OnlyReads, Always}
 use Rattle.trap_bank.specs.Stream.{Stream}
@@ -28,14 +28,16 @@ use Rattle.trap_cli.proofs.Saying.{took_none}
 use Rattle.trap_cli.specs.declared.outcome.Ended.{Ended}
 use Rattle.trap_cli.specs.declared.outcome.Ended.TheVariants.{Done, Usage, BadGeometry, NotCreated, NotMounted, Stopped, Port, Memory}
 use Rattle.trap_cli.specs.Command.{command_session}
-use Rattle.trap_cli.specs.Ended.{is_refused}
+use Rattle.trap_cli.specs.Ended.{leaves_disks}
 use Rattle.trap_cli.specs.Cause.{SessionCause, WantsMemory, ShowsSizes}
 use Rattle.trap_cli.specs.Stopping.{MountPasses, MemberFaults, NamesRecord}
 use Rattle.trap_cli.specs.Said.{held_store, BeginsHeld, SessionSaid, ServedSaid, ServedCause, ServedBad}
-use Rattle.trap_cli.specs.Run.{CommandOutcome, reads_input, ends_silent}
-use Rattle.trap_cli.specs.Frame.{MayChange, StaysHeld}
+use Rattle.trap_cli.specs.Run.{CommandOutcome, reads_input, only_mounts, ends_silent}
+use Rattle.trap_cli.specs.Listing.{index_text}
+use Rattle.trap_cli.specs.Session.{IsMounted, MountsOnly, SaysRecords}
+use Rattle.trap_cli.specs.Frame.{MayChange, ChangesNothing, StaysHeld}
 use Rattle.trap_cli.proofs.Saying.{rose_since}
-use Rattle.trap_cli.proofs.Framing.{changes_wider, changes_reads, no_log_fault, mount_changes, session_changes}
+use Rattle.trap_cli.proofs.Framing.{changes_wider, changes_none, changes_reads, no_log_fault, mount_changes, session_changes}
 use Rattle.trap_cli.proofs.Heads.{mounted_holds, held_mounted, keeps_found, keeps_like, found_out, mounting_moves}
 use Rattle.trap_cli.proofs.Stopping.{stops_held}
 use Rattle.trap_cli.proofs.Crashing.{unmounted_steps, session_steps}
@@ -106,8 +108,10 @@ ended_cause array (Stopped (serving.Array denied.LogFault)) old mid new from to 
     (λ told. (array.g, passes_found array old mid found told), rose_since (old.faults 0) (mid.faults 0) (new.faults 0) (later 0) by)
 ended_cause array (Stopped (serving.Array (denied.MemberFault first second))) old mid new from to later port stands tells found knows bad now going ready sizes held by =
     (λ told. (array.g, passes_found array old mid found told), member_faults array first second old mid new found (later (second + 1)) going ready sizes held by)
-ended_cause array (Stopped (serving.Array (denied.Damaged offset))) old mid new from to later port stands tells found knows bad now going ready sizes held by =
-    (λ told. (array.g, passes_found array old mid found told), (λ told g s holds. by (subst IsTrue (sym tells) told) s (stands g s told holds).1, names_record array offset old mid new found knows now bad))
+ended_cause array (Stopped (serving.Array (denied.Damaged offset))) old mid new from to later port stands tells found knows bad now going ready sizes held by = (
+  λ told. (array.g, passes_found array old mid found told),
+  (λ told g s holds. by (subst IsTrue (sym tells) told) s (stands g s told holds).1, names_record array offset old mid new found knows now bad),
+)
 ended_cause array (Stopped (serving.Array denied.Stopped)) old mid new from to later port stands tells found knows bad now going ready sizes held by = absurd by
 ended_cause array (Stopped serving.ReadFault) old mid new from to later port stands tells found knows bad now going ready sizes held by = (λ told. (array.g, passes_found array old mid found told), by)
 ended_cause array (Stopped serving.WriteFault) old mid new from to later port stands tells found knows bad now going ready sizes held by =
@@ -116,16 +120,44 @@ ended_cause array (Stopped serving.TooLong) old mid new from to later port stand
 ended_cause array Port old mid new from to later port stands tells found knows bad now going ready sizes held by = absurd by
 ended_cause array Memory old mid new from to later port stands tells found knows bad now going ready sizes held by = λ told. (array.g, passes_found array old mid found told)
 
--- and it isn't a refusal
-not_refused : (array : Mounted) (ended : Ended) (old new : View) (from to : Stream) → ServedCause array ended old new from to → is_refused ended ≡ true → ⊥
-not_refused array Done old new from to by is = cc is
-not_refused array Usage old new from to by is = absurd by
-not_refused array (BadGeometry field) old new from to by is = absurd by
-not_refused array (NotCreated why) old new from to by is = absurd by
-not_refused array (NotMounted why) old new from to by is = absurd by
-not_refused array (Stopped why) old new from to by is = cc is
-not_refused array Port old new from to by is = absurd by
-not_refused array Memory old new from to by is = cc is
+-- and it isn't an end that leaves the disks
+not_left : (array : Mounted) (ended : Ended) (old new : View) (from to : Stream) → ServedCause array ended old new from to → leaves_disks ended ≡ true → ⊥
+not_left array Done old new from to by is = cc is
+not_left array Usage old new from to by is = absurd by
+not_left array (BadGeometry field) old new from to by is = absurd by
+not_left array (NotCreated why) old new from to by is = absurd by
+not_left array (NotMounted why) old new from to by is = absurd by
+not_left array (Stopped why) old new from to by is = cc is
+not_left array Port old new from to by is = absurd by
+not_left array Memory old new from to by is = cc is
+
+-- and the array was mounted
+was_mounted : (array : Mounted) (ended : Ended) (why : MountFault) (old new : View) (from to : Stream) → ServedCause array ended old new from to
+    → ended ≡ NotMounted why → ⊥
+was_mounted array ended why old new from to by is = subst (λ (ended : Ended). ServedCause array ended old new from to) is by
+
+-- a session that mounts and reads no line has no memory
+without_memory : (ended : Ended) → only_mounts command_session ended ≡ true → ended ≡ Memory
+without_memory Done is = absurd (cc is)
+without_memory Usage is = absurd (cc is)
+without_memory (BadGeometry field) is = absurd (cc is)
+without_memory (NotCreated why) is = absurd (cc is)
+without_memory (NotMounted why) is = absurd (cc is)
+without_memory (Stopped why) is = absurd (cc is)
+without_memory Port is = absurd (cc is)
+without_memory Memory is = refl
+
+-- and after mounting it makes no call
+pub session_mounts : {B : Type 0} (view : B → View) (a : Mounted) (first mounted last : B) (ended : Ended) → IsMounted a (view first) (view mounted)
+    → (ended ≡ Memory → last ≡ mounted) → only_mounts command_session ended ≡ true → MountsOnly view ended first last
+session_mounts view a first mounted last ended mounts idle is = record {
+  a = a;
+  mounted = mounted;
+  mounts = mounts;
+  stays = subst (λ (bank : _). ChangesNothing (view mounted) (view bank)) (sym (idle (without_memory ended is)))
+      (record { sizes = λ e. refl; changes = changes_none (view mounted) });
+  says = λ told. subst (λ (ended : Ended). SaysRecords ended (index_text a.index) (view mounted).now (view last).now) (sym (without_memory ended is)) tt;
+}
 
 -- the source is as it was where a session has no memory
 not_read : (array : Mounted) (ended : Ended) (old new : View) (from to : Stream) → ServedCause array ended old new from to → (ended ≡ Memory → to ≡ from)
@@ -163,7 +195,8 @@ module _ (a b : View) (from : Stream) (mounted : Moves a b (Mounts a b) (Mounts 
   unmounted_outcome why no_log refuses fails wants shows unwritten held = record {
     cause = (refuses, fails, wants, shows);
     first = λ none. ap NotMounted (no_log none);
-    refused = λ is. record { sizes = sizes; changes = changes_reads a b (unwritten (no_log_fault why is)) };
+    unchanged = λ is. record { sizes = sizes; changes = changes_reads a b (unwritten (no_log_fault why is)) };
+    unmounted = λ other is. mount_changes a b writes;
     stops = λ g s input begins. (
       held g s begins.tells begins.holds,
       record {
@@ -231,7 +264,8 @@ module _ (a b : View) (from : Stream) (mounted : Moves a b (Mounts a b) (Mounts 
     session_outcome log = record {
       cause = ended_cause array ended a b c from to mounted.faults mounted.port_faults stands mounted.tells found knows bad (served.tells ∙ mounted.tells) going ready sizes held_found by;
       first = λ none. absurd (log none);
-      refused = λ is. absurd (not_refused array ended b c from to by is);
+      unchanged = λ is. absurd (not_left array ended b c from to by is);
+      unmounted = λ why is. absurd (was_mounted array ended why b c from to by is);
       stops = stops_now;
       frame = record {
         changes = session_changes array a b c writes found (record { now = changes.now; any_moment = changes.any_moment });

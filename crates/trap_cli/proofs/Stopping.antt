@@ -1,5 +1,5 @@
 -- How a session has stopped, by other ways in which disks hold states.
-use Rattle.std.proofs.Common.{◌≡◌, inl, inr, ⊎_elim, ℕ, List, ◌++◌, Some, refl, sym, ap, subst, ◌∙◌}
+use Rattle.std.proofs.Common.{◌≡◌, inl, inr, ⊎_elim, ℕ, List, ◌++◌, Some, sym, ap, subst, ◌∙◌}
 use Rattle.trap_bank.specs.Disks.{Contents, Disks, View}
 use Rattle.trap_bank.specs.Stream.{Stream}
 use Rattle.trap_format.specs.declared.head.Head.{Head}

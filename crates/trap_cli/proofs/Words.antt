@@ -6,7 +6,7 @@ use Rattle.trap_model.specs.declared.asked.Asked.{Asked}
 use Rattle.trap_script.specs.Numbers.{number_of}
 use Rattle.trap_cli.specs.declared.command.Command.{Command}
 use Rattle.trap_cli.specs.declared.command.Command.TheVariants.{Create, Session, History}
-use Rattle.trap_cli.specs.Command.{IsSession, IsHistory, IsCreate, IsCommand, AreNumbers, numbers_of}
+use Rattle.trap_cli.specs.Command.{IsSessionWord, IsHistory, IsCreate, IsCommand, AreNumbers, numbers_of}
 
 pub one_word : (words : List (String Global)) (word : String Global) → length words ≡ 1 → word ≡ get_or words 0 word → words ≡ word ∷ []
 one_word [] word one first = absurd (omega (arith, one))
@@ -19,7 +19,7 @@ take_all [] (suc n) all = absurd (omega (arith, all))
 take_all (w ∷ words) zero all = absurd (omega (arith, all))
 take_all (w ∷ words) (suc n) all = ap (λ (rest : List (String Global)). w ∷ rest) (take_all words n (omega (arith, all)))
 
--- the first word and those behind it
+-- the first word and those after it
 pub first_word : (words : List (String Global)) (word : String Global) (count : ℕ) → length words ≡ suc count → word ≡ get_or words 0 word
     → words ≡ word ∷ take (length words - 1) (drop 1 words)
 first_word [] word count some first = absurd (omega (arith, some))
@@ -59,18 +59,18 @@ same_numbers words asked other is are =
 
 same_create : (words : List (String Global)) (asked other : Asked) → IsCreate words asked → IsCreate words other → asked ≡ other
 same_create words asked other is are =
-    let both : is.first ∷ is.behind ≡ are.first ∷ are.behind = sym is.parts ∙ are.parts in
-    let behind : is.behind ≡ are.behind = cc in
-    same_numbers is.behind asked other is.numbers (subst (λ (words : List (String Global)). AreNumbers words other) (sym behind) are.numbers)
+    let both : is.first ∷ is.others ≡ are.first ∷ are.others = sym is.parts ∙ are.parts in
+    let others : is.others ≡ are.others = cc in
+    same_numbers is.others asked other is.numbers (subst (λ (words : List (String Global)). AreNumbers words other) (sym others) are.numbers)
 
 -- one word alone that isn't `create` is no command with numbers
 not_create : (word : List ℕ) (words : List (String Global)) (asked : Asked) → map string_bytes words ≡ word ∷ [] → IsCreate words asked → word ≡ codes "create"
 not_create word words asked alone create =
-    let both : word ∷ [] ≡ string_bytes create.first ∷ map string_bytes create.behind = sym alone ∙ ap (map string_bytes) create.parts in
+    let both : word ∷ [] ≡ string_bytes create.first ∷ map string_bytes create.others = sym alone ∙ ap (map string_bytes) create.parts in
     let same : word ≡ string_bytes create.first = cc in
     same ∙ create.create
 
-no_session : (words : List (String Global)) (asked : Asked) → IsSession words → IsCreate words asked → ⊥
+no_session : (words : List (String Global)) (asked : Asked) → IsSessionWord words → IsCreate words asked → ⊥
 no_session words asked session create =
     let head = ap (λ (l : List ℕ). get_or l 0 0) (not_create (codes "session") words asked session create) in omega (arith, head)
 
@@ -78,7 +78,7 @@ no_history : (words : List (String Global)) (asked : Asked) → IsHistory words 
 no_history words asked history create =
     let head = ap (λ (l : List ℕ). get_or l 0 0) (not_create (codes "history") words asked history create) in omega (arith, head)
 
-not_both : (words : List (String Global)) → IsSession words → IsHistory words → ⊥
+not_both : (words : List (String Global)) → IsSessionWord words → IsHistory words → ⊥
 not_both words session history =
     let both : codes "session" ∷ [] ≡ codes "history" ∷ [] = sym session ∙ history in
     let same : codes "session" ≡ codes "history" = cc in

@@ -28,12 +28,13 @@ abbrev pub MemberRose : ℕ → ℕ → View → View → Type 0
 MemberRose first second old new =
     (first ≡ second) × Rose (old.faults (second + 1)) (new.faults (second + 1))
 
--- why no array was made: a disk is there, or one failed
+-- why no array was made: a disk is there, or one failed; where a member did, disk 0 still has the
+-- size that it had
 abbrev pub CreateDenied : Geometry → CreateFault → View → View → Type 0
 CreateDenied g (creating.Exists disk) old new = IsLowest g old disk
 CreateDenied g creating.LogFault old new = Rose (old.faults 0) (new.faults 0)
 CreateDenied g (creating.MemberFault first second) old new =
-    (second < g.members) × MemberRose first second old new
+    (second < g.members) × MemberRose first second old new × (new.sizes 0 ≡ old.sizes 0)
 
 -- over disks that hold a state, where disk 0 didn't fail and no member did but one that is out,
 -- only memory is wanting

@@ -7,8 +7,8 @@ use Rattle.trap_cli.specs.declared.command.Command.{Command}
 use Rattle.trap_cli.specs.declared.command.Command.TheVariants.{Create, Session, History}
 
 -- the words are `session` alone
-abbrev pub IsSession : List (String Global) → Type 0
-IsSession words = map string_bytes words ≡ codes "session" ∷ []
+abbrev pub IsSessionWord : List (String Global) → Type 0
+IsSessionWord words = map string_bytes words ≡ codes "session" ∷ []
 
 -- the words are `history` alone
 abbrev pub IsHistory : List (String Global) → Type 0
@@ -29,18 +29,18 @@ AreNumbers words asked =
 -- the words are `create` and these nine numbers
 pub record IsCreate (words : List (String Global)) (asked : Asked) : Type 0 where
   pub first : String Global
-  pub behind : List (String Global)
-  pub parts : words ≡ first ∷ behind
+  pub others : List (String Global)
+  pub parts : words ≡ first ∷ others
   pub create : string_bytes first ≡ codes "create"
-  pub numbers : AreNumbers behind asked
+  pub numbers : AreNumbers others asked
 
 -- the words are this command, or none
 abbrev pub IsCommand : Option Command → List (String Global) → Type 0
-IsCommand (Some Session) words = IsSession words
+IsCommand (Some Session) words = IsSessionWord words
 IsCommand (Some History) words = IsHistory words
 IsCommand (Some (Create asked)) words = IsCreate words asked
 IsCommand None words =
-    (IsSession words → ⊥) × (IsHistory words → ⊥) × ((asked : Asked) → IsCreate words asked → ⊥)
+    (IsSessionWord words → ⊥) × (IsHistory words → ⊥) × ((asked : Asked) → IsCreate words asked → ⊥)
 
 abbrev pub command_session : Option Command
 command_session = Some Session

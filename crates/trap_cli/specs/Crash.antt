@@ -14,7 +14,7 @@ use Rattle.trap_script.specs.Lines.{lines}
 use Rattle.trap_script.specs.Walk.{state_after, reply_texts}
 use Rattle.trap_array.specs.Holding.{Holds, HoldsBy}
 use Rattle.trap_array.specs.Gone.{IsRemoved}
-use Rattle.trap_array.specs.Creating.{IsLowest, NoneIsThere, Creates}
+use Rattle.trap_array.specs.Creating.{IsLowest, NoneIsThere, Creates, MembersFirst}
 use Rattle.trap_array.specs.Mounting.{SameHead}
 use Rattle.trap_cli.specs.Ended.{last_line, created_line}
 use Rattle.trap_cli.specs.Creating.{HoldsNew}
@@ -82,12 +82,13 @@ HistoryLeaves g s old p disks =
     ⊎ ((IsFaultFront p ⊎ IsHistoryFront s p) × HoldsSince g old disks s)
 
 -- Where these bytes were said: no disk changed where a number breaks its limit, or a disk of the
--- array was there. Otherwise disk 0 is no log, or the disks hold the new array; they hold it whole
--- where the whole line was said.
+-- array was there. Otherwise disk 0 is no log, or the disks hold the new array, and disk 0 is as it
+-- was until each member's disk is new; they hold the array whole where the whole line was said.
 pub record CreateLeaves (asked : Asked) (old : View) (p : List ℕ) (disks : Disks) : Type 0 where
   pub broken : (field : Field) → first_broken asked ≡ Some field → LeftOnEntry old disks
   pub there : (g : Geometry) (d : ℕ) → HasNumbers g asked → IsLowest g old d → LeftOnEntry old disks
-  pub made : (g : Geometry) → HasNumbers g asked → NoneIsThere g old → Creates g old.now.disks disks
+  pub made : (g : Geometry) → HasNumbers g asked → NoneIsThere g old
+      → Creates g old.now.disks disks × MembersFirst g old.now.disks disks
   pub whole : (g : Geometry) (rest : List ℕ) → HasNumbers g asked → NoneIsThere g old
       → p ≡ created_line asked.id ++ rest
       → HoldsNew g disks

@@ -7,7 +7,7 @@ use Rattle.trap_model.specs.declared.asked.Asked.{Asked}
 use Rattle.trap_model.specs.declared.numbers.Geometry.{Geometry}
 use Rattle.trap_format.specs.Checked.{HasNumbers}
 use Rattle.trap_array.specs.Holding.{HoldsBy}
-use Rattle.trap_array.specs.Creating.{Creates, fresh_head}
+use Rattle.trap_array.specs.Creating.{Creates, MembersFirst, fresh_head}
 use Rattle.trap_mount.specs.declared.fault.CreateFault.{CreateFault}
 use Rattle.trap_mount.specs.declared.fault.CreateFault.TheVariants as creating
 use Rattle.trap_cli.specs.Ended.{created_line}
@@ -34,12 +34,14 @@ pub record IsCreatedUnsaid (asked : Asked) (old now : Contents) : Type 0 where
   pub part : SaysPart (created_line asked.id) old now
   pub holds : HoldsNew g now.disks
 
--- a disk failed: disk 0 is no log, or the disks hold the new array; nothing was said
+-- A disk failed: disk 0 is no log, or the disks hold the new array, and disk 0 is as it was until
+-- each member's disk is new. Nothing was said.
 pub record IsUnfinished (asked : Asked) (old now : Contents) : Type 0 where
   pub g : Geometry
   pub numbers : HasNumbers g asked
   pub said : now.said ≡ old.said
   pub disks : Creates g old.disks now.disks
+  pub order : MembersFirst g old.disks now.disks
 
 -- nothing was made where a disk was there already; else a disk failed
 abbrev pub NotCreatedSaid : Asked → CreateFault → Contents → Contents → Type 0

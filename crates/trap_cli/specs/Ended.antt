@@ -7,7 +7,6 @@ use Rattle.trap_mount.specs.declared.fault.CreateFault.TheVariants as creating
 use Rattle.trap_mount.specs.declared.fault.MountFault.{MountFault}
 use Rattle.trap_mount.specs.declared.fault.MountFault.TheVariants as mounting
 use Rattle.trap_array.specs.declared.fault.Denied.TheVariants as denied
-use Rattle.trap_array.specs.Mounting.{is_refusal}
 use Rattle.trap_session.specs.declared.outcome.SessionFault.{SessionFault}
 use Rattle.trap_session.specs.declared.outcome.SessionFault.TheVariants as serving
 use Rattle.trap_cli.specs.declared.outcome.Ended.{Ended}
@@ -116,13 +115,24 @@ is_create_refusal (creating.Exists disk) = true
 is_create_refusal creating.LogFault = false
 is_create_refusal (creating.MemberFault first second) = false
 
--- a refusal for what was asked or for what stands on the disks: nothing was written
-abbrev pub is_refused : Ended → Bool
-is_refused Done = false
-is_refused Usage = true
-is_refused (BadGeometry field) = true
-is_refused (NotCreated why) = is_create_refusal why
-is_refused (NotMounted why) = is_refusal why
-is_refused (Stopped why) = false
-is_refused Port = false
-is_refused Memory = false
+-- mounting that ended so wrote nothing: only a fault of disk 0 may leave a head half put
+abbrev pub leaves_log : MountFault → Bool
+leaves_log mounting.NotAnArray = true
+leaves_log (mounting.BadVersion version) = true
+leaves_log (mounting.WrongMember member) = true
+leaves_log (mounting.TooManyLost first second) = true
+leaves_log (mounting.Damaged offset) = true
+leaves_log mounting.LogFault = false
+leaves_log (mounting.MemberFault first second) = true
+leaves_log mounting.OutOfMemory = true
+
+-- no disk changed: the run was refused, or mounting failed and disk 0 didn't
+abbrev pub leaves_disks : Ended → Bool
+leaves_disks Done = false
+leaves_disks Usage = true
+leaves_disks (BadGeometry field) = true
+leaves_disks (NotCreated why) = is_create_refusal why
+leaves_disks (NotMounted why) = leaves_log why
+leaves_disks (Stopped why) = false
+leaves_disks Port = false
+leaves_disks Memory = false

@@ -1,5 +1,5 @@
 -- What a run changes on the disks, and what it leaves as it was.
-use Rattle.std.specs.Prelude.{◌≡◌, ◌≢◌, ◌⊎◌, ℕ, ◌+◌, ◌<◌, Option, Some, None, IsTrue}
+use Rattle.std.specs.Prelude.{◌≡◌, ◌⊎◌, ℕ, ◌+◌, ◌<◌, Option, Some, None, IsTrue}
 use Rattle.trap_bank.specs.Faults.{Rose}
 use Rattle.trap_bank.specs.Disks.{Contents, Disks, View, Differs}
 use Rattle.trap_bank.specs.Steps.{Steps, Same}
@@ -13,7 +13,7 @@ use Rattle.trap_array.specs.Areas.{MayTouch}
 use Rattle.trap_array.specs.Calls.{Mounted}
 use Rattle.trap_mount.specs.CreateEnds.{StaysBeyond}
 use Rattle.trap_array.specs.Holding.{HoldsBy}
-use Rattle.trap_array.specs.Mounting.{HasHeader, HasFound, MayPutHead}
+use Rattle.trap_array.specs.Mounting.{HasFound, MayPutHead}
 use Rattle.trap_cli.specs.declared.command.Command.{Command}
 use Rattle.trap_cli.specs.declared.command.Command.TheVariants.{Create, Session, History}
 
@@ -44,23 +44,18 @@ MayChange (Some Session) v w old new = MayPutHead v w old new ⊎ InMounted v w 
 MayChange (Some History) v w old new = MayPutHead v w old new
 MayChange (Some (Create asked)) v w old new = InAsked asked old new
 
--- the disk is neither the log nor a member of the array whose header stands on disk 0
-abbrev pub IsBesideMounted : View → ℕ → Type 0
-IsBesideMounted old e =
-    (e ≢ 0) × (IsTrue old.tells → (g : Geometry) → HasHeader g old.now.disks → g.members < e)
-
--- the disk is none of the array: of the one on the disks, or for `create` of the one asked for
-abbrev pub IsBeside : Option Command → View → ℕ → Type 0
-IsBeside None old e = Unit {0}
-IsBeside (Some Session) old e = IsBesideMounted old e
-IsBeside (Some History) old e = IsBesideMounted old e
-IsBeside (Some (Create asked)) old e = (g : Geometry) → HasNumbers g asked → g.members < e
+-- the command makes no such disk: `create` those of the array asked for, the others none
+abbrev pub MakesNone : Option Command → ℕ → Type 0
+MakesNone None e = Unit {0}
+MakesNone (Some Session) e = Unit {0}
+MakesNone (Some History) e = Unit {0}
+MakesNone (Some (Create asked)) e = (g : Geometry) → HasNumbers g asked → g.members < e
 
 -- Nothing changes but what the command may change, at the end and at any moment, whatever the disks
--- hold. Whether the bank tells or not, no disk beside the array has another size.
+-- hold. Whether the bank tells or not, no disk has another size but one that the command makes.
 pub record Frames (command : Option Command) (old new : View) : Type 0 where
   pub changes : ChangesBy (MayChange command old new) old new
-  pub sizes : (e : ℕ) → IsBeside command old e → new.sizes e ≡ old.sizes e
+  pub sizes : (e : ℕ) → MakesNone command e → new.sizes e ≡ old.sizes e
 
 -- no disk changed, at the end or at any moment
 pub record ChangesNothing (old new : View) : Type 0 where

@@ -2,19 +2,20 @@
 use Rattle.std.specs.Prelude.{◌≡◌, ◌⊎◌, ℕ, ◌++◌, List, [], Option, Some, None, IsTrue, Bool, true, false}
 use Rattle.trap_bank.specs.Faults.{Rose}
 use Rattle.trap_bank.specs.Disks.{View}
-use Rattle.trap_bank.specs.Steps.{Steps, SpokePart}
+use Rattle.trap_bank.specs.Steps.{Steps}
 use Rattle.trap_bank.specs.Stream.{Stream}
 use Rattle.trap_model.specs.declared.numbers.Geometry.{Geometry}
 use Rattle.trap_format.specs.Checked.{first_broken, HasNumbers}
 use Rattle.trap_format.specs.declared.limits.Field.{Field}
 use Rattle.trap_array.specs.Creating.{IsLowest}
-use Rattle.trap_array.specs.Mounting.{IsNoLog}
+use Rattle.trap_array.specs.Mounting.{IsNoLog, MayPutHead}
 use Rattle.trap_mount.specs.declared.fault.CreateFault.TheVariants.{Exists}
+use Rattle.trap_mount.specs.declared.fault.MountFault.{MountFault}
 use Rattle.trap_mount.specs.declared.fault.MountFault.TheVariants.{NotAnArray}
 use Rattle.trap_session.specs.Serving.{Took}
-use Rattle.trap_cli.specs.Ended.{status_of, last_line, is_refused}
-use Rattle.trap_cli.specs.Session.{GoesByLines}
-use Rattle.trap_cli.specs.Frame.{Frames, ChangesNothing, StaysHeld}
+use Rattle.trap_cli.specs.Ended.{status_of, last_line, leaves_disks}
+use Rattle.trap_cli.specs.Session.{GoesByLines, MountsOnly}
+use Rattle.trap_cli.specs.Frame.{Frames, ChangesBy, ChangesNothing, StaysHeld}
 use Rattle.trap_cli.specs.Cause.{CauseOf}
 use Rattle.trap_cli.specs.Said.{SaidAndHeld}
 use Rattle.trap_cli.specs.Crash.{LeavesNow, LeavesWithFront}
@@ -31,13 +32,6 @@ pub record SaysLast (line before : List ℕ) (old new : View) : Type 0 where
   pub said : new.now.said ≡ before ++ part
   pub port : (rest ≡ []) ⊎ Rose old.port_faults new.port_faults
 
--- the line was said, or a first part of it, and nothing else was done
-pub record Spoken (line : List ℕ) (old new : View) : Type 0 where
-  pub steps : Steps old new (SpokePart line) (SpokePart line)
-  pub sizes : (e : ℕ) → new.sizes e ≡ old.sizes e
-  pub disks : IsTrue old.tells → new.now.disks ≡ old.now.disks
-  pub last : IsTrue old.tells → SaysLast line old.now.said old new
-
 -- The source is read only by a session, and only when its array is mounted and its memory taken.
 abbrev pub reads_input : Option Command → Ended → Bool
 reads_input None ended = false
@@ -51,6 +45,32 @@ reads_input (Some Session) (NotMounted why) = false
 reads_input (Some Session) (Stopped why) = true
 reads_input (Some Session) Port = false
 reads_input (Some Session) Memory = false
+
+-- the array was mounted and no line of the input was read: `history`, and a session without memory
+abbrev pub only_mounts : Option Command → Ended → Bool
+only_mounts None ended = false
+only_mounts (Some (Create asked)) ended = false
+only_mounts (Some Session) Done = false
+only_mounts (Some Session) Usage = false
+only_mounts (Some Session) (BadGeometry field) = false
+only_mounts (Some Session) (NotCreated why) = false
+only_mounts (Some Session) (NotMounted why) = false
+only_mounts (Some Session) (Stopped why) = false
+only_mounts (Some Session) Port = false
+only_mounts (Some Session) Memory = true
+only_mounts (Some History) Done = true
+only_mounts (Some History) Usage = false
+only_mounts (Some History) (BadGeometry field) = false
+only_mounts (Some History) (NotCreated why) = false
+only_mounts (Some History) (NotMounted why) = false
+only_mounts (Some History) (Stopped why) = false
+only_mounts (Some History) Port = true
+only_mounts (Some History) Memory = false
+
+-- where mounting ended in a fault, nothing was written, or the head that was found
+abbrev pub LeavesUnmounted : Ended → View → View → Type 0
+LeavesUnmounted ended old new =
+    (why : MountFault) → ended ≡ NotMounted why → ChangesBy (MayPutHead old new) old new
 
 -- the command ended before it said anything
 abbrev pub ends_silent : Ended → Bool
@@ -78,7 +98,8 @@ pub record CommandOutcome (command : Option Command) (ended : Ended) (old new : 
     (from to : Stream) : Type 0 where
   pub cause : CauseOf command ended old new from to
   pub first : IsRefusedFirst command ended old
-  pub refused : is_refused ended ≡ true → ChangesNothing old new
+  pub unchanged : leaves_disks ended ≡ true → ChangesNothing old new
+  pub unmounted : LeavesUnmounted ended old new
   pub frame : Frames command old new
   pub stops : SaidAndHeld command ended old new.now from to
   pub unread : reads_input command ended ≡ false → to ≡ from
@@ -102,7 +123,8 @@ pub record EndsAs (status : ℕ) (command : Option Command) (ended : Ended) (old
   pub number : status ≡ status_of ended
   pub cause : CauseOf command ended old new from to
   pub first : IsRefusedFirst command ended old
-  pub refused : is_refused ended ≡ true → ChangesNothing old new
+  pub unchanged : leaves_disks ended ≡ true → ChangesNothing old new
+  pub unmounted : LeavesUnmounted ended old new
   pub unread : reads_input command ended ≡ false → to ≡ from
   pub took : Took from to
   pub silent : ends_silent ended ≡ true → IsTrue old.tells
@@ -110,9 +132,11 @@ pub record EndsAs (status : ℕ) (command : Option Command) (ended : Ended) (old
   pub told : IsTrue old.tells → ThenLastLine command ended old new from to
 
 -- A run of the command ended in one of the ways. Where the input was read, its lines were answered
--- one after another, each reply in one call of the bank.
+-- one after another, each reply in one call of the bank. Where the array was mounted and no line
+-- was read, no disk changed after mounting.
 pub record RunOutcome {B : Type 0} (view : B → View) (status : ℕ) (command : Option Command)
     (first last : B) (from to : Stream) : Type 0 where
   pub ended : Ended
   pub ends : EndsAs status command ended (view first) (view last) from to
-  pub lines : reads_input command ended ≡ true → GoesByLines view ended first last from
+  pub lines : reads_input command ended ≡ true → GoesByLines view ended first last from to
+  pub mounted : only_mounts command ended ≡ true → MountsOnly view ended first last

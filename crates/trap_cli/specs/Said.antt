@@ -4,15 +4,17 @@ use Rattle.trap_bank.specs.Disks.{Contents, Disks, View}
 use Rattle.trap_bank.specs.Calls.{SaysPart}
 use Rattle.trap_bank.specs.Stream.{Stream}
 use Rattle.trap_bank.specs.Steps.{Always}
+use Rattle.trap_array.specs.Areas.{MayTouch}
 use Rattle.trap_array.specs.Calls.{Mounted, StandsFor}
 use Rattle.trap_model.specs.ArrayStep.{step}
 use Rattle.trap_model.specs.declared.numbers.Geometry.{Geometry}
 use Rattle.trap_model.specs.declared.history.State.{State}
 use Rattle.trap_array.specs.Holding.{Holds}
 use Rattle.trap_array.specs.Mounting.{is_refusal}
+use Rattle.trap_session.specs.Changing.{ChangesOnly}
 use Rattle.trap_session.specs.Store.{Store, array_store, NamesBad}
 use Rattle.trap_session.specs.Leaving.{HasRecordsMore}
-use Rattle.trap_session.specs.Serving.{StopsDone, StopsAfter, StopsAs, StopsBy, TookQuit}
+use Rattle.trap_session.specs.Serving.{StopsDone, StopsAfter, StopsAs, StopsBy, StandsAtEnd, Took, TookQuit}
 use Rattle.trap_cli.specs.Creating.{CreateSaid}
 use Rattle.trap_cli.specs.History.{history_text}
 use Rattle.trap_cli.specs.declared.command.Command.{Command}
@@ -110,3 +112,13 @@ abbrev pub ServedBad : Mounted → Ended → View → Type 0
 ServedBad a (Stopped why) new =
     (b : Mounted) × (b.g ≡ a.g) × HasRecordsMore a.index b.index × NamesBad b why new
 ServedBad a ended new = Unit {0}
+
+-- what a mounted session leaves: no size changed, nor any byte but what calls of the array may
+-- touch; a state that was held is held; the bytes taken are the next of the source's
+pub record LeavesMounted (a : Mounted) (ended : Ended) (old new : View)
+    (from to : Stream) : Type 0 where
+  pub sizes : (e : ℕ) → new.sizes e ≡ old.sizes e
+  pub changes : ChangesOnly (MayTouch a) old new
+  pub held : StandsAtEnd a old new
+  pub took : Took from to
+  pub bad : ServedBad a ended new

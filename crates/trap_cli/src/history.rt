@@ -1,34 +1,36 @@
 //! The command `history`.
 
-ghost use Rattle.std.specs.Prelude.{◌≡◌, ◌+◌, ◌≤◌, ◌++◌, length, take, IfOk, OnErr};
+ghost use Rattle.std.specs.Prelude.{◌≡◌, ◌+◌, ◌≤◌, ◌++◌, length, take, true, IfOk, OnErr};
 ghost use Rattle.trap_bank.specs.Faults.{Rose};
 ghost use Rattle.trap_bank.specs.Steps.{Steps, SpokePart};
 ghost use Rattle.trap_bank.specs.Stream.{Stream};
+ghost use Rattle.trap_index.specs.Indexed.{last_seq};
 ghost use Rattle.trap_cli.specs.Command.{command_history};
 ghost use Rattle.trap_cli.specs.History.{word, mark};
 ghost use Rattle.trap_cli.specs.Listing.{item_line, KeepsDisks, Flushed, Lists, HasListed};
-ghost use Rattle.trap_cli.specs.Run.{CommandOutcome};
+ghost use Rattle.trap_cli.specs.Session.{MountsOnly};
+ghost use Rattle.trap_cli.specs.Run.{CommandOutcome, only_mounts};
 
-use crate::last::{put, put_number};
 use crate::outcome::Ended;
 use std::alloc::Global;
 use trap_array::Array;
 use trap_bank::{Bank, Failed};
 use trap_index::Item;
+use trap_model::RECORD_HEADER_BYTES;
+use trap_script::text::{put, put_number};
 
-/// So many bytes of lines are said at once, at most.
+/// One call of the port has at most this many bytes of lines.
 const PIECE_BYTES: usize = 4096;
 
-/// A line has at most that many bytes.
+/// Four numbers of at most 20 digits with a space after each, the mark, and a line feed.
 const LINE_BYTES: usize = 86;
-
-/// The bytes of a record's header.
-const HEADER_BYTES: u64 = 26;
 
 /// Mounts the array, and says a line for each retained entry. All but the last line of the run.
 pub fn run_history<B: Bank>(alloc: Global, bank: &mut B) -> Ended
     ensures outcome { (from : Stream) → CommandOutcome command_history result
         (B.view bank.old) (B.view bank.new) from from }
+    ensures mounted { only_mounts command_history result ≡ true
+        → MountsOnly B.view result bank.old bank.new }
 {
     match Array::mount(alloc, bank) {
         Ok(array) => match say_lines(&array, bank) {
@@ -41,6 +43,8 @@ pub fn run_history<B: Bank>(alloc: Global, bank: &mut B) -> Ended
 
 // Says the lines in their order, many at once.
 fn say_lines<B: Bank>(array: &Array, bank: &mut B) -> Result<(), Failed>
+    requires first { array.now.index.first ≡ array.now.head.first }
+    requires last { last_seq array.now.index ≡ array.now.head.last }
     ensures steps { Steps (B.view bank.old) (B.view bank.new)
         (Lists array.now) (HasListed array.now result) }
     ensures disks { KeepsDisks (B.view bank.old) (B.view bank.new) }
@@ -51,7 +55,6 @@ fn say_lines<B: Bank>(array: &Array, bank: &mut B) -> Result<(), Failed>
     let mut piece = [0u8; PIECE_BYTES];
     let mut len = 0;
     for before in span.first..span.last {
-        // Every number after the first one is retained, up to the last.
         if let Some(item) = array.entry(before + 1) {
             len = make_room(bank, &piece, len)?;
             len = put_line(&mut piece, len, before + 1, &item);
@@ -87,7 +90,7 @@ fn put_line(out: &mut [u8], at: usize, seq: u64, item: &Item) -> usize
     ensures end { result ≤ at + 86 }
     ensures so_far { take result out.new ≡ take at out.old ++ item_line seq item.now }
 {
-    let size = HEADER_BYTES + u64::from(item.plen) + u64::from(item.slen);
+    let size = RECORD_HEADER_BYTES + u64::from(item.plen) + u64::from(item.slen);
     let at = put_word(out, at, seq);
     let at = put_word(out, at, item.time);
     let at = put_word(out, at, u64::from(item.block));
@@ -95,7 +98,6 @@ fn put_line(out: &mut [u8], at: usize, seq: u64, item: &Item) -> usize
     put_mark(out, at, item.snap)
 }
 
-// Writes the number and a space.
 fn put_word(out: &mut [u8], at: usize, number: u64) -> usize
     requires { at + 21 ≤ length out.old }
     ensures end { result ≤ at + 21 }
@@ -105,7 +107,6 @@ fn put_word(out: &mut [u8], at: usize, number: u64) -> usize
     put(out, at, b" ")
 }
 
-// Ends the line.
 fn put_mark(out: &mut [u8], at: usize, is_snap: bool) -> usize
     requires { at + 2 ≤ length out.old }
     ensures end { result ≤ at + 2 }

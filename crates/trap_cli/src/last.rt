@@ -1,12 +1,12 @@
 //! The texts of a run: its last line, and what `create` says.
 
-ghost use Rattle.std.specs.Prelude.{◌≡◌, ◌+◌, ◌≤◌, ◌++◌, length, take, decimal, codes};
+ghost use Rattle.std.specs.Prelude.{◌≡◌, ◌+◌, ◌≤◌, ◌++◌, length, take, codes};
 ghost use Rattle.trap_cli.specs.Ended.{status_of, create_status, mount_status, session_status, field_name, pair, create_text, mount_text, session_line, last_line, created_line};
 
 use crate::outcome::Ended;
-use itoa::Buffer;
 use trap_array::{CreateFault, Denied, MountFault};
 use trap_format::Field;
+use trap_script::text::{put, put_number};
 use trap_session::SessionFault;
 
 /// The exit status.
@@ -64,26 +64,6 @@ fn session_status(why: SessionFault) -> u8
         SessionFault::WriteFault => 9,
         SessionFault::TooLong => 12,
     }
-}
-
-/// Writes the bytes at a place, and answers the place after them.
-pub fn put(out: &mut [u8], at: usize, bytes: &[u8]) -> usize
-    requires { at + length bytes.now ≤ length out.old }
-    ensures end { result ≡ at + length bytes.now }
-    ensures so_far { take result out.new ≡ take at out.old ++ bytes.now }
-{
-    out[at..at + bytes.len()].copy_from_slice(bytes);
-    at + bytes.len()
-}
-
-/// Writes the number in decimal digits, at most twenty.
-pub fn put_number(out: &mut [u8], at: usize, number: u64) -> usize
-    requires { at + 20 ≤ length out.old }
-    ensures end { result ≤ at + 20 }
-    ensures so_far { take result out.new ≡ take at out.old ++ decimal number }
-{
-    let mut digits = Buffer::new();
-    put(out, at, digits.format(number).as_bytes())
 }
 
 // Writes both numbers with a space between them.

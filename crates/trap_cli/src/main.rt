@@ -27,6 +27,14 @@ fn no_memory(rt: &HostRuntime) -> u8 {
     10
 }
 
+// The word of these bytes, or the status where they aren't UTF-8.
+fn word_in(bytes: Vec<u8>) -> Result<Option<String>, u8> {
+    match String::from_utf8(bytes) {
+        Ok(word) => Ok(Some(word)),
+        Err(_) => Err(2),
+    }
+}
+
 // The word of that number, none after the last, or the status that says why there are none.
 fn word_of(rt: &HostRuntime, number: usize) -> Result<Option<String>, u8> {
     let mut room = 256usize;
@@ -38,10 +46,7 @@ fn word_of(rt: &HostRuntime, number: usize) -> Result<Option<String>, u8> {
         match rt.arg(number, bytes.as_mut_slice()) {
             Ok(len) => {
                 bytes.truncate(len);
-                return match String::from_utf8(bytes) {
-                    Ok(word) => Ok(Some(word)),
-                    Err(_) => Err(2),
-                };
+                return word_in(bytes);
             }
             Err(FillError::TooLong) => room = room.saturating_add(room),
             Err(FillError::NotPresent) => return Ok(None),
@@ -55,13 +60,11 @@ fn word_of(rt: &HostRuntime, number: usize) -> Result<Option<String>, u8> {
 fn words_of(rt: &HostRuntime) -> Result<Vec<String>, u8> {
     let mut words = Vec::new(rt.alloc());
     for number in 1..usize::MAX {
-        match word_of(rt, number)? {
-            Some(word) => {
-                if words.push(word).is_err() {
-                    return Err(no_memory(rt));
-                }
-            }
-            None => break,
+        let Some(word) = word_of(rt, number)? else {
+            break;
+        };
+        if words.push(word).is_err() {
+            return Err(no_memory(rt));
         }
     }
     Ok(words)

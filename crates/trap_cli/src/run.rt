@@ -2,13 +2,13 @@
 
 ghost use Rattle.std.specs.Prelude.{◌≡◌, ◌↔◌, ◌^◌, ◌≤◌, Option, None, true};
 ghost use Rattle.trap_bank.specs.Disks.{Contents};
-ghost use Rattle.trap_cli.specs.Command.{IsCommand, IsSession};
+ghost use Rattle.trap_cli.specs.Command.{IsCommand};
 ghost use Rattle.trap_cli.specs.declared.command.Command.{Command};
 ghost use Rattle.trap_cli.specs.Ended.{last_line};
 ghost use Rattle.trap_cli.specs.Crash.{CommandLeaves};
 ghost use Rattle.trap_cli.specs.Completes.{Completes};
-ghost use Rattle.trap_cli.specs.Session.{SaysInOne, AnswersMounted};
-ghost use Rattle.trap_cli.specs.Run.{CommandOutcome, RunOutcome, reads_input};
+ghost use Rattle.trap_cli.specs.Session.{SaysInOne, AnswersMounted, MountsOnly};
+ghost use Rattle.trap_cli.specs.Run.{CommandOutcome, RunOutcome, reads_input, only_mounts};
 ghost use Rattle.trap_cli.specs.Frame.{Frames, StaysHeld};
 
 use crate::command::{Command, read_command};
@@ -45,7 +45,10 @@ fn run_command<B: Bank, S: Source>(
     ensures outcome { CommandOutcome command.now result (B.view bank.old) (B.view bank.new)
         (S.stream source.old) (S.stream source.new) }
     ensures lines { reads_input command.now result ≡ true
-        → AnswersMounted B.view result bank.old bank.new (S.stream source.old) }
+        → AnswersMounted B.view result bank.old bank.new
+        (S.stream source.old) (S.stream source.new) }
+    ensures mounted { only_mounts command.now result ≡ true
+        → MountsOnly B.view result bank.old bank.new }
 {
     match command {
         Some(Command::Create(asked)) => run_create(bank, asked),

@@ -2,14 +2,12 @@
 
 ghost use Rattle.std.specs.Prelude.{◌≡◌, ◌+◌, ◌^◌, ◌<◌, ◌≤◌, ℕ, true, false};
 ghost use Rattle.trap_bank.specs.Steps.{Steps};
-ghost use Rattle.trap_array.specs.Areas.{MayTouch};
 ghost use Rattle.trap_array.specs.Calls.{IsReady};
-ghost use Rattle.trap_session.specs.Changing.{ChangesOnly};
-ghost use Rattle.trap_session.specs.Serving.{Serves, StandsAtEnd, Took};
+ghost use Rattle.trap_session.specs.Serving.{Serves};
 ghost use Rattle.trap_cli.specs.Command.{command_session};
-ghost use Rattle.trap_cli.specs.Said.{ServedSaid, ServedCause, ServedBad};
-ghost use Rattle.trap_cli.specs.Session.{AnswersLines, AnswersMounted};
-ghost use Rattle.trap_cli.specs.Run.{CommandOutcome, reads_input};
+ghost use Rattle.trap_cli.specs.Said.{ServedSaid, ServedCause, LeavesMounted};
+ghost use Rattle.trap_cli.specs.Session.{AnswersLines, AnswersMounted, MountsOnly};
+ghost use Rattle.trap_cli.specs.Run.{CommandOutcome, reads_input, only_mounts};
 
 use crate::outcome::Ended;
 use std::alloc::Global;
@@ -23,7 +21,10 @@ pub fn run_session<B: Bank, S: Source>(alloc: Global, bank: &mut B, source: &mut
     ensures outcome { CommandOutcome command_session result (B.view bank.old) (B.view bank.new)
         (S.stream source.old) (S.stream source.new) }
     ensures lines { reads_input command_session result ≡ true
-        → AnswersMounted B.view result bank.old bank.new (S.stream source.old) }
+        → AnswersMounted B.view result bank.old bank.new
+        (S.stream source.old) (S.stream source.new) }
+    ensures mounted { only_mounts command_session result ≡ true
+        → MountsOnly B.view result bank.old bank.new }
 {
     match Array::mount(alloc, bank) {
         Ok(array) => answer_lines(alloc, array, bank, source),
@@ -38,7 +39,7 @@ fn answer_lines<B: Bank, S: Source>(
     bank: &mut B,
     source: &mut S,
 ) -> Ended
-    requires going { array.is_stopped ≡ false }
+    requires running { array.is_stopped ≡ false }
     requires ready { IsReady array (B.view bank.old) }
     requires below { (S.stream source.old).given ≤ 2 ^ 62 }
     ensures steps { Steps (B.view bank.old) (B.view bank.new)
@@ -46,14 +47,12 @@ fn answer_lines<B: Bank, S: Source>(
         (ServedSaid array (B.view bank.old) result (S.stream source.old) (S.stream source.new)) }
     ensures cause { ServedCause array result (B.view bank.old) (B.view bank.new)
         (S.stream source.old) (S.stream source.new) }
-    ensures sizes { (e : ℕ) → (B.view bank.new).sizes e ≡ (B.view bank.old).sizes e }
-    ensures changes { ChangesOnly (MayTouch array) (B.view bank.old) (B.view bank.new) }
+    ensures leaves { LeavesMounted array result (B.view bank.old) (B.view bank.new)
+        (S.stream source.old) (S.stream source.new) }
     ensures lines { reads_input command_session result ≡ true
-        → AnswersLines B.view array result bank.old bank.new (S.stream source.old) }
-    ensures held { StandsAtEnd array (B.view bank.old) (B.view bank.new) }
-    ensures took { Took (S.stream source.old) (S.stream source.new) }
-    ensures bad { ServedBad array result (B.view bank.new) }
-    ensures idle { result ≡ Ended.Memory → ((B.view bank.new).now ≡ (B.view bank.old).now)
+        → AnswersLines B.view array result bank.old bank.new
+        (S.stream source.old) (S.stream source.new) }
+    ensures idle { result ≡ Ended.Memory → (bank.new ≡ bank.old)
         × (S.stream source.new ≡ S.stream source.old) }
 {
     let g = array.geometry();

@@ -94,5 +94,9 @@ fn what_was_replied_outlives_a_stop_at_any_call(rt: HostRuntime) -> Result<(), F
             }
         }
     }
+    // The longest fuse outlasts a whole session: no call of it is left out above.
+    let mut bank = with_array(&rt, rt.alloc())?;
+    bank.fuse(129);
+    assert!(rt; ended(rt.alloc(), &mut bank, "session", LINES, 4096, 0)? == 0);
     Ok(())
 }

@@ -25,7 +25,7 @@ returns-then-eq-3 c =
     let is = slice_eq-Decides Decides-eqb c.as_str-then-words-eq10.result.now (codes "create") c.eq-then-words-eq10.result c.eq-then-words-eq10.ensures in
     record {
       first = word;
-      behind = _;
+      others = _;
       parts = first_word c.args.words.now word 9 c.if-words-eq10.true c.index-words-0-then-words-eq10.is;
       create = sym c.as_str-then-words-eq10.ensures.value ∙ is.0 c.if-eq-3.true;
       numbers = c.in_ok-asked.ensures.some;

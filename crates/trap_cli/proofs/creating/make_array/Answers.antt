@@ -9,7 +9,7 @@ pub returns-in-Err : goal.returns-in-Err
 returns-in-Err g c = record {
   outcome = λ asked from kept numbers. uncreated_outcome asked c.args.g.now (g.B.Bank.view c.args.bank.now) (g.B.Bank.view c.create.new.bank) from
       c.create.result c.in-Err.why (g.met.B.Bank.lawful c.args.bank.now) kept numbers c.in-Err.is
-      c.create.ensures.exists c.create.ensures.untouched c.in-Err.ensures.cause c.create.ensures.beside c.create.ensures.making;
+      c.create.ensures.exists c.create.ensures.untouched c.in-Err.ensures.cause c.create.ensures.beside c.create.ensures.making c.create.ensures.order;
 }
 
 pub returns-in-Ok : goal.returns-in-Ok
@@ -21,7 +21,7 @@ returns-in-Ok g c = record {
       let says = subst (λ (id : ℕ). Says {E = Failed} (created_line id) (Ok c.in-Ok.field-0) b after) numbers.id c.in-Ok.ensures in
       created_outcome asked a (g.met.B.Bank.lawful c.args.bank.now) kept c.args.g.now numbers b from
       (none_before c.args.g.now a c.create.result c.in_default.field-0 c.in_default.is c.create.ensures.exists)
-      c.create.ensures.beside c.create.ensures.making after c.in_default.ensures.made (g.met.B.Bank.lawful c.create.new.bank) (Ok c.in-Ok.field-0) says
+      c.create.ensures.beside c.create.ensures.making c.create.ensures.order after c.in_default.ensures.made (g.met.B.Bank.lawful c.create.new.bank) (Ok c.in-Ok.field-0) says
       says.said;
 }
 
@@ -34,6 +34,6 @@ returns-in-Err-say_created g c = record {
       let says = subst (λ (id : ℕ). Says {E = Failed} (created_line id) c.say_created.result b after) numbers.id c.say_created.ensures in
       unsaid_outcome asked a (g.met.B.Bank.lawful c.args.bank.now) kept c.args.g.now numbers b from
       (none_before c.args.g.now a c.create.result c.in_default.field-0 c.in_default.is c.create.ensures.exists)
-      c.create.ensures.beside c.create.ensures.making after c.in_default.ensures.made (g.met.B.Bank.lawful c.create.new.bank) c.say_created.result says
+      c.create.ensures.beside c.create.ensures.making c.create.ensures.order after c.in_default.ensures.made (g.met.B.Bank.lawful c.create.new.bank) c.say_created.result says
       c.in-Err-say_created.ensures.cause;
 }

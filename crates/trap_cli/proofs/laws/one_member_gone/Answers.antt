@@ -2,7 +2,6 @@ use Rattle.std.proofs.Common.{inl}
 use Rattle.trap_model.specs.ArrayStep.{step}
 use Rattle.trap_script.specs.Lines.{lines}
 use Rattle.trap_script.specs.Walk.{state_after}
-use Rattle.trap_cli.specs.declared.command.Command.TheVariants.{Session}
 use Rattle.trap_cli.specs.Command.{command_session}
 use Rattle.trap_cli.proofs.Completing.{run_completes}
 use Rattle.trap_cli.proofs.Gone.{new_but, may_go, gone_after, history_but}

@@ -1,4 +1,3 @@
-use Rattle.std.proofs.Common.{inr}
 use Rattle.trap_cli.specs.Ended.{last_line}
 use Rattle.trap_cli.proofs.Saying.{said_by}
 use Rattle.trap_cli.proofs.run.say_last.Goals as goal
