@@ -12,7 +12,7 @@ use Rattle.trap_format.specs.declared.shape.Shape.{Shape}
 use Rattle.trap_model.specs.Image.{block_of}
 use Rattle.trap_model.specs.Receiver.{xored}
 use Rattle.trap_model.specs.declared.arrival.Arrival.{Arrival}
-use Rattle.trap_replica.specs.OnDisk.{cell_place, home, value_bytes, HoldsBy}
+use Rattle.trap_replica.specs.OnDisk.{cell_place, home, value_bytes, HoldsImageBy}
 use Rattle.trap_replica.specs.Applying.{Leaves, HoldsEither}
 use Rattle.trap_replica.proofs.OneFrame.{home_part, IsHome, home_torn, home_done, block_there, put_new, put_either, leaves_none, leaves_then}
 
@@ -22,12 +22,13 @@ frame_block s image f long inside = get_or-set_same image f.block (xor (block_of
 
 module _ (s : Shape) (block number time : ℕ) (image : List (List ℕ)) where
   abbrev Has : Disks → Type 0
-  Has = HoldsBy s block number time image
+  Has = HoldsImageBy s block number time image
 
   abbrev pub AtHome : Disks → Type 0
   AtHome = IsHome s block number time image
 
-  module _ (a b : View) (at : ℕ) (contents : List ℕ) (is : at ≡ home_at s block) (long : length contents ≡ s.block) (same : IsTrue a.tells → contents ≡ block_of image block) (always : Always a Has) where
+  module _ (a b : View) (at : ℕ) (contents : List ℕ) (is : at ≡ home_at s block) (long : length contents ≡ s.block)
+      (same : IsTrue a.tells → contents ≡ block_of image block) (always : Always a Has) where
     -- while the cell's block is sent home
     pub sent_part : (f : Arrival) → Moves a b (Differs (Within 17 at (length contents))) (Differs (Within 17 at (length contents))) → Leaves a b (HoldsEither s number time image f)
     sent_part f moves = leaves_then a a b Has (HoldsEither s number time image f) (Differs (home s block)) (Differs (home s block))
@@ -70,7 +71,7 @@ module _ (s : Shape) (block number time : ℕ) (image : List (List ℕ)) where
 
     -- and when it is put
     pub put_home : (u : Slots) (r d : View) → Moves r d (PutsIn t value) (IsPut d t u value) → Always r AtHome
-        → (IsTrue r.tells → contents ≡ xor (block_of image f.block) f.parity) → Always d (HoldsBy s f.block seq f.time (xored image f))
+        → (IsTrue r.tells → contents ≡ xor (block_of image f.block) f.parity) → Always d (HoldsImageBy s f.block seq f.time (xored image f))
     put_home u r d moves at_home is w left =
         let from = moves.now w left in
         put_new s block number time image f seq contents next last fits inside sized t from.origin.disks w.disks place (at_home from.origin from.was) (is from.was.told) from.by.disks.differs

@@ -34,7 +34,7 @@ first_gone (suc n) (x ∷ xs) some room =
 whole : {X : Type 0} (len : ℕ) (new rest : List X) → length new ≡ len → take len (new ++ rest) ≡ new
 whole len new rest long = take_at new rest len long
 
--- the slots after the first was moved behind the others
+-- the slots after the first was moved after the others
 pub dropped : {X : Type 0} (count len : ℕ) (items old new frames : List X) → 0 < count → count ≤ len → length items ≡ len → old ≡ items
     → new ≡ drop 1 old ++ take 1 old → take count items ≡ frames
     → take (count - 1) (take len (new ++ drop (length new) items)) ≡ drop 1 frames
@@ -113,4 +113,5 @@ one_more_all P at n len items old new f long room within value moved fits all =
     let ys = set items n f in
     let each : All P ys = All-set P items n f fits all in
     All-same P _ _ (whole len new (drop (length new) ys) size ∙ same)
-    (All-append P (take at ys) _ (All-take P at ys each) (All-append P _ _ (All-drop P (length (drop at ys) - 1) (drop at ys) (All-drop P at ys each)) (All-take P (length (drop at ys) - 1) (drop at ys) (All-drop P at ys each))))
+    (All-append P (take at ys) _ (All-take P at ys each) (All-append P _ _ (All-drop P (length (drop at ys) - 1) (drop at ys) (All-drop P at ys each))
+    (All-take P (length (drop at ys) - 1) (drop at ys) (All-drop P at ys each))))

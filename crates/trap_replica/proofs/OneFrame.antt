@@ -17,7 +17,7 @@ use Rattle.trap_format.specs.declared.shape.Shape.{Shape}
 use Rattle.trap_model.specs.Image.{block_of}
 use Rattle.trap_model.specs.Receiver.{xored}
 use Rattle.trap_model.specs.declared.arrival.Arrival.{Arrival}
-use Rattle.trap_replica.specs.OnDisk.{cell_place, home, value_bytes, HoldsBy}
+use Rattle.trap_replica.specs.OnDisk.{cell_place, home, value_bytes, HoldsImageBy}
 use Rattle.trap_replica.specs.Applying.{Elsewhere, Leaves, HoldsEither}
 
 -- a block ends where the next one begins, or before
@@ -40,7 +40,8 @@ pub cell_fits : (s : Shape) (p : Place) (v : View) → p ≡ cell_place s → Fi
 cell_fits s p v is there = subst (λ (q : Place). Fits v q.disk (q.at + cell_len q)) (sym is) (there.0, there.1, omega (arith, there.2))
 
 -- a write of a block by its place
-pub home_part : (s : Shape) (b at n : ℕ) (v w : View) → at ≡ home_at s b → n ≡ s.block → Moves v w (Differs (Within 17 at n)) (Differs (Within 17 at n)) → Moves v w (Differs (home s b)) (Differs (home s b))
+pub home_part : (s : Shape) (b at n : ℕ) (v w : View) → at ≡ home_at s b → n ≡ s.block → Moves v w (Differs (Within 17 at n)) (Differs (Within 17 at n))
+    → Moves v w (Differs (home s b)) (Differs (home s b))
 home_part s b at n v w is long moves =
     subst (λ (k : ℕ). Moves v w (Differs (Within 17 (home_at s b) k)) (Differs (Within 17 (home_at s b) k))) long
     (subst (λ (k : ℕ). Moves v w (Differs (Within 17 k n)) (Differs (Within 17 k n))) is moves)
@@ -53,11 +54,11 @@ stands_home s t b v w place moves stands = stands_after t (home s b) v w (Differ
 module _ (s : Shape) (block number time : ℕ) (image : List (List ℕ)) where
   -- the disk holds the image, and the cell's block stands at home too
   pub record IsHome (disks : Disks) : Type 0 where
-    pub holds : HoldsBy s block number time image disks
+    pub holds : HoldsImageBy s block number time image disks
     pub there : region disks 17 (home_at s block) s.block ≡ block_of image block
 
   -- whatever lands at home of the cell's block
-  pub home_torn : (x y : Disks) → HoldsBy s block number time image x → Differs (home s block) x y → HoldsBy s block number time image y
+  pub home_torn : (x y : Disks) → HoldsImageBy s block number time image x → Differs (home s block) x y → HoldsImageBy s block number time image y
   home_torn x y holds torn = record {
     id = holds.id;
     header = region_beside 17 (home_at s block) s.block x y 0 32 torn (inl (omega arith)) ∙ holds.header;
@@ -73,7 +74,7 @@ module _ (s : Shape) (block number time : ℕ) (image : List (List ℕ)) where
 
   -- and when it stands there
   pub home_done : (v : View) (at : ℕ) (contents : List ℕ) (x y : Disks) → at ≡ home_at s block → length contents ≡ s.block → contents ≡ block_of image block
-      → HoldsBy s block number time image x → PlacedThrough v 17 at contents x y → IsHome y
+      → HoldsImageBy s block number time image x → PlacedThrough v 17 at contents x y → IsHome y
   home_done v at contents x y is long same holds placed =
       let torn : Differs (Within 17 at (length contents)) x y = placed.placed.differs in
       let here : Differs (home s block) x y = subst (λ (k : ℕ). Differs (Within 17 (home_at s block) k) x y) long (subst (λ (k : ℕ). Differs (Within 17 k (length contents)) x y) is torn) in
@@ -100,7 +101,7 @@ module _ (s : Shape) (block number time : ℕ) (image : List (List ℕ)) where
   header_same x y torn = region_beside 17 32 (cell_len (cell_place s)) x y 0 32 torn (inl (omega arith))
 
   -- a put that left the old value
-  pub put_old : (t : Slots) (x y : Disks) → t.place ≡ cell_place s → IsHome x → Differs (other_slot t) x y → cell_value t.place y ≡ cell_value t.place x → HoldsBy s block number time image y
+  pub put_old : (t : Slots) (x y : Disks) → t.place ≡ cell_place s → IsHome x → Differs (other_slot t) x y → cell_value t.place y ≡ cell_value t.place x → HoldsImageBy s block number time image y
   put_old t x y place at_home differs same =
       let torn = in_cell t x y place differs in
       let holds = at_home.holds in
@@ -119,21 +120,22 @@ module _ (s : Shape) (block number time : ℕ) (image : List (List ℕ)) where
 
   module _ (f : Arrival) (seq : ℕ) (contents : List ℕ) (next : number + 1 ≡ seq) (last : seq ≤ 2 ^ 40) (fits : f.time < 2 ^ 64) (inside : f.block < s.volume) (sized : length f.parity ≡ s.block) where
     -- the frame's block after it
-    changed_block : (x : Disks) → HoldsBy s block number time image x → block_of (xored image f) f.block ≡ xor (block_of image f.block) f.parity
+    changed_block : (x : Disks) → HoldsImageBy s block number time image x → block_of (xored image f) f.block ≡ xor (block_of image f.block) f.parity
     changed_block x holds = get_or-set_same image f.block (xor (block_of image f.block) f.parity) [] (omega (arith, holds.long))
 
     other_block : (b : ℕ) → b ≢ f.block → block_of (xored image f) b ≡ block_of image b
     other_block b other = get_or-set_other image f.block b (xor (block_of image f.block) f.parity) [] other
 
-    changed_size : (x : Disks) (b : ℕ) → HoldsBy s block number time image x → b < s.volume → length (block_of (xored image f) b) ≡ s.block
+    changed_size : (x : Disks) (b : ℕ) → HoldsImageBy s block number time image x → b < s.volume → length (block_of (xored image f) b) ≡ s.block
     changed_size x b holds within = ⊎_elim
-        (λ (same : b ≡ f.block). ap (λ (c : ℕ). length (block_of (xored image f) c)) same ∙ ap length (changed_block x holds) ∙ length-xor (block_of image f.block) f.parity (sized ∙ sym (holds.sized f.block inside)) ∙ holds.sized f.block inside)
+        (λ (same : b ≡ f.block). ap (λ (c : ℕ). length (block_of (xored image f) c)) same ∙ ap length (changed_block x holds)
+        ∙ length-xor (block_of image f.block) f.parity (sized ∙ sym (holds.sized f.block inside)) ∙ holds.sized f.block inside)
         (λ (other : b ≢ f.block). ap length (other_block b other) ∙ holds.sized b within)
         (cases_eq b f.block)
 
     -- a put that wrote the new one
     pub put_new : (t : Slots) (x y : Disks) → t.place ≡ cell_place s → IsHome x → contents ≡ xor (block_of image f.block) f.parity → Differs (other_slot t) x y
-        → cell_value t.place y ≡ Some (value_bytes seq f.time f.block contents) → HoldsBy s f.block seq f.time (xored image f) y
+        → cell_value t.place y ≡ Some (value_bytes seq f.time f.block contents) → HoldsImageBy s f.block seq f.time (xored image f) y
     put_new t x y place at_home is differs fresh =
         let torn = in_cell t x y place differs in
         let holds = at_home.holds in
@@ -156,7 +158,7 @@ module _ (s : Shape) (block number time : ℕ) (image : List (List ℕ)) where
         → PutsIn t (value_bytes seq f.time f.block contents) x y → HoldsEither s number time image f y
     put_either t x y place at_home is puts = ⊎_elim
         (λ old. inl (block, put_old t x y place at_home puts.differs old))
-        (λ new. inr (f.block, subst (λ (n : ℕ). HoldsBy s f.block n f.time (xored image f) y) (sym next) (put_new t x y place at_home is puts.differs new)))
+        (λ new. inr (f.block, subst (λ (n : ℕ). HoldsImageBy s f.block n f.time (xored image f) y) (sym next) (put_new t x y place at_home is puts.differs new)))
         puts.either
 
 -- no call yet

@@ -12,7 +12,7 @@ use Rattle.trap_model.specs.Image.{block_of, written, image_after}
 use Rattle.trap_model.specs.Receiver.{gapless}
 use Rattle.trap_model.specs.declared.history.Entry.{Entry}
 use Rattle.trap_model.proofs.Windows.{gapless-longest}
-use Rattle.trap_replica.specs.World.{World, primary, parity_of, with_parity, delivered, IsVolume, Writes, Follows, Event, Commit, Deliver, Happens, HappenAll}
+use Rattle.trap_replica.specs.World.{World, primary, entry_parity, with_parity, delivered, IsVolume, WritesWithin, FollowsPrimary, Event, Commit, Deliver, Happens, HappenAll}
 
 -- a parity undoes the block that it was made with
 undo : (xs ys : List ℕ) → length ys ≡ length xs → xor xs (xor xs ys) ≡ ys
@@ -30,29 +30,30 @@ take_add (suc n) k (x ∷ xs) = let e : suc n + k ≡ suc (n + k) = omega arith 
 
 module _ (volume size : ℕ) where
   -- an entry leaves an image of the same shape
-  written_volume : (image : List (List ℕ)) (e : Entry) → IsVolume volume size image → Writes volume size e → IsVolume volume size (written image e)
+  written_volume : (image : List (List ℕ)) (e : Entry) → IsVolume volume size image → WritesWithin volume size e → IsVolume volume size (written image e)
   written_volume image e is writes = record {
     long = length-set image e.block e.bytes ∙ is.long;
     sized = λ b within. ⊎_elim
-        (λ (same : b ≡ e.block). ap (λ (n : ℕ). length (block_of (written image e) n)) same ∙ ap length (get_or-set_same image e.block e.bytes [] (omega (arith, is.long, writes.inside))) ∙ writes.sized)
+        (λ (same : b ≡ e.block). ap (λ (n : ℕ). length (block_of (written image e) n)) same
+        ∙ ap length (get_or-set_same image e.block e.bytes [] (omega (arith, is.long, writes.inside))) ∙ writes.sized)
         (λ (other : b ≢ e.block). ap length (get_or-set_other image e.block b e.bytes [] other) ∙ is.sized b within)
         (cases_eq b e.block);
   }
 
-  after_volume : (base : List (List ℕ)) (xs : List Entry) → IsVolume volume size base → All (Writes volume size) xs → IsVolume volume size (image_after base xs)
+  after_volume : (base : List (List ℕ)) (xs : List Entry) → IsVolume volume size base → All (WritesWithin volume size) xs → IsVolume volume size (image_after base xs)
   after_volume base [] is all = is
-  after_volume base (x ∷ xs) is all = after_volume (written base x) xs (written_volume base x is (All-head (Writes volume size) x xs all)) (All-tail (Writes volume size) x xs all)
+  after_volume base (x ∷ xs) is all = after_volume (written base x) xs (written_volume base x is (All-head (WritesWithin volume size) x xs all)) (All-tail (WritesWithin volume size) x xs all)
 
   -- over the primary's own image a parity gives the entry's bytes
-  same_image : (image : List (List ℕ)) (e : Entry) → IsVolume volume size image → Writes volume size e → with_parity image image e ≡ written image e
+  same_image : (image : List (List ℕ)) (e : Entry) → IsVolume volume size image → WritesWithin volume size e → with_parity image image e ≡ written image e
   same_image image e is writes = ap (λ (l : List ℕ). set image e.block l) (undo (block_of image e.block) e.bytes (writes.sized ∙ sym (is.sized e.block writes.inside)))
 
-  follows_all : (image : List (List ℕ)) (xs : List Entry) → IsVolume volume size image → All (Writes volume size) xs → delivered image image xs ≡ image_after image xs
+  follows_all : (image : List (List ℕ)) (xs : List Entry) → IsVolume volume size image → All (WritesWithin volume size) xs → delivered image image xs ≡ image_after image xs
   follows_all image [] is all = refl
   follows_all image (x ∷ xs) is all =
-      let writes = All-head (Writes volume size) x xs all in
+      let writes = All-head (WritesWithin volume size) x xs all in
       ap (λ (im : List (List ℕ)). delivered (written image x) im xs) (same_image image x is writes)
-      ∙ follows_all (written image x) xs (written_volume image x is writes) (All-tail (Writes volume size) x xs all)
+      ∙ follows_all (written image x) xs (written_volume image x is writes) (All-tail (WritesWithin volume size) x xs all)
 
   -- numbers of entries lead to no number beyond them
   within : (count n : ℕ) (numbers : List ℕ) → n ≤ count → All (λ q. q ≤ count) numbers → gapless n numbers ≤ count
@@ -61,26 +62,27 @@ module _ (volume size : ℕ) where
       let m = gapless n numbers in
       let came = (gapless-longest n numbers).each m more (omega arith) in
       let parts : All (λ q. q ≤ count) (came.before ++ m ∷ came.later) = All-same (λ q. q ≤ count) (came.before ++ m ∷ came.later) numbers (sym came.parts) all in
-      All-head (λ q. q ≤ count) m came.later (All-same (λ q. q ≤ count) (m ∷ came.later) (drop (length came.before) (came.before ++ m ∷ came.later)) (sym (drop-append_seam came.before (m ∷ came.later))) (All-drop (λ q. q ≤ count) (length came.before) (came.before ++ m ∷ came.later) parts)))
+      All-head (λ q. q ≤ count) m came.later (All-same (λ q. q ≤ count) (m ∷ came.later) (drop (length came.before) (came.before ++ m ∷ came.later))
+      (sym (drop-append_seam came.before (m ∷ came.later))) (All-drop (λ q. q ≤ count) (length came.before) (came.before ++ m ∷ came.later) parts)))
       (λ (less : gapless n numbers ≤ n). omega arith)
       (cases_lt n (gapless n numbers))
 
-  committed : (w : World) (e : Entry) → Follows volume size w → Writes volume size e → Follows volume size (record w { all = w.all ++ e ∷ [] })
+  committed : (w : World) (e : Entry) → FollowsPrimary volume size w → WritesWithin volume size e → FollowsPrimary volume size (record w { all = w.all ++ e ∷ [] })
   committed w e follows writes = record {
     start = follows.start;
-    each = All-push (Writes volume size) w.all e follows.each writes;
+    each = All-push (WritesWithin volume size) w.all e follows.each writes;
     most = omega (arith, follows.most, length-append w.all (e ∷ []));
     image = follows.image ∙ ap (image_after w.start) (sym (take-append-le w.number w.all (e ∷ []) follows.most));
   }
 
-  moved : (w : World) (stop : ℕ) → Follows volume size w → w.number ≤ stop → stop ≤ length w.all
-      → Follows volume size (record w { number = stop; image = delivered (primary w w.number) w.image (take (stop - w.number) (drop w.number w.all)) })
+  moved : (w : World) (stop : ℕ) → FollowsPrimary volume size w → w.number ≤ stop → stop ≤ length w.all
+      → FollowsPrimary volume size (record w { number = stop; image = delivered (primary w w.number) w.image (take (stop - w.number) (drop w.number w.all)) })
   moved w stop follows least most =
       let n = w.number in
       let k = stop - n in
       let rest = take k (drop n w.all) in
-      let front = All-take (Writes volume size) n w.all follows.each in
-      let each : All (Writes volume size) rest = All-take (Writes volume size) k (drop n w.all) (All-drop (Writes volume size) n w.all follows.each) in
+      let front = All-take (WritesWithin volume size) n w.all follows.each in
+      let each : All (WritesWithin volume size) rest = All-take (WritesWithin volume size) k (drop n w.all) (All-drop (WritesWithin volume size) n w.all follows.each) in
       let sum : n + k ≡ stop = omega arith in
       record {
         start = follows.start;
@@ -93,19 +95,19 @@ module _ (volume size : ℕ) where
             ∙ ap (λ (j : ℕ). image_after w.start (take j w.all)) sum;
       }
 
-  happens : (w v : World) (event : Event) → Follows volume size w → Happens volume size event w v → Follows volume size v × (w.number ≤ v.number)
+  happens : (w v : World) (event : Event) → FollowsPrimary volume size w → Happens volume size event w v → FollowsPrimary volume size v × (w.number ≤ v.number)
   happens w v (Commit e) follows step = (
-    subst (λ (u : World). Follows volume size u) (sym step.1) (committed w e follows step.0),
+    subst (λ (u : World). FollowsPrimary volume size u) (sym step.1) (committed w e follows step.0),
     subst (λ (u : World). w.number ≤ u.number) (sym step.1) (omega arith),
   )
   happens w v (Deliver numbers stop) follows step = (
-    subst (λ (u : World). Follows volume size u) (sym step.3) (moved w stop follows step.1 (omega (arith, step.2, within (length w.all) w.number numbers follows.most step.0))),
+    subst (λ (u : World). FollowsPrimary volume size u) (sym step.3) (moved w stop follows step.1 (omega (arith, step.2, within (length w.all) w.number numbers follows.most step.0))),
     subst (λ (u : World). w.number ≤ u.number) (sym step.3) step.1,
   )
 
-  pub happen_all : (w v : World) (events : List Event) → Follows volume size w → HappenAll volume size events w v → Follows volume size v × (w.number ≤ v.number)
+  pub happen_all : (w v : World) (events : List Event) → FollowsPrimary volume size w → HappenAll volume size events w v → FollowsPrimary volume size v × (w.number ≤ v.number)
   happen_all w v [] follows same = (
-    subst (λ (u : World). Follows volume size u) (sym same) follows,
+    subst (λ (u : World). FollowsPrimary volume size u) (sym same) follows,
     subst (λ (u : World). w.number ≤ u.number) (sym same) (omega arith),
   )
   happen_all w v (event ∷ events) follows steps =

@@ -9,7 +9,7 @@ use Rattle.trap_format.specs.declared.shape.Shape.{Shape}
 use Rattle.trap_model.specs.Image.{block_of}
 use Rattle.trap_model.specs.Receiver.{xored}
 use Rattle.trap_model.specs.declared.arrival.Arrival.{Arrival}
-use Rattle.trap_replica.specs.OnDisk.{HoldsBy, ReplicaHolds}
+use Rattle.trap_replica.specs.OnDisk.{HoldsImageBy, ReplicaHolds}
 
 -- every other disk is the same
 abbrev pub Elsewhere : Disks → Disks → Type 0

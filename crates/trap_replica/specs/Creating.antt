@@ -1,7 +1,7 @@
 -- Making a replica on a disk that isn't there.
-use Rattle.std.specs.Prelude.{◌≡◌, ◌≢◌, ◌⊎◌, ℕ, ◌<◌, ◌≤◌, List, replicate, take, drop, Some, None, IsTrue}
+use Rattle.std.specs.Prelude.{◌≡◌, ◌≢◌, ◌⊎◌, ℕ, ◌<◌, ◌≤◌, List, replicate, take, drop, Some, None}
 use Rattle.trap_bank.specs.Disks.{Disks, View, byte, region, size_of}
-use Rattle.trap_bank.specs.Steps.{Moves, Same}
+use Rattle.trap_model.specs.Limits.{open_gate}
 use Rattle.trap_cell.specs.Slots.{cell_value}
 use Rattle.trap_format.specs.ReplicaDisk.{replica_start, replica_size, replica_header, home_at}
 use Rattle.trap_format.specs.declared.shape.Shape.{Shape}
@@ -24,7 +24,7 @@ abbrev pub zero_blocks : Shape → List (List ℕ)
 zero_blocks s = replicate s.volume (replicate s.block 0)
 
 -- while a replica is made: disk 17 is no replica, or it holds the image
-pub record IsMaking (s : Shape) (number time : ℕ) (image : List (List ℕ)) (old new : Disks)
+pub record MakesReplica (s : Shape) (number time : ℕ) (image : List (List ℕ)) (old new : Disks)
     : Type 0 where
   pub others : Elsewhere old new
   pub disk : IsNoReplica new ⊎ ReplicaHolds s number time image new
@@ -35,19 +35,13 @@ pub record HasMade (s : Shape) (number time : ℕ) (image : List (List ℕ)) (ol
   pub others : Elsewhere old new
   pub holds : ReplicaHolds s number time image new
 
--- nothing was changed, by a read or by a crash
-pub record IsUntouched (old new : View) : Type 0 where
-  pub sizes : (e : ℕ) → new.sizes e ≡ old.sizes e
-  pub same : IsTrue old.tells → new.now ≡ old.now
-  pub moves : Moves old new Same Same
-
 -- the gate of disk 17 is off, or the disk is absent
-abbrev pub IsGateOff : Disks → Type 0
-IsGateOff disks = byte disks 17 0 ≢ 165
+abbrev pub IsReplicaGateOff : Disks → Type 0
+IsReplicaGateOff disks = byte disks 17 0 ≢ open_gate
 
 -- disk 17 is a new replica but for its gate, which is off
 pub record IsShutReplica (s : Shape) (disks : Disks) : Type 0 where
-  pub gate : IsGateOff disks
+  pub gate : IsReplicaGateOff disks
   pub size : size_of (disks 17) ≡ Some (replica_size s)
   pub rest : region disks 17 1 31 ≡ drop 1 (replica_header s)
   pub value : cell_value (cell_place s) disks ≡ Some (value_bytes 0 0 0 (replicate s.block 0))
@@ -56,7 +50,7 @@ pub record IsShutReplica (s : Shape) (disks : Disks) : Type 0 where
 -- while the gate of the replica that is made is off
 pub record ShutsReplica (old new : Disks) : Type 0 where
   pub others : Elsewhere old new
-  pub disk : (new 17 ≡ old 17) ⊎ IsGateOff new
+  pub disk : (new 17 ≡ old 17) ⊎ IsReplicaGateOff new
 
 -- and when it is made, with the gate off
 pub record HasShutReplica (s : Shape) (old new : Disks) : Type 0 where

@@ -22,7 +22,7 @@ value_bytes number time block contents = to_be_bytes w64 number ++ to_be_bytes w
 
 -- disk 17 holds the image after this number, of this time: the image area, with the contents in the
 -- cell laid over the block that the cell names
-pub record HoldsBy (s : Shape) (block number time : ℕ) (image : List (List ℕ)) (disks : Disks)
+pub record HoldsImageBy (s : Shape) (block number time : ℕ) (image : List (List ℕ)) (disks : Disks)
     : Type 0 where
   pub id : s.id < 2 ^ 64
   pub header : region disks 17 0 32 ≡ replica_header s
@@ -39,4 +39,4 @@ pub record HoldsBy (s : Shape) (block number time : ℕ) (image : List (List ℕ
 
 -- the replica holds the image after this number, of this time
 abbrev pub ReplicaHolds : Shape → ℕ → ℕ → List (List ℕ) → Disks → Type 0
-ReplicaHolds s number time image disks = (block : ℕ) × HoldsBy s block number time image disks
+ReplicaHolds s number time image disks = (block : ℕ) × HoldsImageBy s block number time image disks

@@ -1,27 +1,27 @@
 -- What a mounted replica stands for: what is known of its disk, and the frames it holds.
 use Rattle.std.specs.Prelude.{◌≡◌, ℕ, zero, suc, ◌+◌, List, [], ◌∷◌, IsTrue, ◌==◌, if◌then◌else◌, Result, OnOk, OnErr, ◌||◌}
-use Rattle.trap_bank.specs.Disks.{Disks, View}
+use Rattle.trap_bank.specs.Disks.{Disks, View, Quiet}
 use Rattle.trap_bank.specs.Calls.{Fits}
-use Rattle.trap_bank.specs.Steps.{Always}
+use Rattle.trap_bank.specs.Steps.{Always, Moves}
 use Rattle.trap_cell.specs.Slots.{Stands}
 use Rattle.trap_format.specs.ReplicaDisk.{replica_size}
 use Rattle.trap_format.specs.declared.shape.Shape.{Shape}
 use Rattle.trap_model.specs.Image.{block_of}
 use Rattle.trap_model.specs.Receiver.{Receiver, applied, hold, is_known, is_beyond}
 use Rattle.trap_model.specs.declared.arrival.Arrival.{Arrival}
-use Rattle.trap_replica.specs.Holding.{HeldFrames}
-use Rattle.trap_replica.specs.OnDisk.{HoldsBy, ReplicaHolds}
-use Rattle.trap_replica.specs.Applying.{Leaves}
+use Rattle.trap_replica.specs.Holding.{HeldFrames, SuitAll}
+use Rattle.trap_replica.specs.OnDisk.{HoldsImageBy, ReplicaHolds}
+use Rattle.trap_replica.specs.Applying.{Elsewhere, Leaves}
 use Rattle.trap_replica.specs.declared.store.Store.{Store}
 
 -- the disk is there, and every crash leaves its cell as the program knows it
-pub record IsReady (p : Store) (v : View) : Type 0 where
+pub record IsStoreReady (p : Store) (v : View) : Type 0 where
   pub fits : Fits v 17 (replica_size p.shape)
   pub stands : Always v (Stands p.cell)
 
 -- every crash leaves the image on the disk, and the contents in memory are those in the cell
 pub record Mirrors (p : Store) (v : View) (image : List (List ℕ)) : Type 0 where
-  pub holds : Always v (HoldsBy p.shape p.block p.number p.time image)
+  pub holds : Always v (HoldsImageBy p.shape p.block p.number p.time image)
   pub contents : IsTrue v.tells → p.contents.items ≡ block_of image p.block
 
 -- the numbers after a frame was applied; after a fault those from before
@@ -55,10 +55,22 @@ pub record HoldsPassed (s : Shape) (r : Receiver) (disks : Disks) : Type 0 where
 abbrev pub arrived : Receiver → Arrival → Receiver
 arrived r f = if is_known r f || is_beyond r f then r else record r { held = hold f r.held }
 
--- some of the held frames that follow were applied, and a crash on the way leaves some fewer
-pub record Passed (p q : Store) (h k : HeldFrames) (a b : View) (image : List (List ℕ))
-    : Type 0 where
+-- some of the held frames that follow were applied, and the others are held
+pub record Passed (p q : Store) (h k : HeldFrames) (a b : View) : Type 0 where
   pub count : ℕ
-  pub is : seen q k (steps count (seen p h image)).image ≡ steps count (seen p h image)
-  pub mirrors : Mirrors q b (steps count (seen p h image)).image
-  pub leaves : Leaves a b (HoldsPassed p.shape (seen p h image))
+  pub is : (image : List (List ℕ)) → seen q k (steps count (seen p h image)).image
+      ≡ steps count (seen p h image)
+  pub mirrors : (image : List (List ℕ)) → Mirrors p a image
+      → Mirrors q b (steps count (seen p h image)).image
+  pub ready : IsStoreReady q b
+  pub suit : SuitAll q.shape q.number q.number k
+
+-- The held frames that follow are being applied. Stopped at any moment, the disk holds the image
+-- after some of them.
+pub record PassesHeld (p q : Store) (h : HeldFrames) (a b : View) : Type 0 where
+  pub shape : q.shape ≡ p.shape
+  pub sizes : (e : ℕ) → b.sizes e ≡ a.sizes e
+  pub elsewhere : Moves a b Elsewhere Elsewhere
+  pub touches : IsTrue a.tells → Quiet Elsewhere a.now b.now
+  pub any_moment : (image : List (List ℕ)) → Mirrors p a image
+      → Leaves a b (HoldsPassed p.shape (seen p h image))

@@ -19,13 +19,13 @@ abbrev pub primary : World → ℕ → List (List ℕ)
 primary w n = image_after w.start (take n w.all)
 
 -- the parity of an entry: its block before it, xored with its bytes
-abbrev pub parity_of : List (List ℕ) → Entry → List ℕ
-parity_of before entry = xor (block_of before entry.block) entry.bytes
+abbrev pub entry_parity : List (List ℕ) → Entry → List ℕ
+entry_parity before entry = xor (block_of before entry.block) entry.bytes
 
 -- an image with the entry's parity xored into its block
 abbrev pub with_parity : List (List ℕ) → List (List ℕ) → Entry → List (List ℕ)
 with_parity image before entry =
-    set image entry.block (xor (block_of image entry.block) (parity_of before entry))
+    set image entry.block (xor (block_of image entry.block) (entry_parity before entry))
 
 -- an image after the parities of these entries, the first of which the primary committed over this
 -- image of its own
@@ -40,14 +40,14 @@ pub record IsVolume (volume size : ℕ) (image : List (List ℕ)) : Type 0 where
   pub sized : (b : ℕ) → b < volume → length (block_of image b) ≡ size
 
 -- the entry writes a block of it
-pub record Writes (volume size : ℕ) (entry : Entry) : Type 0 where
+pub record WritesWithin (volume size : ℕ) (entry : Entry) : Type 0 where
   pub inside : entry.block < volume
   pub sized : length entry.bytes ≡ size
 
 -- the receiver's image is the primary's after as many entries as the receiver's number says
-pub record Follows (volume size : ℕ) (w : World) : Type 0 where
+pub record FollowsPrimary (volume size : ℕ) (w : World) : Type 0 where
   pub start : IsVolume volume size w.start
-  pub each : All (Writes volume size) w.all
+  pub each : All (WritesWithin volume size) w.all
   pub most : w.number ≤ length w.all
   pub image : w.image ≡ primary w w.number
 
@@ -59,7 +59,7 @@ pub data Event : Type 0 where
 
 -- what an event does: frames move the receiver on, at most as far as their numbers go without a gap
 abbrev pub Happens : ℕ → ℕ → Event → World → World → Type 0
-Happens volume size (Commit entry) w v = Writes volume size entry
+Happens volume size (Commit entry) w v = WritesWithin volume size entry
     × (v ≡ record w { all = w.all ++ entry ∷ [] })
 Happens volume size (Deliver numbers stop) w v =
     All (λ q. q ≤ length w.all) numbers × (w.number ≤ stop) × (stop ≤ gapless w.number numbers)

@@ -9,7 +9,7 @@ ghost use Rattle.trap_cell.specs.Slots.{Stands};
 ghost use Rattle.trap_format.specs.ReplicaDisk.{home_at, replica_size, replica_value_len};
 ghost use Rattle.trap_model.specs.Image.{block_of};
 ghost use Rattle.trap_model.specs.Receiver.{xored};
-ghost use Rattle.trap_replica.specs.OnDisk.{HoldsBy, cell_place};
+ghost use Rattle.trap_replica.specs.OnDisk.{HoldsImageBy, cell_place};
 ghost use Rattle.trap_replica.specs.Applying.{Elsewhere, Leaves, HoldsEither};
 
 use crate::layout::{DISK, home_at, spell_value};
@@ -53,17 +53,17 @@ pub(crate) fn apply<B: Bank>(
     // Stopped at any moment, the disk holds the image before the frame or the one after it.
     ensures any_moment { (number time : ℕ) (image : List (List ℕ)) → number + 1 ≡ seq → seq ≤ 2 ^ 40
         → (IsTrue (B.view bank.old).tells → contents.old ≡ block_of image block)
-        → Always (B.view bank.old) (HoldsBy s.now block number time image)
+        → Always (B.view bank.old) (HoldsImageBy s.now block number time image)
         → Leaves (B.view bank.old) (B.view bank.new)
         (HoldsEither s.now number time image frame.now) }
     ensures ok { (number time : ℕ) (image : List (List ℕ)) → number + 1 ≡ seq → seq ≤ 2 ^ 40
         → (IsTrue (B.view bank.old).tells → contents.old ≡ block_of image block)
-        → Always (B.view bank.old) (HoldsBy s.now block number time image)
+        → Always (B.view bank.old) (HoldsImageBy s.now block number time image)
         → OnOk result (Always (B.view bank.new)
-        (HoldsBy s.now frame.now.block seq frame.now.time (xored image frame.now))) }
+        (HoldsImageBy s.now frame.now.block seq frame.now.time (xored image frame.now))) }
     ensures kept { (number time : ℕ) (image : List (List ℕ))
         → (IsTrue (B.view bank.old).tells → contents.old ≡ block_of image block)
-        → Always (B.view bank.old) (HoldsBy s.now block number time image)
+        → Always (B.view bank.old) (HoldsImageBy s.now block number time image)
         → OnOk result (IsTrue (B.view bank.old).tells
         → contents.new ≡ block_of (xored image frame.now) frame.now.block) }
 {

@@ -3,21 +3,19 @@
 ghost use Rattle.std.specs.Prelude.{◌≡◌, ◌≢◌, ◌↔◌, ℕ, ◌+◌, ◌≤◌, OnOk, OnErr, IfErr, IsErrOf, IsTrue, None, Some, replicate};
 ghost use Rattle.trap_bank.specs.Disks.{Quiet};
 ghost use Rattle.trap_bank.specs.Faults.{Rose};
-ghost use Rattle.trap_bank.specs.Steps.{Moves};
+ghost use Rattle.trap_bank.specs.Steps.{Moves, OnlyReads};
 ghost use Rattle.trap_format.specs.ReplicaDisk.{replica_size};
 ghost use Rattle.trap_replica.specs.OnDisk.{value_bytes};
 ghost use Rattle.trap_replica.specs.Applying.{Elsewhere};
-ghost use Rattle.trap_replica.specs.Creating.{ShutsReplica, HasShutReplica, IsMaking, HasMade, IsUntouched, zero_blocks};
+ghost use Rattle.trap_replica.specs.Creating.{ShutsReplica, HasShutReplica, MakesReplica, HasMade, zero_blocks};
 ghost use Rattle.trap_replica.specs.declared.fault.ReplicaFault.TheVariants as fault;
 
 use crate::ReplicaFault;
 use crate::layout::{CELL_AT, DISK, NUMBERS};
 use trap_bank::{Bank, DiskFault, write_through};
 use trap_cell::Cell;
+use trap_format::layout::OPEN_GATE;
 use trap_format::{Shape, replica_len, spell_replica};
-
-/// The first byte of the disk, where a replica stands there.
-const GATE: u8 = 0xa5;
 
 /// The value of a new replica's cell, which is all zeros.
 fn fresh_value<'a>(zeros: &'a [u8], s: &Shape) -> &'a [u8]
@@ -54,9 +52,9 @@ fn shut_replica<B: Bank>(bank: &mut B, s: &Shape) -> Result<(), DiskFault>
 pub fn create<B: Bank>(bank: &mut B, s: &Shape) -> Result<(), ReplicaFault>
     ensures exists { IsErrOf result (fault.Exists 17) ↔ ((B.view bank.old).sizes 17 ≢ None) }
     ensures untouched { (B.view bank.old).sizes 17 ≢ None
-        → IsUntouched (B.view bank.old) (B.view bank.new) }
+        → OnlyReads (B.view bank.old) (B.view bank.new) }
     ensures ok { OnOk result (Moves (B.view bank.old) (B.view bank.new)
-        (IsMaking s.now 0 0 (zero_blocks s.now)) (HasMade s.now 0 0 (zero_blocks s.now))) }
+        (MakesReplica s.now 0 0 (zero_blocks s.now)) (HasMade s.now 0 0 (zero_blocks s.now))) }
     ensures size { OnOk result ((B.view bank.new).sizes 17 ≡ Some (replica_size s.now)) }
     ensures cause { (B.view bank.old).sizes 17 ≡ None → IfErr result (λ why. (why ≡ fault.DiskFault)
         × Rose ((B.view bank.old).faults 17) ((B.view bank.new).faults 17)) }
@@ -67,7 +65,7 @@ pub fn create<B: Bank>(bank: &mut B, s: &Shape) -> Result<(), ReplicaFault>
     // Stopped at any moment, disk 17 is no replica, or it holds the zero image.
     ensures any_moment { (B.view bank.old).sizes 17 ≡ None
         → Moves (B.view bank.old) (B.view bank.new)
-        (IsMaking s.now 0 0 (zero_blocks s.now)) (IsMaking s.now 0 0 (zero_blocks s.now)) }
+        (MakesReplica s.now 0 0 (zero_blocks s.now)) (MakesReplica s.now 0 0 (zero_blocks s.now)) }
 {
     // An id that is read is known to fit the header's field.
     let _id = s.id;
@@ -77,6 +75,6 @@ pub fn create<B: Bank>(bank: &mut B, s: &Shape) -> Result<(), ReplicaFault>
     shut_replica(bank, s)?;
     // The gate is a write of its own: whatever byte a crash leaves of it, the replica is whole or
     // is none.
-    write_through(bank, DISK, 0, &[GATE])?;
+    write_through(bank, DISK, 0, &[OPEN_GATE])?;
     Ok(())
 }

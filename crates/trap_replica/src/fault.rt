@@ -3,6 +3,7 @@
 ghost use Rattle.std.specs.Prelude.{◌≡◌};
 ghost use Rattle.trap_replica.specs.declared.fault.ReplicaFault.TheVariants as fault;
 
+use std::alloc::AllocError;
 use thiserror::Error;
 use trap_bank::{DiskFault, Failed};
 
@@ -57,5 +58,13 @@ impl From<Failed> for ReplicaFault {
 
     fn from(_failed: Failed) -> ReplicaFault {
         ReplicaFault::DiskFault
+    }
+}
+
+impl From<AllocError> for ReplicaFault {
+    ghost from_gives = { λ _ e. e ≡ fault.OutOfMemory };
+
+    fn from(_error: AllocError) -> ReplicaFault {
+        ReplicaFault::OutOfMemory
     }
 }

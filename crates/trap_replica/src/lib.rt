@@ -7,9 +7,15 @@ mod fault;
 mod held;
 pub mod laws;
 mod layout;
+mod mounting;
+mod replica;
+mod settling;
 mod store;
+mod taking;
 #[cfg(test)]
 mod tests;
 
 pub use creating::create;
 pub use fault::ReplicaFault;
+pub use replica::Replica;
+pub use trap_model::{Frame, Taken};

@@ -1,8 +1,12 @@
 //! A small replica on a disk in memory, byte by byte and stopped at each call.
 
-use crate::{ReplicaFault, create};
+ghost use Rattle.std.specs.Prelude.{◌≡◌, ◌≤◌, ◌^◌};
+ghost use Rattle.trap_replica.specs.Mounted.{IsUsable};
+
+use crate::{Frame, Replica, ReplicaFault, Taken, create};
+use std::alloc::Global;
 use std::test::Fail;
-use trap_bank::MemoryBank;
+use trap_bank::{Bank, MemoryBank};
 use trap_format::Shape;
 
 /// Eight blocks of 16 bytes, of array 7.
@@ -63,6 +67,92 @@ fn a_stop_at_any_call_leaves_no_replica_or_a_whole_one(rt: HostRuntime) -> Resul
             assert!(rt; begins(&bank) || !is_done, "at {calls} with {seed}");
             assert!(rt; is_new(&bank) || !begins(&bank), "at {calls} with {seed}");
         }
+    }
+    Ok(())
+}
+
+/// Takes a frame of which each byte of the parity is the one given.
+fn take<B: Bank>(
+    alloc: Global,
+    replica: &mut Replica,
+    bank: &mut B,
+    frame: &Frame,
+    byte: u8,
+) -> Result<Taken, ReplicaFault>
+    requires usable { IsUsable replica.old (B.view bank.old) }
+    requires last { frame.now.seq ≤ 2 ^ 40 }
+    ensures usable { IsUsable replica.new (B.view bank.new) }
+{
+    let size = replica.shape().block as usize;
+    let parity = vec![in alloc; byte; size]?;
+    replica.take(bank, frame, parity.as_slice())
+}
+
+/// A frame whose number is its time too.
+fn frame_of(id: u64, seq: u16, block: u32) -> Frame
+    ensures { result.seq ≤ 2 ^ 16 }
+{
+    Frame {
+        id,
+        seq: u64::from(seq),
+        time: u64::from(seq),
+        block,
+        length: 23,
+    }
+}
+
+#[test]
+fn frames_wait_for_those_before_them(rt: HostRuntime) -> Result<(), Fail> {
+    let alloc = rt.alloc();
+    let mut bank = MemoryBank::new(alloc)?;
+    assert_eq!(rt; create(&mut bank, &eight_blocks()), Ok(()));
+    let mut replica = Replica::mount(alloc, &mut bank)?;
+    let rows = [
+        (1, Taken::Applied { upto: 1 }),
+        (3, Taken::Held),
+        (2, Taken::Applied { upto: 3 }),
+        (2, Taken::Repeat),
+        (5, Taken::Held),
+        (5, Taken::Repeat),
+        (68, Taken::Beyond),
+        (67, Taken::Held),
+        (4, Taken::Applied { upto: 5 }),
+        (69, Taken::Held),
+        (70, Taken::Beyond),
+    ];
+    for (seq, answer) in rows {
+        let frame = frame_of(7, seq, 3);
+        let given = take(alloc, &mut replica, &mut bank, &frame, 0x5a);
+        assert_eq!(rt; given, Ok(answer), "at {seq}");
+    }
+    assert_eq!(rt; replica.applied(), 5);
+    assert_eq!(rt; replica.held(), 2);
+    Ok(())
+}
+
+#[test]
+fn refusals_come_in_their_order(rt: HostRuntime) -> Result<(), Fail> {
+    let alloc = rt.alloc();
+    let mut bank = MemoryBank::new(alloc)?;
+    assert_eq!(rt;
+        Replica::mount(alloc, &mut bank).err(),
+        Some(ReplicaFault::NotAReplica)
+    );
+    assert_eq!(rt; create(&mut bank, &eight_blocks()), Ok(()));
+    bank.fail_on(17, 5);
+    let mut replica = Replica::mount(alloc, &mut bank)?;
+    let rows = [
+        (8, 8, ReplicaFault::Stranger { id: 8 }),
+        (7, 8, ReplicaFault::NoBlock { block: 8 }),
+        (7, 7, ReplicaFault::DiskFault),
+        (7, 7, ReplicaFault::Stopped),
+        (7, 8, ReplicaFault::NoBlock { block: 8 }),
+        (8, 8, ReplicaFault::Stranger { id: 8 }),
+    ];
+    for (id, block, why) in rows {
+        let frame = frame_of(id, 1, block);
+        let given = take(alloc, &mut replica, &mut bank, &frame, 1);
+        assert_eq!(rt; given, Err(why));
     }
     Ok(())
 }

@@ -6,7 +6,7 @@ ghost use Rattle.trap_bank.specs.Disks.{Quiet};
 ghost use Rattle.trap_bank.specs.Steps.{Moves};
 ghost use Rattle.trap_model.specs.Receiver.{xored};
 ghost use Rattle.trap_replica.specs.Applying.{Elsewhere, Leaves, HoldsEither};
-ghost use Rattle.trap_replica.specs.Standing.{IsReady, Mirrors, HasApplied};
+ghost use Rattle.trap_replica.specs.Standing.{IsStoreReady, Mirrors, HasApplied};
 
 use super::Store;
 use crate::applying::apply;
@@ -16,12 +16,12 @@ use trap_model::Arrival;
 impl Store {
     /// Applies the frame of the next number. After a fault the disk has to be mounted again.
     pub fn apply_next<B: Bank>(&mut self, bank: &mut B, frame: &Arrival) -> Result<(), DiskFault>
-        requires ready { IsReady self.old (B.view bank.old) }
+        requires ready { IsStoreReady self.old (B.view bank.old) }
         requires room { self.old.number < 2 ^ 40 }
         requires inside { frame.now.block < self.old.shape.volume }
         requires sized { length frame.now.parity ≡ self.old.shape.block }
         ensures fields { HasApplied result frame.now self.old self.new }
-        ensures ready { OnOk result (IsReady self.new (B.view bank.new)) }
+        ensures ready { OnOk result (IsStoreReady self.new (B.view bank.new)) }
         ensures sizes { (e : ℕ) → (B.view bank.new).sizes e ≡ (B.view bank.old).sizes e }
         ensures cause { OnErr result (Rose ((B.view bank.old).faults 17)
             ((B.view bank.new).faults 17)) }

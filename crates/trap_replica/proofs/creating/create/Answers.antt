@@ -9,21 +9,29 @@ pub write_through-requires-clause-room : goal.write_through-requires-clause-room
 write_through-requires-clause-room g c = (replica_size c.args.s.now, c.in_ok-shut_replica.ensures.size, omega arith)
 
 pub returns-in_err-shut_replica-clause-any_moment : goal.returns-in_err-shut_replica-clause-any_moment
-returns-in_err-shut_replica-clause-any_moment g c = λ none. shut_part c.args.s.now (omega arith) (g.B.Bank.view c.args.bank.now) (g.met.B.Bank.lawful c.args.bank.now) none (g.B.Bank.view c.shut_replica.new.bank) c.shut_replica.ensures.any_moment
+returns-in_err-shut_replica-clause-any_moment g c = λ none. shut_part c.args.s.now (omega arith) (g.B.Bank.view c.args.bank.now) (g.met.B.Bank.lawful c.args.bank.now)
+    none (g.B.Bank.view c.shut_replica.new.bank) c.shut_replica.ensures.any_moment
 
 pub returns-in_err-write_through-clause-touches : goal.returns-in_err-write_through-clause-touches
-returns-in_err-write_through-clause-touches g c = touch_then (g.B.Bank.view c.args.bank.now) (g.B.Bank.view c.shut_replica.new.bank) (g.B.Bank.view c.write_through.new.bank) c.shut_replica.ensures.any_moment.tells c.shut_replica.ensures.touches (touch_torn _ _ (g.B.Bank.view c.shut_replica.new.bank) (g.B.Bank.view c.write_through.new.bank) c.write_through.ensures.contents)
+returns-in_err-write_through-clause-touches g c = touch_then (g.B.Bank.view c.args.bank.now) (g.B.Bank.view c.shut_replica.new.bank)
+    (g.B.Bank.view c.write_through.new.bank) c.shut_replica.ensures.any_moment.tells c.shut_replica.ensures.touches
+    (touch_torn _ _ (g.B.Bank.view c.shut_replica.new.bank) (g.B.Bank.view c.write_through.new.bank) c.write_through.ensures.contents)
 
 pub returns-in_err-write_through-clause-any_moment : goal.returns-in_err-write_through-clause-any_moment
-returns-in_err-write_through-clause-any_moment g c = λ none. gate_part c.args.s.now (omega arith) (g.B.Bank.view c.args.bank.now) (g.met.B.Bank.lawful c.args.bank.now) none (g.B.Bank.view c.shut_replica.new.bank) (g.B.Bank.view c.write_through.new.bank) c.in_ok-shut_replica.ensures.ok c.write_through.ensures.any_moment
+returns-in_err-write_through-clause-any_moment g c = λ none. gate_part c.args.s.now (omega arith) (g.B.Bank.view c.args.bank.now) (g.met.B.Bank.lawful c.args.bank.now)
+    none (g.B.Bank.view c.shut_replica.new.bank) (g.B.Bank.view c.write_through.new.bank) c.in_ok-shut_replica.ensures.ok c.write_through.ensures.any_moment
 
 pub returns-clause-touches : goal.returns-clause-touches
-returns-clause-touches g c = touch_then (g.B.Bank.view c.args.bank.now) (g.B.Bank.view c.shut_replica.new.bank) (g.B.Bank.view c.write_through.new.bank) c.shut_replica.ensures.any_moment.tells c.shut_replica.ensures.touches (touch_torn _ _ (g.B.Bank.view c.shut_replica.new.bank) (g.B.Bank.view c.write_through.new.bank) c.write_through.ensures.contents)
+returns-clause-touches g c = touch_then (g.B.Bank.view c.args.bank.now) (g.B.Bank.view c.shut_replica.new.bank) (g.B.Bank.view c.write_through.new.bank)
+    c.shut_replica.ensures.any_moment.tells c.shut_replica.ensures.touches (touch_torn _ _ (g.B.Bank.view c.shut_replica.new.bank)
+    (g.B.Bank.view c.write_through.new.bank) c.write_through.ensures.contents)
 
 pub returns-clause-any_moment : goal.returns-clause-any_moment
-returns-clause-any_moment g c = λ none. gate_part c.args.s.now (omega arith) (g.B.Bank.view c.args.bank.now) (g.met.B.Bank.lawful c.args.bank.now) none (g.B.Bank.view c.shut_replica.new.bank) (g.B.Bank.view c.write_through.new.bank) c.in_ok-shut_replica.ensures.ok c.write_through.ensures.any_moment
+returns-clause-any_moment g c = λ none. gate_part c.args.s.now (omega arith) (g.B.Bank.view c.args.bank.now) (g.met.B.Bank.lawful c.args.bank.now) none
+    (g.B.Bank.view c.shut_replica.new.bank) (g.B.Bank.view c.write_through.new.bank) c.in_ok-shut_replica.ensures.ok c.write_through.ensures.any_moment
 
 pub returns-clause-ok : goal.returns-clause-ok
 returns-clause-ok g c =
     let none : (g.B.Bank.view c.args.bank.now).sizes 17 ≡ None = first_of (search rules, grind (arith, common_steps)) in
-    gate_done c.args.s.now (omega arith) (g.B.Bank.view c.args.bank.now) (g.met.B.Bank.lawful c.args.bank.now) none (g.B.Bank.view c.shut_replica.new.bank) (g.B.Bank.view c.write_through.new.bank) c.in_ok-shut_replica.ensures.ok c.in_ok-write_through.ensures.ok
+    gate_done c.args.s.now (omega arith) (g.B.Bank.view c.args.bank.now) (g.met.B.Bank.lawful c.args.bank.now) none (g.B.Bank.view c.shut_replica.new.bank)
+    (g.B.Bank.view c.write_through.new.bank) c.in_ok-shut_replica.ensures.ok c.in_ok-write_through.ensures.ok

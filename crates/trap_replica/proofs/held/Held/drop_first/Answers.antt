@@ -17,5 +17,9 @@ returns-clause-frames c =
 pub invariant_of-self : goal.invariant_of-self
 invariant_of-self c =
     let s = c.self.inside in
-    let long : length s.slots.items ≡ s.slots.len = omega (arith, s.slots.ok.0) in
-    (omega (arith, c.self.invariant.0), c.self.invariant.1, dropped_all (λ (f : Arrival). length f.parity ≡ s.size) s.slots.len s.slots.items _ _ long c.as_mut_slice.ensures.value c.move_first.ensures c.self.invariant.2)
+    let long : length s.slots.items ≡ s.slots.len = omega (arith, s.slots.ok.0) in (
+      omega (arith, c.self.invariant.0),
+      c.self.invariant.1,
+      dropped_all (λ (f : Arrival). length f.parity ≡ s.size) s.slots.len s.slots.items _ _ long
+          c.as_mut_slice.ensures.value c.move_first.ensures c.self.invariant.2,
+    )

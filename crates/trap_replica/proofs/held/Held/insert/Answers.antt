@@ -31,6 +31,7 @@ invariant_of-self c =
     let low : c.place_for-at.result ≤ s.count = omega (arith, c.place_for-at.ensures.within, ap length there, ap length fr, length-take-le s.count s.slots.items (omega (arith, all, few))) in (
       omega (arith, few),
       c.self.invariant.1,
-      one_more_all (λ (x : Arrival). length x.parity ≡ s.size) c.place_for-at.result 63 s.slots.len s.slots.items _ _ f all (omega (arith, c.self.invariant.1)) (omega (arith, low, few)) c.as_mut_slice.ensures.value c.move_last.ensures
+      one_more_all (λ (x : Arrival). length x.parity ≡ s.size) c.place_for-at.result 63 s.slots.len s.slots.items _ _ f all (omega (arith, c.self.invariant.1))
+          (omega (arith, low, few)) c.as_mut_slice.ensures.value c.move_last.ensures
           (ap (λ (x : Arrival). length x.parity) c.fill_slot.ensures ∙ c.requires.sized ∙ ap (λ (h : HeldFrames). h.size) (sym c.self.view_is)) c.self.invariant.2,
     )

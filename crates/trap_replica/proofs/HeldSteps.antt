@@ -1,0 +1,146 @@
+-- How held frames are applied, one after the other.
+use Rattle.std.proofs.Common.{◌≡◌, ◌⊎◌, ⊎_elim, ℕ, zero, suc, ◌+◌, ◌^◌, ◌<◌, ◌≤◌, ◌==◌, if◌then◌else◌, Bool, true}
+use Rattle.std.proofs.Common.{false, List, [], ◌∷◌, length, drop, IsTrue, inl, inr, refl, sym, ap, subst, ◌∙◌, arith}
+use Rattle.std.proofs.lemmas.Bool.Decides.{nat_tests}
+use Rattle.std.specs.List.{All}
+use Rattle.std.proofs.lemmas.List.Elements.{All-head, All-tail, All-weaker}
+use Rattle.trap_bank.specs.Disks.{View, Disks, Quiet}
+use Rattle.trap_bank.specs.Steps.{Moves, Always}
+use Rattle.trap_bank.proofs.Moves.{no_moves, moves_then, moves_weaken}
+use Rattle.trap_format.specs.declared.shape.Shape.{Shape}
+use Rattle.trap_model.specs.Receiver.{Receiver, applied, settled, xored}
+use Rattle.trap_model.specs.declared.arrival.Arrival.{Arrival}
+use Rattle.trap_replica.specs.Holding.{HeldFrames, Ascends, has_next, Suits, SuitAll}
+use Rattle.trap_replica.specs.OnDisk.{HoldsImageBy, ReplicaHolds}
+use Rattle.trap_replica.specs.Applying.{Elsewhere, Leaves, HoldsEither}
+use Rattle.trap_replica.specs.Standing.{IsStoreReady, Mirrors, step_from, steps, seen, HoldsPassed, Passed, PassesHeld}
+use Rattle.trap_replica.specs.declared.store.Store.{Store}
+use Rattle.trap_replica.proofs.OneFrame.{leaves_none, else_then, touch_then}
+
+-- some steps, and then more
+steps_add : (m n : ℕ) (r : Receiver) → steps m (steps n r) ≡ steps (m + n) r
+steps_add zero n r = let e : n ≡ 0 + n = omega arith in ap (λ (k : ℕ). steps k r) e
+steps_add (suc m) n r =
+    let e : suc (m + n) ≡ suc m + n = omega arith in
+    ap (λ (x : Receiver). step_from x x.held) (steps_add m n r) ∙ ap (λ (k : ℕ). steps k r) e
+
+-- a crash between further steps is one between all of them
+passed_later : (s : Shape) (n : ℕ) (r : Receiver) (x : Disks) → HoldsPassed s (steps n r) x → HoldsPassed s r x
+passed_later s n r x holds = record {
+  count = holds.count + n;
+  holds = subst (λ (t : Receiver). ReplicaHolds s t.number t.time t.image x) (steps_add holds.count n r) holds.holds;
+}
+
+-- one run after another, of which each leaves something of its own
+leaves_join : (a b c : View) (first second both : Disks → Type 0) → Leaves a b first → Leaves b c second → ((x : Disks) → first x → both x) → ((x : Disks) → second x → both x) → Leaves a c both
+leaves_join a b c first second both one two less more = moves_then a b c (λ x y. first y) (λ x y. first y) (λ x y. second y) (λ x y. second y) (λ x y. both y) (λ x y. both y) one two
+    (λ x y was left. less y.disks left)
+    (λ x y z was left mid next. more z.disks next)
+    (λ x y z was left mid next. more z.disks next)
+
+leaves_wider : (a b : View) (first both : Disks → Type 0) → Leaves a b first → ((x : Disks) → first x → both x) → Leaves a b both
+leaves_wider a b first both one less = moves_weaken a b (λ x y. first y) (λ x y. first y) (λ x y. both y) (λ x y. both y) one
+    (λ x y was left. less y.disks left)
+    (λ x y was mid left. less y.disks left)
+
+-- nothing was applied yet
+pub passed_none : (p : Store) (h : HeldFrames) (a : View) → IsStoreReady p a → SuitAll p.shape p.number p.number h → Passed p p h h a a
+passed_none p h a ready suit = record { count = 0; is = λ image. refl; mirrors = λ image mirrors. mirrors; ready = ready; suit = suit }
+
+pub passes_none : (p : Store) (h : HeldFrames) (a : View) → PassesHeld p p h a a
+passes_none p h a = record {
+  shape = refl;
+  sizes = λ e. refl;
+  elsewhere = no_moves a Elsewhere Elsewhere (λ x was e other. refl);
+  touches = λ told. record { disks = λ e other. refl; said = refl };
+  any_moment = λ image mirrors. leaves_none a (HoldsImageBy p.shape p.block p.number p.time image) (HoldsPassed p.shape (seen p h image)) mirrors.holds
+      (λ x has. record { count = 0; holds = (p.block, has) });
+}
+
+-- some were applied, and then more
+pub passed_then : (p q s : Store) (h k l : HeldFrames) (a b c : View) → Passed p q h k a b → Passed q s k l b c → Passed p s h l a c
+passed_then p q s h k l a b c first second = record {
+  count = second.count + first.count;
+  is = λ image. subst (λ (r : Receiver). seen s l r.image ≡ r) (all image) (second.is (steps first.count (seen p h image)).image);
+  mirrors = λ image mirrors. subst (λ (r : Receiver). Mirrors s c r.image) (all image) (second.mirrors (steps first.count (seen p h image)).image (first.mirrors image mirrors));
+  ready = second.ready;
+  suit = second.suit;
+}
+  where
+    all : (image : List (List ℕ)) → steps second.count (seen q k (steps first.count (seen p h image)).image) ≡ steps (second.count + first.count) (seen p h image)
+    all image = ap (steps second.count) (first.is image) ∙ steps_add second.count first.count (seen p h image)
+
+pub passes_then : (p q s : Store) (h k : HeldFrames) (a b c : View) → PassesHeld p q h a b → Passed p q h k a b → PassesHeld q s k b c → PassesHeld p s h a c
+passes_then p q s h k a b c one first two = record {
+  shape = two.shape ∙ one.shape;
+  sizes = λ e. two.sizes e ∙ one.sizes e;
+  elsewhere = else_then a b c one.elsewhere two.elsewhere;
+  touches = touch_then a b c one.elsewhere.tells one.touches two.touches;
+  any_moment = λ image mirrors. leaves_join a b c (HoldsPassed p.shape (seen p h image)) (HoldsPassed q.shape (seen q k (steps first.count (seen p h image)).image))
+      (HoldsPassed p.shape (seen p h image))
+      (one.any_moment image mirrors) (two.any_moment (steps first.count (seen p h image)).image (first.mirrors image mirrors))
+      (λ x left. left)
+      (λ x left. passed_later p.shape first.count (seen p h image) x (subst (λ (r : Receiver). HoldsPassed p.shape r x) (first.is image)
+      (subst (λ (t : Shape). HoldsPassed t (seen q k (steps first.count (seen p h image)).image) x) one.shape left)));
+}
+
+-- the first held frame is the next
+next_is : (n : ℕ) (f : Arrival) (frames : List Arrival) → has_next n (f ∷ frames) ≡ true → f.seq ≡ n + 1
+next_is n f frames next = grind (arith, nat_tests)
+
+module _ (p q : Store) (h k : HeldFrames) (f : Arrival) (rest : List Arrival) (a b : View) (is : h.frames ≡ f ∷ rest) (next : has_next p.number h.frames ≡ true) where
+  seq : f.seq ≡ p.number + 1
+  seq = next_is p.number f rest (ap (has_next p.number) (sym is) ∙ next)
+
+  one_step : (image : List (List ℕ)) → steps 1 (seen p h image) ≡ record { number = p.number + 1; time = f.time; image = xored image f; held = rest }
+  one_step image = ap (step_from (seen p h image)) is ∙ ap (λ (t : Bool). if t then applied (seen p h image) f rest else seen p h image) (ap (has_next p.number) (sym is) ∙ next)
+
+  -- what is known of the first held frame
+  pub first_suits : (s : Shape) → SuitAll s p.number p.number h → Suits s p.number f
+  first_suits s suit = All-head (Suits s p.number) f rest (subst (λ (l : List Arrival). All (Suits s p.number) l) is suit.each)
+
+  pub first_room : (s : Shape) → SuitAll s p.number p.number h → p.number < 2 ^ 40
+  first_room s suit = let e = seq in let last = (first_suits s suit).last in omega arith
+
+  -- it is applied
+  pub first_passes : q.shape ≡ p.shape → ((e : ℕ) → b.sizes e ≡ a.sizes e) → Moves a b Elsewhere Elsewhere → (IsTrue a.tells → Quiet Elsewhere a.now b.now)
+      → ((image : List (List ℕ)) → Mirrors p a image → Leaves a b (HoldsEither p.shape p.number p.time image f)) → PassesHeld p q h a b
+  first_passes shape sizes elsewhere touches leaves = record {
+    shape = shape;
+    sizes = sizes;
+    elsewhere = elsewhere;
+    touches = touches;
+    any_moment = λ image mirrors. leaves_wider a b (HoldsEither p.shape p.number p.time image f) (HoldsPassed p.shape (seen p h image)) (leaves image mirrors)
+        (λ x either. ⊎_elim
+        (λ old. record { count = 0; holds = old })
+        (λ new. record { count = 1; holds = subst (λ (r : Receiver). ReplicaHolds p.shape r.number r.time r.image x) (sym (one_step image)) new })
+        either);
+  }
+
+  pub first_passed : q.shape ≡ p.shape → q.number ≡ p.number + 1 → q.time ≡ f.time → k.size ≡ h.size → k.frames ≡ rest → IsStoreReady q b → SuitAll p.shape p.number p.number h
+      → ((image : List (List ℕ)) → Mirrors p a image → Mirrors q b (xored image f)) → Passed p q h k a b
+  first_passed shape number time size frames ready suit mirrors = record {
+    count = 1;
+    is = λ image. subst (λ (r : Receiver). seen q k r.image ≡ r) (sym (one_step image)) (same image);
+    mirrors = λ image mirrors_old. subst (λ (r : Receiver). Mirrors q b r.image) (sym (one_step image)) (mirrors image mirrors_old);
+    ready = ready;
+    suit = record {
+      size = size ∙ suit.size ∙ ap (λ (t : Shape). t.block) (sym shape);
+      order = order;
+      each = subst (λ (t : Shape). All (Suits t q.number) k.frames) (sym shape) (subst (λ (l : List Arrival). All (Suits p.shape q.number) l) (sym frames)
+          (All-weaker (Suits p.shape p.number) (Suits p.shape q.number) (λ g fits. record {
+            near = omega (arith, fits.near, number);
+            last = fits.last;
+            inside = fits.inside;
+            sized =
+                fits.sized;
+          }) rest
+          (All-tail (Suits p.shape p.number) f rest (subst (λ (l : List Arrival). All (Suits p.shape p.number) l) is suit.each))));
+    };
+  }
+    where
+      same : (image : List (List ℕ)) → seen q k (xored image f) ≡ record { number = p.number + 1; time = f.time; image = xored image f; held = rest }
+      same image = cc (number, time, frames)
+
+      order : Ascends q.number k.frames
+      order = subst (λ (n : ℕ). Ascends n k.frames) (seq ∙ sym number) (subst (λ (l : List Arrival). Ascends f.seq l) (sym frames) (subst (λ (l : List Arrival). Ascends p.number l) is suit.order).1)
