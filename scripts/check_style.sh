@@ -16,17 +16,19 @@ wider() { # file, columns
 too_wide() { # crate
   find "$1/src" "$1/specs" -name '*.rt' -o -name '*.antt' | while read -r file; do wider "$file" 100; done
 }
-# Functions whose body has more than 40 lines, or more than five levels of indentation; tests may be longer.
+# Functions whose body has more than 40 lines, or more than three levels within one another; tests may be longer. And functions
+# with more clauses of one kind (`ensures`) than the limit that docs/CONTRIBUTING.md states.
 too_long() { # crate
-  find "$1/src" -name '*.rt' ! -name '*test*' | while read -r file; do
+  find "$1/src" -name '*.rt' ! -path '*test*' | while read -r file; do
     awk -v file="$file" '
-      /^ *(pub(\([a-z]*\))? )?(const )?fn [a-z]/ && !body { match($0, /^ */); indent = RLENGTH; name = $0; sub(/.*fn /, "", name); sub(/[(<].*/, "", name); inside = 1; clauses = 0 }
+      /^ *(pub(\([a-z]*\))? )?(const )?fn [a-z]/ && !body { match($0, /^ */); indent = RLENGTH; name = $0; sub(/.*fn /, "", name); sub(/[(<].*/, "", name); inside = 1; clauses = 0; ensured = 0; most = $0 ~ /^ *pub fn/ ? 11 : 13 }
       body { level = match($0, /[^ ]/) - 1 - indent; if (level == 0 && $0 ~ /^ *}/) {
           if (NR - start - 1 > 40) print file ": " name " has " NR - start - 1 " lines, more than 40"
-          if (deepest > 20) print file ": " name " has more than five levels"
+          if (deepest > 16) print file ": " name " has more than three levels"
           body = 0; inside = 0; next }
         if (level > deepest) deepest = level }
-      inside && !body && /^ *(requires|ensures) / { clauses = 1 }
+      inside && !body && /^ *(requires|ensures\*?) / { clauses = 1 }
+      inside && !body && /^ *ensures\*? / { ensured++; if (ensured == most + 1) print file ": " name " has more than " most " clauses" }
       inside && !body && ((!clauses && /\{$/) || (clauses && /^ *\{$/)) { body = 1; start = NR; deepest = 0 }
     ' "$file"
   done
