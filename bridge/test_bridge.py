@@ -61,11 +61,20 @@ class Served:
         return int(found[0])
 
     def connect(self, export=""):
-        handle = nbd.NBD()
-        handle.set_export_name(export)
-        handle.connect_unix(self.socket)
-        self.handles.append(handle)
-        return handle
+        # The socket is there before anything listens on it.
+        end = time.monotonic() + 20
+        while True:
+            handle = nbd.NBD()
+            handle.set_export_name(export)
+            try:
+                handle.connect_unix(self.socket)
+            except nbd.Error as failed:
+                if failed.errnum == errno.ECONNREFUSED and self.server.poll() is None and time.monotonic() < end:
+                    time.sleep(0.01)
+                    continue
+                raise
+            self.handles.append(handle)
+            return handle
 
     def logged(self):
         with open(self.log) as file:
