@@ -1,7 +1,7 @@
 #!/usr/bin/env bash
-# Refuses each request for memory of `create` and `session` in turn, by the kit's `rt try --fail-alloc`: the program ends with
-# status 10, prints nothing but its fault line, and takes no byte of its input. It proves nothing and is no part of the gate; it
-# takes some minutes, since the kit builds the program with its checks first.
+# Refuses each request for memory of `session` and `create` in turn, by the kit's `rt try --fail-alloc`: the program ends with
+# status 10 and prints nothing but its fault line. That no byte of the input is taken then isn't seen here: the clause `unread` of
+# `run` says it. It proves nothing and is no part of the gate; each try takes half a minute, since the kit builds the program anew.
 set -uo pipefail
 root=$(cd "$(dirname "$0")/.." && pwd)
 program=${PROGRAM:-$root/crates/trap_cli/out/trap_cli}
