@@ -1,7 +1,7 @@
 -- How numbers of calls add up.
 use Rattle.std.proofs.Common.{◌≡◌, ℕ, ◌+◌, ◌≤◌, IsTrue, Result, Ok, refl, sym, ap, subst, ◌∙◌, arith}
 use Rattle.trap_bank.specs.Disks.{View}
-use Rattle.trap_bank.specs.Calls.{Goes}
+use Rattle.trap_bank.specs.Calls.{IsOneCall}
 use Rattle.trap_bank.specs.Called.{moment_after, CalledTimes, CalledAtMost, TakesCalls}
 
 -- calls, and then more calls
@@ -15,8 +15,8 @@ moment_along : (b x y : ℕ) → x ≤ y → moment_after b x ≤ moment_after b
 moment_along b x y more = omega arith
 
 -- one call, whatever its answer
-pub called_once : {T E : Type 0} (result : Result T E) (old new : View) → Goes result old new → CalledTimes 1 old new
-called_once result old new goes = record { tells = goes.tells; by_one = goes.way; moment = λ told by_one. goes.by_one told by_one }
+pub called_once : {T E : Type 0} (result : Result T E) (old new : View) → IsOneCall result old new → CalledTimes 1 old new
+called_once result old new goes = record { tells = goes.tells; by_one = goes.same_by_one; moment = λ told by_one. goes.by_one told by_one }
 
 -- no call
 pub not_called : (v : View) → CalledTimes 0 v v

@@ -13,3 +13,5 @@ pub mod CrashedRanges
 pub mod CrashedDisks
 pub mod Called
 pub mod OnlyReads
+pub mod Rising
+pub mod Filled

@@ -1,7 +1,7 @@
 -- What the calls of a bank in memory do, by the views before and after them.
 use Rattle.std.proofs.Common.{◌≡◌, ℕ, ◌-◌, ◌^◌, ◌<◌, ◌≤◌, List, [], length, Option, Some, None, Bool, true, false, Ok, Err, IsTrue, refl, sym, inl, inr, arith, append-nil, le_refl, subst}
 use Rattle.trap_bank.specs.Disks.{bytes_of, size_of, region}
-use Rattle.trap_bank.specs.Calls.{Fits, Goes, Reads, Writes, Syncs, Says, Makes}
+use Rattle.trap_bank.specs.Calls.{Fits, IsOneCall, Reads, Writes, Syncs, Says, Makes}
 use Rattle.trap_bank.specs.Counts.{one_more, with_raised}
 use Rattle.trap_bank.specs.Record.{bytes_kept}
 use Rattle.trap_bank.specs.Memory.{Memory, IsMemoryBank, disk_at, view_of}
@@ -24,7 +24,7 @@ fits_bytes m d end_ fits = fits_disk (bytes_kept (disk_at m d)) fits.0 end_ fits
 
 -- a call that fails and changes counts alone
 fails : {T E : Type 0} (error : E) (m : Memory) (d k s : ℕ) → IsMemoryBank m → d ≤ 20 → k ≡ one_more m.moment
-    → Goes {T = T} (Err error) (view_of m) (view_of (recounted m k (with_raised m.faults d) m.port_faults s))
+    → IsOneCall {T = T} (Err error) (view_of m) (view_of (recounted m k (with_raised m.faults d) m.port_faults s))
 fails error m d k s sound le passes = goes (Err error) m (recounted m k (with_raised m.faults d) m.port_faults s) passes
     (λ e. none_falls m.faults d e (counted m d sound le)) (le_refl m.port_faults) tt
 

@@ -5,7 +5,7 @@ use Rattle.trap_bank.specs.declared.record.Change.{Change}
 use Rattle.trap_bank.specs.declared.record.Entry.{Entry}
 use Rattle.trap_bank.specs.Faults.{Rose}
 use Rattle.trap_bank.specs.Disks.{Contents}
-use Rattle.trap_bank.specs.Calls.{Goes, KeepsLeft, MayLeave}
+use Rattle.trap_bank.specs.Calls.{IsOneCall, KeepsLeft, MayLeave}
 use Rattle.trap_bank.specs.Counts.{one_more}
 use Rattle.trap_bank.specs.Kept.{Kept}
 use Rattle.trap_bank.specs.Record.{State, before, still, InCall, InCalls, BeganBefore}
@@ -33,14 +33,14 @@ began s (e ∷ older) n t c before_ h = let from : t ≤ e.moment = h.0 in omega
 
 pub goes : {T E : Type 0} (result : Result T E) (m n : Memory) → n.moment ≡ one_more m.moment
     → ((e : ℕ) → get_or m.faults e 0 ≤ get_or n.faults e 0) → m.port_faults ≤ n.port_faults → OnOk result (m.moment < n.moment)
-    → Goes result (view_of m) (view_of n)
+    → IsOneCall result (view_of m) (view_of n)
 goes result m n passes faults port rises = record {
   tells = refl;
   faults = faults;
   port_faults = port;
   later = omega arith;
   rises = λ told. rises;
-  way = refl;
+  same_by_one = refl;
   by_one = λ told way. passes;
 }
 

@@ -5,8 +5,23 @@ use Rattle.std.proofs.lemmas.Bool.Decides.{nat_tests}
 use Rattle.std.specs.Prelude.{nat_lt}
 use Rattle.trap_bank.specs.Disks.{Contents, View, Disks, Area, Within, Either, Differs, Torn, Quiet, byte, bytes_of, size_of}
 use Rattle.trap_bank.specs.Calls.{LeftOver, MayLeave, LeftMaking, LeftSaying, NoneUnsynced, IsLawful, Reads, Writes, Syncs, Says, Makes}
-use Rattle.trap_bank.specs.Steps.{From, Steps, Moves, Same, Settled, Spoke, SpokePart, RemadeDisk, MadeDisk, Always}
+use Rattle.trap_bank.specs.Steps.{From, Steps, Moves, Same, Spoke, SpokePart, Always}
 use Rattle.trap_bank.proofs.Regions.{disk_apart, same_length, differs_mono, differs_again, differs_same}
+
+-- the same, and of this disk a crash leaves what a read gives
+pub record Settled (v : View) (d : ℕ) (old new : Disks) : Type 0 where
+  pub same : new ≡ old
+  pub read : new d ≡ v.now.disks d
+
+-- the disk is as before, or absent, or has at most n bytes, all zero; the others are the same
+pub record RemadeDisk (d n : ℕ) (old new : Disks) : Type 0 where
+  pub others : (e : ℕ) → e ≢ d → new e ≡ old e
+  pub disk : (new d ≡ old d) ⊎ (new d ≡ None) ⊎ ((k : ℕ) × (k ≤ n) × (new d ≡ Some (replicate k 0)))
+
+-- the disk has n zero bytes; the others are the same
+pub record MadeDisk (d n : ℕ) (old new : Disks) : Type 0 where
+  pub others : (e : ℕ) → e ≢ d → new e ≡ old e
+  pub disk : new d ≡ Some (replicate n 0)
 
 -- One run and then another: three facts on contents alone.
 pub then_ : (a b c : View) (d1 a1 d2 a2 during after : Contents → Contents → Type 0) → Steps a b d1 a1 → Steps b c d2 a2
@@ -80,6 +95,10 @@ moves_weaken a b d1 a1 during after moves in_run at_end = weaken a b (Quiet d1) 
 -- no call at all, and nothing said
 pub no_moves : (v : View) (during after : Disks → Disks → Type 0) → ((x : Contents) → MayLeave v x → after x.disks x.disks) → Moves v v during after
 no_moves v during after same = nothing_done v (Quiet during) (Quiet after) (λ x was. record { disks = same x was; said = refl })
+
+-- no call changes nothing
+pub unmoved : (v : View) → Moves v v Same Same
+unmoved v = no_moves v Same Same (λ x was. refl)
 
 -- what a crash at any moment since entry leaves
 pub since_entry : (old new : View) (during after : Contents → Contents → Type 0) → IsLawful old → ((x : Contents) → MayLeave old x → during x x)

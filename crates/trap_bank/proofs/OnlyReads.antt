@@ -1,13 +1,13 @@
 -- Runs that only read.
-use Rattle.std.proofs.Common.{ℕ, List, Result, IsTrue, refl, sym, subst, ◌∙◌}
-use Rattle.trap_bank.specs.Disks.{View, Disks}
+use Rattle.std.proofs.Common.{◌≡◌, ℕ, List, Result, IsTrue, refl, sym, ap, subst, ◌∙◌}
+use Rattle.trap_bank.specs.Disks.{Contents, View, Disks}
 use Rattle.trap_bank.specs.Calls.{Reads}
-use Rattle.trap_bank.specs.Steps.{Same, OnlyReads, Always}
-use Rattle.trap_bank.proofs.Moves.{no_moves, read_steps, same_then, always_same}
+use Rattle.trap_bank.specs.Steps.{OnlyReads, Always}
+use Rattle.trap_bank.proofs.Moves.{unmoved, read_steps, same_then, always_same}
 
 -- no call at all
 pub reads_none : (v : View) → OnlyReads v v
-reads_none v = record { sizes = λ e. refl; same = λ told. refl; moves = no_moves v Same Same (λ x was. refl) }
+reads_none v = record { sizes = λ e. refl; same = λ told. refl; moves = unmoved v }
 
 -- a call of `read`, whatever its answer
 pub reads_once : {T E : Type 0} (result : Result T E) (old new : View) (d at : ℕ) (before after : List ℕ) → Reads d at before after result old new → OnlyReads old new
@@ -24,6 +24,14 @@ reads_then a b c first second = record {
   same = λ told. second.same (subst IsTrue (sym first.moves.tells) told) ∙ first.same told;
   moves = same_then a b c first.moves second.moves;
 }
+
+-- the bank still tells its contents
+pub told_after : (a b : View) → OnlyReads a b → IsTrue a.tells → IsTrue b.tells
+told_after a b reads told = subst IsTrue (sym reads.moves.tells) told
+
+-- the disks are those before
+pub disks_same : (a b : View) → OnlyReads a b → IsTrue a.tells → b.now.disks ≡ a.now.disks
+disks_same a b reads told = ap (λ (c : Contents). c.disks) (reads.same told)
 
 -- what every crash leaves stays so
 pub reads_always : (a b : View) (has : Disks → Type 0) → OnlyReads a b → Always a has → Always b has

@@ -20,9 +20,6 @@ in_last (r ∷ rs) range i from to = inr (in_last rs range i from to)
 pub length-overlaid : (old : List ℕ) (at : ℕ) (bytes : List ℕ) → at + length bytes ≤ length old → length (overlaid old at bytes) ≡ length old
 length-overlaid old at bytes fits = simp (length-append, length-take, length-drop) (omega arith)
 
-either_side : (i n : ℕ) → (i < n) ⊎ (n ≤ i)
-either_side i n = cases_lt i n
-
 -- before the offset the bytes are as before
 pub overlaid-before : (old : List ℕ) (at : ℕ) (bytes : List ℕ) (i : ℕ) → at + length bytes ≤ length old → i < at → slice_index (overlaid old at bytes) i ≡ slice_index old i
 overlaid-before old at bytes i fits below =
@@ -56,8 +53,8 @@ pub overlaid-outside : (old : List ℕ) (at : ℕ) (bytes : List ℕ) (i : ℕ) 
     → slice_index (overlaid old at bytes) i ≡ slice_index old i
 overlaid-outside old at bytes i fits out =
     ⊎_elim (overlaid-before old at bytes i fits)
-    (λ (behind : at ≤ i). ⊎_elim (λ (within : i < at + length bytes). absurd (out behind within)) (overlaid-after old at bytes i fits) (either_side i (at + length bytes)))
-    (either_side i at)
+    (λ (behind : at ≤ i). ⊎_elim (λ (within : i < at + length bytes). absurd (out behind within)) (overlaid-after old at bytes i fits) (cases_lt i (at + length bytes)))
+    (cases_lt i at)
 
 -- a disk that was written is still well kept
 pub written_is_kept : (bytes stable : List ℕ) (ranges : List Range) (at : ℕ) (fresh : List ℕ) → at + length fresh ≤ length bytes → IsStableBut bytes stable ranges

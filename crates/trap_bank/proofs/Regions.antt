@@ -1,6 +1,7 @@
 -- Bytes of disks: what differs in an area, and what stays outside it.
-use Rattle.std.proofs.Common.{◌≡◌, ◌⊎◌, ℕ, ◌+◌, ◌-◌, ◌<◌, ◌≤◌, min, List, length, take, drop, get_or, Option, Some, None, inl, inr, ⊎_elim, refl, sym, ap, ◌∙◌, arith}
-use Rattle.std.proofs.lemmas.List.{ext_get_or, get_or-take, get_or-drop, length-take, length-drop}
+use Rattle.std.proofs.Common.{◌≡◌, ◌⊎◌, ℕ, ◌+◌, ◌-◌, ◌<◌, ◌≤◌, min, List, length, take, drop, replicate, get_or, Option, Some, None, inl, inr, ⊎_elim, refl, sym, ap, ◌∙◌, arith}
+use Rattle.std.proofs.lemmas.Bool.{cases_lt}
+use Rattle.std.proofs.lemmas.List.{ext_get_or, get_or-take, get_or-drop, get_or-replicate, get_or_past, length-take, length-drop, length-replicate, drop-take, drop-drop}
 use Rattle.trap_bank.specs.Disks.{Disks, Area, Within, Either, Differs, byte, region, bytes_of, size_of}
 
 -- disks of one size have bytes of one length
@@ -16,6 +17,33 @@ disk_ext None None e f = refl
 disk_ext None (Some ys) e f = cc
 disk_ext (Some xs) None e f = cc
 disk_ext (Some xs) (Some ys) e f = ap {B = Option (List ℕ)} Some (ext_get_or 0 xs ys (same_length (Some xs) (Some ys) e) (λ i lt. f i))
+
+-- a disk of a size has that number of bytes
+pub size_length : (disk : Option (List ℕ)) (n : ℕ) → size_of disk ≡ Some n → length (bytes_of disk) ≡ n
+size_length None n is = cc
+size_length (Some bytes) n is = cc
+
+-- a disk with no size is absent
+pub absent_disk : (disk : Option (List ℕ)) → size_of disk ≡ None → disk ≡ None
+absent_disk None is = refl
+absent_disk (Some bytes) is = cc
+
+-- each byte of zeros is 0, and so is each after them
+pub zero_byte : (n i : ℕ) → ◌≡◌ {A = ℕ} (get_or (replicate n 0) i 0) 0
+zero_byte n i =
+    let zero : ℕ = 0 in
+    ⊎_elim
+    (λ (inside : i < n). get_or-replicate n i zero zero inside)
+    (λ (past : n ≤ i). get_or_past (replicate n zero) i zero (omega (arith, length-replicate n zero, past)))
+    (cases_lt i n)
+
+-- a range of a list that begins later
+pub window_drop : (xs : List ℕ) (at end count : ℕ) → count ≤ end - at
+    → take (end - (at + count)) (drop (at + count) xs) ≡ drop count (take (end - at) (drop at xs))
+window_drop xs at end count within =
+    let parts : count + (end - (at + count)) ≡ end - at = omega arith in
+    sym (ap (λ (n : ℕ). drop count (take n (drop at xs))) (sym parts) ∙ drop-take count (end - (at + count)) (drop at xs)
+    ∙ ap (take (end - (at + count))) (drop-drop count at xs))
 
 -- the length of a region
 pub region_length : (x : Disks) (d at n : ℕ) → length (region x d at n) ≡ min n (length (bytes_of (x d)) - at)

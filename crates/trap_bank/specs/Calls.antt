@@ -1,7 +1,9 @@
 -- What each call of a bank does, and what a crash may leave.
-use Rattle.std.specs.Prelude.{◌≡◌, ◌≢◌, ◌⊎◌, ℕ, ◌+◌, ◌-◌, ◌^◌, ◌<◌, ◌≤◌, min, max, List, ◌++◌, length, replicate, Some, None, IsTrue, Result, OnOk, OnErr}
+use Rattle.std.specs.Prelude.{◌≡◌, ◌≢◌, ◌⊎◌, ℕ, ◌+◌, ◌-◌, ◌^◌, ◌<◌, ◌≤◌, min, max, List, ◌++◌}
+use Rattle.std.specs.Prelude.{length, replicate, Some, None, IsTrue, Result, OnOk, OnErr}
 use Rattle.trap_bank.specs.Faults.{Rose}
-use Rattle.trap_bank.specs.Disks.{Contents, View, Area, Within, Either, Differs, Torn, region, size_of}
+use Rattle.trap_bank.specs.Disks.{Contents, View, Area, Within, Either, Differs, Torn, region}
+use Rattle.trap_bank.specs.Disks.{size_of}
 
 -- the bank tells, and the contents differ from these at most in the area
 pub record LeftOver (area : Area) (v : View) (c : Contents) : Type 0 where
@@ -25,13 +27,13 @@ pub record IsLawful (v : View) : Type 0 where
   pub counts_now : (t : ℕ) → IsTrue v.tells → t ≤ v.moment → v.left t v.now
 
 -- what every call does: no count falls, and time goes on
-pub record Goes {T E : Type 0} (result : Result T E) (old new : View) : Type 0 where
+pub record IsOneCall {T E : Type 0} (result : Result T E) (old new : View) : Type 0 where
   pub tells : new.tells ≡ old.tells
   pub faults : (e : ℕ) → old.faults e ≤ new.faults e
   pub port_faults : old.port_faults ≤ new.port_faults
   pub later : old.moment ≤ new.moment
   pub rises : IsTrue old.tells → OnOk result (old.moment < new.moment)
-  pub way : new.by_one ≡ old.by_one
+  pub same_by_one : new.by_one ≡ old.by_one
   pub by_one : IsTrue old.tells → IsTrue old.by_one
       → new.moment ≡ max old.moment (min (old.moment + 1) (2 ^ 64 - 1))
 
@@ -48,7 +50,7 @@ NoneUnsynced old new = (e i : ℕ) → new.unsynced e i → old.unsynced e i
 -- the buffer is filled from the disk
 pub record Reads {T E : Type 0} (d at : ℕ) (before after : List ℕ) (result : Result T E)
     (old new : View) : Type 0 where
-  pub goes : Goes result old new
+  pub goes : IsOneCall result old new
   pub sizes : (e : ℕ) → new.sizes e ≡ old.sizes e
   pub cause : OnErr result (Rose (old.faults d) (new.faults d))
   pub time : KeepsLeft old new (MayLeave old)
@@ -59,7 +61,7 @@ pub record Reads {T E : Type 0} (d at : ℕ) (before after : List ℕ) (result :
 -- the bytes are written over the disk's, and their range is unsynced
 pub record Writes {T E : Type 0} (d at : ℕ) (bytes : List ℕ) (result : Result T E) (old new : View)
     : Type 0 where
-  pub goes : Goes result old new
+  pub goes : IsOneCall result old new
   pub sizes : (e : ℕ) → new.sizes e ≡ old.sizes e
   pub cause : OnErr result (Rose (old.faults d) (new.faults d))
   pub time : KeepsLeft old new (LeftOver (Either old.unsynced (Within d at (length bytes))) old)
@@ -70,7 +72,7 @@ pub record Writes {T E : Type 0} (d at : ℕ) (bytes : List ℕ) (result : Resul
 
 -- no position of the disk stays unsynced
 pub record Syncs {T E : Type 0} (d : ℕ) (result : Result T E) (old new : View) : Type 0 where
-  pub goes : Goes result old new
+  pub goes : IsOneCall result old new
   pub sizes : (e : ℕ) → new.sizes e ≡ old.sizes e
   pub cause : OnErr result (Rose (old.faults d) (new.faults d))
   pub time : KeepsLeft old new (MayLeave old)
@@ -94,7 +96,7 @@ pub record LeftSaying (piece : List ℕ) (v : View) (c : Contents) : Type 0 wher
 -- the piece is said on the port
 pub record Says {T E : Type 0} (piece : List ℕ) (result : Result T E) (old new : View)
     : Type 0 where
-  pub goes : Goes result old new
+  pub goes : IsOneCall result old new
   pub sizes : (e : ℕ) → new.sizes e ≡ old.sizes e
   pub cause : OnErr result (Rose old.port_faults new.port_faults)
   pub time : KeepsLeft old new (LeftSaying piece old)
@@ -119,7 +121,7 @@ pub record LeftMaking (d n : ℕ) (v : View) (c : Contents) : Type 0 where
 
 -- the disk gets n zero bytes, whatever it was, and these are stable
 pub record Makes {T E : Type 0} (d n : ℕ) (result : Result T E) (old new : View) : Type 0 where
-  pub goes : Goes result old new
+  pub goes : IsOneCall result old new
   pub others : (e : ℕ) → e ≢ d → new.sizes e ≡ old.sizes e
   pub sized : OnOk result (new.sizes d ≡ Some n)
   pub resized : (new.sizes d ≡ old.sizes d) ⊎ (new.sizes d ≡ None)

@@ -1,5 +1,6 @@
 -- A crash of a bank in memory.
-use Rattle.std.specs.Prelude.{◌≡◌, ℕ, zero, suc, ◌%◌, ◌^◌, List, [], ◌∷◌, length, replicate, get_or, slice_set, Option, Some, None, if◌then◌else◌, ◌==◌, nat_lt}
+use Rattle.std.specs.Prelude.{◌≡◌, ℕ, zero, suc, ◌%◌, ◌^◌, List, [], ◌∷◌, length, replicate, get_or}
+use Rattle.std.specs.Prelude.{slice_set, Option, Some, None, if◌then◌else◌, ◌==◌, nat_lt}
 use Rattle.trap_bank.specs.declared.disk.Range.{Range}
 use Rattle.trap_bank.specs.Disks.{bytes_of, size_of}
 use Rattle.trap_bank.specs.Calls.{MayLeave}

@@ -1,5 +1,6 @@
 -- Disks and the reply port, as a read gives them or as a crash leaves them.
-use Rattle.std.specs.Prelude.{◌≡◌, ◌⊎◌, ℕ, ◌+◌, ◌<◌, ◌≤◌, List, [], length, take, drop, slice_index, Option, Some, None, Bool}
+use Rattle.std.specs.Prelude.{◌≡◌, ◌⊎◌, ℕ, ◌+◌, ◌<◌, ◌≤◌, List, [], length, take, drop, slice_index}
+use Rattle.std.specs.Prelude.{Option, Some, None, Bool}
 
 -- the bytes of a disk; none where it is absent
 abbrev pub bytes_of : Option (List ℕ) → List ℕ

@@ -2,7 +2,9 @@
 -- answer.
 use Rattle.std.specs.Prelude.{◌≡◌, ◌⊎◌, ℕ, List, Result, OnOk, OnErr}
 use Rattle.trap_bank.specs.Memory.{Memory}
-use Rattle.trap_bank.specs.MemorySteps.{IsStruck, IsStruckOn, IsWorn, counted_on, passed, found_no_memory, blamed, port_blamed, written, synced, made, spoken}
+use Rattle.trap_bank.specs.MemorySteps.{IsStruck, IsStruckOn, IsWorn, counted_on, passed}
+use Rattle.trap_bank.specs.MemorySteps.{found_no_memory, blamed, port_blamed, overwritten, synced}
+use Rattle.trap_bank.specs.MemorySteps.{made, spoken}
 
 -- The call did its work, or it was to fail, or it found no memory.
 pub record Effect {T E : Type 0} (is_struck : Type 0) (result : Result T E)
@@ -37,8 +39,8 @@ pub record ReadEffect {T E : Type 0} (d : ℕ) (result : Result T E) (old new : 
 -- are not where there was no memory, nor where no further call has a number.
 pub record WriteEffect {T E : Type 0} (d at : ℕ) (bytes : List ℕ) (result : Result T E)
     (old new : Memory) : Type 0 where
-  pub ok : OnOk result (new ≡ written (counted_on old d) d at bytes)
+  pub ok : OnOk result (new ≡ overwritten (counted_on old d) d at bytes)
   pub worn : IsWorn old → new ≡ blamed (counted_on old d) d
   pub err : OnErr result (IsWorn old
-      ⊎ (IsStruckOn old d × (new ≡ blamed (written (counted_on old d) d at bytes) d))
+      ⊎ (IsStruckOn old d × (new ≡ blamed (overwritten (counted_on old d) d at bytes) d))
       ⊎ (new ≡ blamed (found_no_memory (counted_on old d)) d))

@@ -4,6 +4,7 @@ pub mod Calls
 pub mod Steps
 pub mod Called
 pub mod Stream
+pub mod Filling
 pub mod Schedule
 pub mod Counts
 pub mod Listed

@@ -1,11 +1,13 @@
 -- A bank in memory.
-use Rattle.std.specs.Prelude.{◌≡◌, ◌⊎◌, ℕ, ◌^◌, ◌<◌, ◌≤◌, List, [], length, replicate, get_or, Option, None, true}
+use Rattle.std.specs.Prelude.{◌≡◌, ◌⊎◌, ℕ, ◌^◌, ◌<◌, ◌≤◌, List, [], length, replicate, get_or}
+use Rattle.std.specs.Prelude.{Option, None, true}
 use Rattle.trap_bank.specs.declared.record.Entry.{Entry}
 use Rattle.trap_bank.specs.Disks.{Contents, View, size_of}
 use Rattle.std.proofs.Common.{refl, inl, ⊎_elim, lt_irrefl}
 use Rattle.trap_bank.specs.Calls.{MayLeave, IsLawful}
 use Rattle.trap_bank.specs.Kept.{Kept}
-use Rattle.trap_bank.specs.Record.{State, still, contents_of, area_of, bytes_kept, ranges_kept, InCalls, BeganBefore}
+use Rattle.trap_bank.specs.Record.{State, still, contents_of, area_of, bytes_kept, ranges_kept}
+use Rattle.trap_bank.specs.Record.{InCalls, BeganBefore}
 
 pub record Memory : Type 0 where
   -- each disk, or that it is absent

@@ -1,5 +1,6 @@
 -- A source of bytes in memory.
-use Rattle.std.specs.Prelude.{◌≡◌, ◌↔◌, ℕ, ◌-◌, ◌^◌, min, max, List, length, drop, replicate, Some, Result, Contains, IsErr, IfOk, MatchResult, false}
+use Rattle.std.specs.Prelude.{◌≡◌, ◌↔◌, ℕ, ◌-◌, ◌^◌, min, max, List, length, drop, replicate, Some}
+use Rattle.std.specs.Prelude.{Result, Contains, IsErr, IfOk, MatchResult, false}
 use Rattle.trap_bank.specs.declared.memory_input.MemorySource.{MemorySource}
 use Rattle.trap_bank.specs.Counts.{one_more}
 use Rattle.trap_bank.specs.Stream.{Stream}

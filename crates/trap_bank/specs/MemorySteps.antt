@@ -1,5 +1,7 @@
 -- The steps of which the calls of a bank in memory are made.
-use Rattle.std.specs.Prelude.{◌≡◌, ◌⊎◌, ℕ, ◌+◌, ◌-◌, ◌^◌, ◌≤◌, List, [], ◌∷◌, ◌++◌, length, slice_range, slice_set, Option, Some, None, get_or, MatchOption, Contains}
+use Rattle.std.specs.Prelude.{◌≡◌, ◌⊎◌, ℕ, ◌+◌, ◌-◌, ◌^◌, ◌≤◌, List, [], ◌∷◌, ◌++◌, length}
+use Rattle.std.specs.Prelude.{slice_range, slice_set, Option, Some, None, get_or, MatchOption}
+use Rattle.std.specs.Prelude.{Contains}
 use Rattle.trap_bank.specs.declared.record.Change.TheVariants.{Made, Written, Synced, Said}
 use Rattle.trap_bank.specs.Counts.{one_more, with_raised}
 use Rattle.trap_bank.specs.Kept.{Kept, zero_disk, written_disk, settled_disk}
@@ -64,8 +66,8 @@ option_range None from to = []
 option_range (Some disk) from to = slice_range disk.bytes from to
 
 -- bytes were laid over the disk's
-abbrev pub written : Memory → ℕ → ℕ → List ℕ → Memory
-written m d at bytes = record m {
+abbrev pub overwritten : Memory → ℕ → ℕ → List ℕ → Memory
+overwritten m d at bytes = record m {
   disks = slice_set m.disks d (option_written (disk_at m d) at bytes);
   past = record {
     moment = m.moment;

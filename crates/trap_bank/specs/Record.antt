@@ -1,5 +1,6 @@
 -- What a bank in memory keeps of its calls, and what crashes in them may have left.
-use Rattle.std.specs.Prelude.{◌⊎◌, ℕ, ◌-◌, ◌<◌, ◌≤◌, List, [], ◌∷◌, length, take, drop, ◌==◌, if◌then◌else◌, Option, Some, None, true}
+use Rattle.std.specs.Prelude.{◌⊎◌, ℕ, ◌-◌, ◌<◌, ◌≤◌, List, [], ◌∷◌, length, take, drop, ◌==◌}
+use Rattle.std.specs.Prelude.{if◌then◌else◌, Option, Some, None, true}
 use Rattle.trap_bank.specs.declared.disk.Range.{Range}
 use Rattle.trap_bank.specs.declared.record.Change.{Change}
 use Rattle.trap_bank.specs.declared.record.Change.TheVariants.{Made, Written, Synced, Said}

@@ -1,5 +1,5 @@
 -- What a run of calls does to a bank, crashes at any moment included.
-use Rattle.std.specs.Prelude.{◌≡◌, ◌≢◌, ◌⊎◌, ℕ, ◌≤◌, List, ◌++◌, length, replicate, Some, None, IsTrue}
+use Rattle.std.specs.Prelude.{◌≡◌, ◌⊎◌, ℕ, ◌≤◌, List, ◌++◌, length, IsTrue}
 use Rattle.trap_bank.specs.Disks.{Contents, View, Disks, Quiet, Differs, Within, region}
 use Rattle.trap_bank.specs.Calls.{MayLeave, SaysPart}
 
@@ -27,11 +27,6 @@ Moves old new during after = Steps old new (Quiet during) (Quiet after)
 abbrev pub Same : Disks → Disks → Type 0
 Same old new = new ≡ old
 
--- the same, and of this disk a crash leaves what a read gives
-pub record Settled (v : View) (d : ℕ) (old new : Disks) : Type 0 where
-  pub same : new ≡ old
-  pub read : new d ≡ v.now.disks d
-
 -- these bytes stand there, and nothing else differs
 pub record Placed (d at : ℕ) (bytes : List ℕ) (old new : Disks) : Type 0 where
   pub differs : Differs (Within d at (length bytes)) old new
@@ -51,16 +46,6 @@ pub record Spoke (piece : List ℕ) (old new : Contents) : Type 0 where
 pub record SpokePart (piece : List ℕ) (old new : Contents) : Type 0 where
   pub disks : new.disks ≡ old.disks
   pub says : SaysPart piece old new
-
--- the disk is as before, or absent, or has at most n bytes, all zero; the others are the same
-pub record RemadeDisk (d n : ℕ) (old new : Disks) : Type 0 where
-  pub others : (e : ℕ) → e ≢ d → new e ≡ old e
-  pub disk : (new d ≡ old d) ⊎ (new d ≡ None) ⊎ ((k : ℕ) × (k ≤ n) × (new d ≡ Some (replicate k 0)))
-
--- the disk has n zero bytes; the others are the same
-pub record MadeDisk (d n : ℕ) (old new : Disks) : Type 0 where
-  pub others : (e : ℕ) → e ≢ d → new e ≡ old e
-  pub disk : new d ≡ Some (replicate n 0)
 
 -- The run only read: sizes, what a read gives and what was said are the same, also after a crash at
 -- any moment.

@@ -1,6 +1,7 @@
 //! The numbers of the calls that are to fail.
 
-ghost use Rattle.std.specs.Prelude.{◌≡◌, ◌↔◌, ◌∷◌, ◌-◌, ◌<◌, Contains, IsTrue, length, replicate, take};
+ghost use Rattle.std.specs.Prelude.{◌≡◌, ◌↔◌, ◌∷◌, ◌-◌, ◌<◌, Contains, IsTrue, length, replicate};
+ghost use Rattle.std.specs.Prelude.{take};
 
 /// The last eight numbers that were given, the newest first. A 0 stands for none.
 #[derive(Debug, Drop)]

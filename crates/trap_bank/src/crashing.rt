@@ -4,7 +4,8 @@ ghost use Rattle.std.specs.Prelude.{◌≡◌, ◌+◌, ◌-◌, ◌≤◌, ◌^
 ghost use Rattle.trap_bank.specs.Kept.{Kept, AgreeOutside, overlaid};
 ghost use Rattle.trap_bank.specs.Draws.{drawn, after_draws};
 ghost use Rattle.trap_bank.specs.Record.{ranges_kept};
-ghost use Rattle.trap_bank.specs.Crash.{AllCrashed, Crashed, Crashes, after_ranges, crashed_disk, filled, last_draw, option_crashed, outcome, removed};
+ghost use Rattle.trap_bank.specs.Crash.{AllCrashed, Crashed, Crashes, after_ranges, crashed_disk};
+ghost use Rattle.trap_bank.specs.Crash.{filled, last_draw, option_crashed, outcome, removed};
 
 use crate::MemoryBank;
 use crate::chosen::Chosen;

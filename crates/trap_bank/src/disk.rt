@@ -1,7 +1,9 @@
 //! One disk in memory: its bytes, what is stable of it, and what was written since.
 
-ghost use Rattle.std.specs.Prelude.{◌≡◌, ℕ, ◌+◌, ◌≤◌, [], ◌++◌, ◌∷◌, All, IfOk, OnErr, OnOk, length, slice_index, slice_range};
-ghost use Rattle.trap_bank.specs.Kept.{zero_disk, overlaid, written_disk, settled_disk, AgreeOutside};
+ghost use Rattle.std.specs.Prelude.{◌≡◌, ℕ, ◌+◌, ◌≤◌, [], ◌++◌, ◌∷◌, All, IfOk, OnErr, OnOk};
+ghost use Rattle.std.specs.Prelude.{length, slice_index, slice_range};
+ghost use Rattle.trap_bank.specs.Kept.{zero_disk, overlaid, written_disk, settled_disk};
+ghost use Rattle.trap_bank.specs.Kept.{AgreeOutside};
 
 use std::alloc::{AllocError, Global};
 use std::marker::Model;

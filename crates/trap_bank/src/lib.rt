@@ -7,6 +7,7 @@ mod crashing;
 mod disk;
 mod disks;
 mod draws;
+mod filling;
 mod input;
 mod listed;
 mod memory;
@@ -20,6 +21,7 @@ mod through;
 mod turning;
 
 pub use disks::{Bank, DiskFault, Failed};
+pub use filling::fill;
 pub use input::Source;
 pub use listed::{ListTurns, Steady};
 pub use memory::MemoryBank;

@@ -1,9 +1,11 @@
 //! A bank in memory, with a record of its calls.
 
-ghost use Rattle.std.specs.Prelude.{◌≡◌, ◌↔◌, ◌+◌, ◌-◌, ◌<◌, ◌≤◌, ◌^◌, ◌∷◌, IfOk, IsTrue, MatchOption, OnErr, OnOk, length, slice_set, take};
+ghost use Rattle.std.specs.Prelude.{◌≡◌, ◌↔◌, ◌+◌, ◌-◌, ◌<◌, ◌≤◌, ◌^◌, ◌∷◌, IfOk, IsTrue};
+ghost use Rattle.std.specs.Prelude.{MatchOption, OnErr, OnOk, length, slice_set, take};
 ghost use Rattle.trap_bank.specs.Calls.{Fits};
 ghost use Rattle.trap_bank.specs.Memory.{view_of, disk_at, no_disks};
-ghost use Rattle.trap_bank.specs.MemorySteps.{IsWorn, IsStruck, passed, found_no_memory, blamed, port_blamed, written, synced, made, spoken};
+ghost use Rattle.trap_bank.specs.MemorySteps.{IsWorn, IsStruck, passed, found_no_memory, blamed};
+ghost use Rattle.trap_bank.specs.MemorySteps.{port_blamed, overwritten, synced, made, spoken};
 ghost use Rattle.trap_bank.specs.Record.{bytes_kept};
 
 use crate::Failed;

@@ -4,7 +4,8 @@ ghost use Rattle.std.specs.Prelude.{◌≡◌, ◌+◌, ◌≤◌, length};
 ghost use Rattle.trap_bank.specs.Calls.{Fits, Makes, Reads, Writes, Syncs, Says};
 ghost use Rattle.trap_bank.specs.Memory.{view_of, lawful_view};
 ghost use Rattle.trap_bank.specs.Struck.{DiskCall, PortCall};
-ghost use Rattle.trap_bank.specs.Effects.{MakeEffect, ReadEffect, WriteEffect, SyncEffect, SayEffect};
+ghost use Rattle.trap_bank.specs.Effects.{MakeEffect, ReadEffect, WriteEffect, SyncEffect};
+ghost use Rattle.trap_bank.specs.Effects.{SayEffect};
 
 use crate::{Bank, Failed, MemoryBank};
 

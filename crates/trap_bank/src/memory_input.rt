@@ -1,6 +1,7 @@
 //! A source of bytes in memory.
 
-ghost use Rattle.std.specs.Prelude.{◌≡◌, ◌⊎◌, ◌∷◌, ◌+◌, ◌-◌, ◌<◌, ◌^◌, Contains, IfOk, IsErr, MatchResult, drop, length, max, min, replicate, take};
+ghost use Rattle.std.specs.Prelude.{◌≡◌, ◌⊎◌, ◌∷◌, ◌+◌, ◌-◌, ◌<◌, ◌^◌, Contains, IfOk, IsErr};
+ghost use Rattle.std.specs.Prelude.{MatchResult, drop, length, max, min, replicate, take};
 ghost use Rattle.std.specs.Io.{ReadsAtMost};
 ghost use Rattle.trap_bank.specs.Faults.{HasCause};
 ghost use Rattle.trap_bank.specs.Stream.{Stream, Takes};
@@ -63,11 +64,11 @@ impl Source for MemorySource {
         requires below { (stream_of self.old).given < 2 ^ 63 }
         ensures bound { ReadsAtMost result buf.new }
         ensures taken { Takes result buf.new (stream_of self.old) (stream_of self.new) }
+        ensures piece { GivesPieces result (length buf.old) self.old self.new }
         ensures cause { HasCause (stream_of self.old).faults (stream_of self.new).faults result }
 
         // It fails, and then its count rises, exactly in a call that was chosen.
         ensures struck { FailsAsChosen result self.old self.new }
-        ensures piece { GivesPieces result (length buf.old) self.old self.new }
     {
         self.calls = self.calls.saturating_add(1);
         if self.chosen.has(self.calls) {

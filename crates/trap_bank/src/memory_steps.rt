@@ -1,11 +1,14 @@
 //! The steps of which the calls of a bank in memory are made.
 
-ghost use Rattle.std.specs.Prelude.{◌≡◌, ◌↔◌, ◌+◌, ◌<◌, ◌≤◌, ◌++◌, ◌∷◌, [], IsTrue, MatchOption, OnErr, OnOk, drop, length, take, vec_capacity, vec_len};
+ghost use Rattle.std.specs.Prelude.{◌≡◌, ◌↔◌, ◌+◌, ◌<◌, ◌≤◌, ◌++◌, ◌∷◌, [], IsTrue, MatchOption};
+ghost use Rattle.std.specs.Prelude.{OnErr, OnOk, drop, length, take, vec_capacity, vec_len};
 ghost use Rattle.trap_bank.specs.declared.record.Entry.{Entry};
 ghost use Rattle.trap_bank.specs.Calls.{Fits};
 ghost use Rattle.trap_bank.specs.Disks.{region};
 ghost use Rattle.trap_bank.specs.Memory.{view_of, IsMemoryBank};
-ghost use Rattle.trap_bank.specs.MemorySteps.{IsWorn, IsStruck, IsStruckOn, IsBurnt, one_less, counted_on, passed, found_no_memory, blamed, port_blamed, written, synced, made, spoken};
+ghost use Rattle.trap_bank.specs.MemorySteps.{IsWorn, IsStruck, IsStruckOn, IsBurnt, one_less};
+ghost use Rattle.trap_bank.specs.MemorySteps.{counted_on, passed, found_no_memory, blamed};
+ghost use Rattle.trap_bank.specs.MemorySteps.{port_blamed, overwritten, synced, made, spoken};
 
 use crate::disk::Disk;
 use crate::record::{Change, Entry};
@@ -107,7 +110,7 @@ impl MemoryBank {
         requires disk { d ≤ 20 }
         requires room { Fits (view_of self.old) d (at + length bytes.now) }
         requires fresh { IsWorn self.old → ⊥ }
-        ensures ok { OnOk result (self.new ≡ written self.old d at bytes.now) }
+        ensures ok { OnOk result (self.new ≡ overwritten self.old d at bytes.now) }
         ensures err { OnErr result (self.new ≡ self.old) }
     {
         self.past.reserve(1)?;

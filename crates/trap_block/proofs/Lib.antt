@@ -3,3 +3,4 @@ pub mod OverLemmas
 pub mod ZeroLemmas
 pub mod LaneLemmas
 pub mod ScanLemmas
+pub mod Cuts

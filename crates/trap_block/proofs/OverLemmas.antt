@@ -2,7 +2,7 @@
 use Rattle.std.proofs.Common.{◌≡◌, ◌≢◌, ℕ, zero, suc, ◌<◌, ◌≤◌, List, length, refl, ap, sym, ◌∙◌, arith, inl, inr, eq-eqb}
 use Rattle.std.proofs.lemmas.List.{length-replicate}
 use Rattle.std.proofs.lemmas.Bool.{cases_eq, ne_eqb}
-use Rattle.trap_block.specs.Xor.{xor, zeros, xor_over, xor_but, HaveSize, OthersHaveSize}
+use Rattle.trap_block.specs.Xor.{xor, zeros, xor_over, xor_but, HaveSize}
 use Rattle.trap_block.proofs.XorLemmas.{length-xor, xor-comm, xor-assoc, xor-self, xor-zeros}
 
 -- a block xored twice is gone
@@ -23,6 +23,11 @@ pub xor_but_there : (size one n : ℕ) (block_of : ℕ → List ℕ) → (n ≡ 
 xor_but_there size one n block_of h = rw (ne_eqb n one h) refl
 
 -- ---- sizes
+
+-- each member below n but one has a block of this size
+abbrev pub OthersHaveSize : ℕ → ℕ → (ℕ → List ℕ) → ℕ → Type 0
+OthersHaveSize size one block_of n = (m : ℕ) → m < n → m ≢ one → length (block_of m) ≡ size
+
 pub length-xor_over : (size n : ℕ) (block_of : ℕ → List ℕ) → HaveSize size block_of n → length (xor_over size block_of n) ≡ size
 length-xor_over size zero block_of sized = length-replicate size 0
 length-xor_over size (suc n) block_of sized =

@@ -1,5 +1,6 @@
 -- The exclusive-or of two blocks, which are lists of bytes of one length, and over a row's members.
-use Rattle.std.specs.Prelude.{◌≡◌, ◌≢◌, ℕ, ◌<◌, zero, suc, List, [], ◌∷◌, length, replicate, bit_xor, ◌==◌, if◌then◌else◌}
+use Rattle.std.specs.Prelude.{◌≡◌, ℕ, ◌<◌, zero, suc, List, [], ◌∷◌, length, replicate, bit_xor}
+use Rattle.std.specs.Prelude.{◌==◌, if◌then◌else◌}
 
 -- a block of this many zero bytes
 abbrev pub zeros : ℕ → List ℕ
@@ -25,7 +26,3 @@ xor_but size one block_of (suc n) =
 -- each member below n has a block of this size
 abbrev pub HaveSize : ℕ → (ℕ → List ℕ) → ℕ → Type 0
 HaveSize size block_of n = (m : ℕ) → m < n → length (block_of m) ≡ size
-
--- each member below n but one has a block of this size
-abbrev pub OthersHaveSize : ℕ → ℕ → (ℕ → List ℕ) → ℕ → Type 0
-OthersHaveSize size one block_of n = (m : ℕ) → m < n → m ≢ one → length (block_of m) ≡ size

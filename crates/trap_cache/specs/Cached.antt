@@ -1,5 +1,6 @@
 -- A cache of blocks at past instants: the pairs of a block and a number that are kept.
-use Rattle.std.specs.Prelude.{◌≡◌, ℕ, Bool, ◌&&◌, ◌==◌, if◌then◌else◌, List, [], ◌∷◌, take, Option, Some, None}
+use Rattle.std.specs.Prelude.{◌≡◌, ℕ, Bool, ◌&&◌, ◌==◌, if◌then◌else◌, List, [], ◌∷◌, take, Option}
+use Rattle.std.specs.Prelude.{Some, None}
 
 -- a pair, and the bytes that are kept under it
 pub record KeptPair : Type 0 where

@@ -1,6 +1,7 @@
 //! The slots of a cache, from the most recently used to the least.
 
-ghost use Rattle.std.specs.Prelude.{◌≡◌, ◌<◌, nat_eq, length, take, option_map, Some, IfSome, IsSome};
+ghost use Rattle.std.specs.Prelude.{◌≡◌, ◌<◌, nat_eq, length, take, option_map, Some, IfSome};
+ghost use Rattle.std.specs.Prelude.{IsSome};
 ghost use Rattle.std.specs.Map.{lookup};
 ghost use Rattle.lru.specs.LruCache.{last_entry};
 ghost use Rattle.trap_cache.specs.Slots.{pair_place, IsRewritten};

@@ -2,9 +2,11 @@
 use Rattle.std.proofs.Common.{◌≡◌, ℕ, ◌+◌, ◌*◌, ◌<◌, ◌≤◌, List, [], ◌∷◌, length, get_or, true, false, ◌==◌, Option, Some, IsTrue, Result, Ok, inl, refl, sym, ap, ap₂, subst, ◌∙◌, arith}
 use Rattle.std.proofs.lemmas.Bool.Decides.{nat_tests}
 use Rattle.trap_bank.specs.Disks.{Contents, View, Disks, Area, Within, Differs, Torn, byte, region}
+use Rattle.trap_bank.specs.Called.{CalledTimes}
 use Rattle.trap_bank.specs.Calls.{Writes, Syncs}
 use Rattle.trap_bank.specs.Steps.{Moves, Same}
 use Rattle.trap_bank.proofs.Regions.{region_beside, byte_in_region, byte_beside}
+use Rattle.trap_bank.proofs.Called.{called_then}
 use Rattle.trap_bank.proofs.Moves.{write_steps, sync_steps, synced_steps, moves_then, moves_wider, moves_again, moves_same, torn_again, torn_same, torn_wider}
 use Rattle.trap_cell.specs.Slots.{is_on, Place, Slots, Stands, place_of, cell_area, current_slot, cell_value}
 use Rattle.trap_cell.specs.Steps.{IsFirst}
@@ -101,13 +103,23 @@ pub begin_three : (d at size : ℕ) (a b c e : View)
     → Moves a e (Differs (cell_area (place_of d at size))) (Differs (cell_area (place_of d at size)))
 begin_three d at size a b c e first second third = moves_again (cell_area (place_of d at size)) a c e (moves_again (cell_area (place_of d at size)) a b c first second) third
 
--- the three writes and a sync, whatever it answered
-pub begin_synced : {T E : Type 0} (result : Result T E) (d at size : ℕ) (a b c : View)
+-- the three writes and one more call, whatever that one answered
+pub begin_last : (d at size : ℕ) (a b c e f : View)
+    → Moves e f (Differs (cell_area (place_of d at size))) (Differs (cell_area (place_of d at size)))
     → Moves a b (Differs (cell_area (place_of d at size))) (Differs (cell_area (place_of d at size)))
-    → Syncs d result b c
-    → Moves a c (Differs (cell_area (place_of d at size))) (Differs (cell_area (place_of d at size)))
-begin_synced {T} {E} result d at size a b c moves call = moves_again (cell_area (place_of d at size)) a b c moves
-    (moves_same (cell_area (place_of d at size)) b c (sync_steps {T = T} {E = E} result b c d call))
+    → Moves b c (Differs (cell_area (place_of d at size))) (Differs (cell_area (place_of d at size)))
+    → Moves c e (Differs (cell_area (place_of d at size))) (Differs (cell_area (place_of d at size)))
+    → Moves a f (Differs (cell_area (place_of d at size))) (Differs (cell_area (place_of d at size)))
+begin_last d at size a b c e f last first second third = moves_again (cell_area (place_of d at size)) a e f (begin_three d at size a b c e first second third) last
+
+-- a sync, whatever it answered
+pub begin_still : {T E : Type 0} (result : Result T E) (d at size : ℕ) (a b : View) → Syncs d result a b
+    → Moves a b (Differs (cell_area (place_of d at size))) (Differs (cell_area (place_of d at size)))
+begin_still {T} {E} result d at size a b call = moves_same (cell_area (place_of d at size)) a b (sync_steps {T = T} {E = E} result a b d call)
+
+-- four calls, the last of them first
+pub called_four : (a b c e f : View) → CalledTimes 1 e f → CalledTimes 1 a b → CalledTimes 1 b c → CalledTimes 1 c e → CalledTimes 4 a f
+called_four a b c e f last first second third = called_then 3 1 a e f (called_then 2 1 a c e (called_then 1 1 a b c first second) third) last
 
 -- a cell that was begun: its first value is stable
 pub begin_done : {T E : Type 0} (v1 v2 v3 v4 : T) (d at turn : ℕ) (value : List ℕ) (a b1 b2 b3 b4 : View) → turn < 3

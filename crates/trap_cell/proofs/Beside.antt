@@ -1,9 +1,9 @@
 -- A cell and what happens beside it.
 use Rattle.std.proofs.Common.{◌≡◌, ◌⊎◌, ℕ, ◌+◌, ◌<◌, ◌≤◌, List, Bool, true, false, not, ◌==◌, Option, Some, None, ⊎_elim, refl, ap, ◌∙◌, arith}
 use Rattle.trap_bank.specs.Disks.{View, Disks, Area, Within, Differs, region}
-use Rattle.trap_bank.specs.Steps.{Moves, Same, Settled, Always}
+use Rattle.trap_bank.specs.Steps.{Moves, Same, Always}
 use Rattle.trap_bank.proofs.Regions.{differs_mono, region_apart, region_of_disk}
-use Rattle.trap_bank.proofs.Moves.{always_after}
+use Rattle.trap_bank.proofs.Moves.{always_after, Settled}
 use Rattle.trap_cell.specs.Slots.{Place, Slots, Stands, slot_at, gate_of, turn_of, value_in, value_at, current, current_slot, cell_value, cell_len, cell_area, other_slot}
 use Rattle.trap_cell.specs.Steps.{IsPut, IsFirst}
 use Rattle.trap_cell.proofs.Keeping.{slot_within}

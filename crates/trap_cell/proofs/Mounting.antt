@@ -1,13 +1,19 @@
 -- What a mount finds.
-use Rattle.std.proofs.Common.{◌≡◌, ℕ, ◌+◌, List, Bool, true, false, not, ◌==◌, if◌then◌else◌, Option, Some, None, IsTrue, sym, ap, ap₂, subst, ◌∙◌, arith}
+use Rattle.std.proofs.Common.{◌≡◌, ℕ, ◌+◌, List, Bool, true, false, not, ◌==◌, if◌then◌else◌, Option, Some, None, IsTrue, Result, Err, sym, ap, ap₂, subst, ◌∙◌, arith}
 use Rattle.trap_bank.specs.Disks.{Contents, View, Disks, region}
 use Rattle.trap_bank.specs.Steps.{Moves, Same, Always}
 use Rattle.trap_bank.proofs.Regions.{byte_of_region}
 use Rattle.trap_bank.proofs.Moves.{always_same}
+use Rattle.trap_cell.specs.declared.fault.CellFault.{CellFault}
+use Rattle.trap_cell.specs.declared.fault.CellFault.TheVariants.{NoValue, DiskFault}
 use Rattle.trap_cell.specs.declared.heads.Heads.{Heads}
 use Rattle.trap_cell.specs.Heads.{AreAt}
 use Rattle.trap_cell.specs.Slots.{current, Place, Stands, slot_at, gate_of, turn_of, value_at, current_slot, cell_value, cell_len}
 use Rattle.trap_cell.proofs.Gates.{value_of}
+
+-- a mount that found no value is no failed call
+pub no_disk_fault : {T : Type 0} (fault : CellFault) → fault ≡ NoValue → ◌≡◌ {A = Result T CellFault} (Err fault) (Err DiskFault) → ⊥
+no_disk_fault fault is e = cc
 
 -- which slot is current, from what was read
 pub found_current : (h : Heads) (p : Place) (w : Disks) → AreAt h p w → current_slot p w ≡ current h.first.gate h.first.turn h.second.gate h.second.turn

@@ -1,12 +1,15 @@
 -- What the steps of a cell do to disks, old before new.
-use Rattle.std.specs.Prelude.{◌≡◌, ◌⊎◌, ℕ, ◌+◌, List, not, ◌==◌, Some, false, IsTrue, if◌then◌else◌, Result, OnOk, OnErr, IsErrOf}
+use Rattle.std.specs.Prelude.{◌≡◌, ◌⊎◌, ℕ, ◌+◌, List, not, ◌==◌, Some, false, IsTrue, if◌then◌else◌}
+use Rattle.std.specs.Prelude.{Result, OnOk, OnErr, IsErrOf}
 use Rattle.trap_bank.specs.Disks.{Disks, View, Differs, byte}
 use Rattle.trap_bank.specs.Called.{CalledTimes, CalledAtMost, TakesCalls}
 use Rattle.trap_bank.specs.Steps.{Always}
 use Rattle.trap_model.specs.Limits.{open_gate}
 use Rattle.trap_cell.specs.declared.fault.CellFault.{CellFault}
 use Rattle.trap_cell.specs.declared.fault.CellFault.TheVariants.{NoValue}
-use Rattle.trap_cell.specs.Slots.{Place, Slots, Stands, cell_area, other_slot, other_gate, shut_of, turned, next_turn, gate_of, turn_of, value_in, current_slot, cell_value}
+use Rattle.trap_cell.specs.Slots.{Place, Slots, Stands, cell_area, other_slot, other_gate, shut_of}
+use Rattle.trap_cell.specs.Slots.{turned, next_turn, gate_of, turn_of, value_in, current_slot}
+use Rattle.trap_cell.specs.Slots.{cell_value}
 
 -- the cell has its value from before, or this one, and no byte outside the slot that wasn't current
 -- changed

@@ -9,7 +9,8 @@ ghost use Rattle.trap_bank.specs.Calls.{Fits};
 ghost use Rattle.trap_bank.specs.Steps.{Moves, Same, Always};
 ghost use Rattle.trap_cell.specs.Slots.{Slots, Stands, place_of, slot_at, next_turn, cell_len};
 ghost use Rattle.trap_cell.specs.Slots.{cell_area, cell_value, shut_of, turned, other_gate, begun};
-ghost use Rattle.trap_cell.specs.Steps.{PutsIn, IsPut, IsFirst, IsMounted, Keeps, Shuts, StaysShut, FillsSlot, IsSlotReady};
+ghost use Rattle.trap_cell.specs.Steps.{PutsIn, IsPut, IsFirst, IsMounted, Keeps, Shuts, StaysShut};
+ghost use Rattle.trap_cell.specs.Steps.{FillsSlot, IsSlotReady};
 ghost use Rattle.trap_cell.specs.Steps.{PutStage, AfterPut, MountCalls};
 
 use crate::fault::CellFault;
@@ -184,20 +185,20 @@ impl Cell {
         requires room { Fits (B.view bank.old) self.now.place.disk
             (self.now.place.at + cell_len self.now.place) }
         requires stands { Always (B.view bank.old) (Stands self.now) }
+        ensures ok { OnOk result
+            (Moves (B.view bank.old) (B.view bank.new) (Keeps self.now) (Shuts self.now)) }
+        ensures calls { TakesCalls (if self.now.other_open then 2 else 0) result
+            (B.view bank.old) (B.view bank.new) }
+        ensures contents { IsTrue (B.view bank.old).tells
+            → Quiet (Keeps self.now) (B.view bank.old).now (B.view bank.new).now }
         ensures sizes { (e : ℕ) → (B.view bank.new).sizes e ≡ (B.view bank.old).sizes e }
         ensures cause { OnErr result
             (Rose ((B.view bank.old).faults self.now.place.disk)
             ((B.view bank.new).faults self.now.place.disk)) }
         ensures any_moment { Moves (B.view bank.old) (B.view bank.new) (Keeps self.now)
             (Keeps self.now) }
-        ensures contents { IsTrue (B.view bank.old).tells
-            → Quiet (Keeps self.now) (B.view bank.old).now (B.view bank.new).now }
-        ensures ok { OnOk result
-            (Moves (B.view bank.old) (B.view bank.new) (Keeps self.now) (Shuts self.now)) }
         ensures gate { Moves (B.view bank.old) (B.view bank.new)
             (Differs (other_gate self.now)) (Differs (other_gate self.now)) }
-        ensures calls { TakesCalls (if self.now.other_open then 2 else 0) result
-            (B.view bank.old) (B.view bank.new) }
     {
         let is_open = self.is_other_open();
         let disk = self.disk();
@@ -216,20 +217,20 @@ impl Cell {
         requires room { Fits (B.view bank.old) self.now.place.disk
             (self.now.place.at + cell_len self.now.place) }
         requires stands { Always (B.view bank.old) (Stands (shut_of self.now)) }
-        ensures sizes { (e : ℕ) → (B.view bank.new).sizes e ≡ (B.view bank.old).sizes e }
-        ensures cause { OnErr result
-            (Rose ((B.view bank.old).faults self.now.place.disk)
-            ((B.view bank.new).faults self.now.place.disk)) }
-        ensures any_moment { Moves (B.view bank.old) (B.view bank.new) (StaysShut self.now)
-            (StaysShut self.now) }
-        ensures contents { IsTrue (B.view bank.old).tells
-            → Quiet (StaysShut self.now) (B.view bank.old).now (B.view bank.new).now }
         ensures ok { OnOk result
             (Moves (B.view bank.old) (B.view bank.new) (StaysShut self.now)
             (FillsSlot self.now fresh.now)) }
         ensures stable { OnOk result (Always (B.view bank.new) (λ disks. disks self.now.place.disk
             ≡ (B.view bank.new).now.disks self.now.place.disk)) }
         ensures calls { TakesCalls 3 result (B.view bank.old) (B.view bank.new) }
+        ensures contents { IsTrue (B.view bank.old).tells
+            → Quiet (StaysShut self.now) (B.view bank.old).now (B.view bank.new).now }
+        ensures sizes { (e : ℕ) → (B.view bank.new).sizes e ≡ (B.view bank.old).sizes e }
+        ensures cause { OnErr result
+            (Rose ((B.view bank.old).faults self.now.place.disk)
+            ((B.view bank.new).faults self.now.place.disk)) }
+        ensures any_moment { Moves (B.view bank.old) (B.view bank.new) (StaysShut self.now)
+            (StaysShut self.now) }
     {
         let disk = self.disk();
         let start = self.other_start();
@@ -246,20 +247,20 @@ impl Cell {
         requires room { Fits (B.view bank.old) self.now.place.disk
             (self.now.place.at + cell_len self.now.place) }
         requires ready { Always (B.view bank.old) (IsSlotReady self.now fresh.now) }
+        ensures ok { OnOk result (Moves (B.view bank.old) (B.view bank.new)
+            (PutsIn self.now fresh.now) (IsPut (B.view bank.new) self.now (turned self.now)
+            fresh.now)) }
+        ensures calls { TakesCalls 2 result (B.view bank.old) (B.view bank.new) }
+        ensures contents { IsTrue (B.view bank.old).tells
+            → Quiet (PutsIn self.now fresh.now) (B.view bank.old).now (B.view bank.new).now }
         ensures sizes { (e : ℕ) → (B.view bank.new).sizes e ≡ (B.view bank.old).sizes e }
         ensures cause { OnErr result
             (Rose ((B.view bank.old).faults self.now.place.disk)
             ((B.view bank.new).faults self.now.place.disk)) }
         ensures any_moment { Moves (B.view bank.old) (B.view bank.new)
             (PutsIn self.now fresh.now) (PutsIn self.now fresh.now) }
-        ensures contents { IsTrue (B.view bank.old).tells
-            → Quiet (PutsIn self.now fresh.now) (B.view bank.old).now (B.view bank.new).now }
-        ensures ok { OnOk result (Moves (B.view bank.old) (B.view bank.new)
-            (PutsIn self.now fresh.now) (IsPut (B.view bank.new) self.now (turned self.now)
-            fresh.now)) }
         ensures gate { Moves (B.view bank.old) (B.view bank.new)
             (Differs (other_gate self.now)) (Differs (other_gate self.now)) }
-        ensures calls { TakesCalls 2 result (B.view bank.old) (B.view bank.new) }
     {
         let disk = self.disk();
         let start = self.other_start();

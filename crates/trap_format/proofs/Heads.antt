@@ -10,7 +10,7 @@ use Rattle.trap_model.specs.declared.numbers.Geometry.{Geometry}
 use Rattle.trap_format.specs.declared.head.Head.{Head}
 use Rattle.trap_format.specs.HeadValue.{lost_byte, head_value, IsHead, HeadStandsIn, HeadFits}
 use Rattle.trap_format.proofs.Written.{Written, written_none, written_more, written_all}
-use Rattle.trap_format.proofs.Cuts.{piece, byte_is}
+use Rattle.trap_block.proofs.Cuts.{piece, byte_is}
 use Rattle.trap_format.proofs.BigEndian.{same_of_4, same_of_8}
 
 -- the first half

@@ -10,7 +10,7 @@ use Rattle.trap_format.specs.LogDisk.{log_start, log_header, IsLogHeader, Stands
 use Rattle.trap_format.proofs.Numbers.{none_broken}
 use Rattle.trap_format.proofs.BigEndian.{same_of_2, same_of_4, same_of_8}
 use Rattle.trap_format.proofs.Written.{Written, written_none, written_more, written_all}
-use Rattle.trap_format.proofs.Cuts.{piece, byte_is, front}
+use Rattle.trap_block.proofs.Cuts.{piece, byte_is, front}
 
 -- the first half of the header
 pub first_written : (g : Geometry) (a b c d e f : List ℕ) → length a ≡ 64 → b ≡ put_over 0 log_start a → c ≡ put_over 5 (to_be_bytes w64 g.id) b

@@ -5,7 +5,7 @@ use Rattle.std.specs.Int.{w64, to_be_bytes}
 use Rattle.trap_block.specs.Fields.{put_over}
 use Rattle.trap_format.specs.MemberDisk.{member_header}
 use Rattle.trap_format.proofs.Written.{written_none, written_more, written_all}
-use Rattle.trap_format.proofs.Cuts.{piece, byte, front}
+use Rattle.trap_block.proofs.Cuts.{piece, byte, front}
 
 pub member_written : (id member : ℕ) (a b c d e : List ℕ) → length a ≡ 16 → b ≡ put_over 0 (codes "TRPM") a → c ≡ put_over 4 (to_be_bytes w64 id) b
     → d ≡ put_over 12 (member ∷ []) c → e ≡ put_over 13 (replicate 3 0) d → e ≡ member_header id member

@@ -1,10 +1,12 @@
 -- Which numbers an array can have.
-use Rattle.std.specs.Prelude.{◌≡◌, ℕ, ◌-◌, ◌*◌, ◌%◌, ◌^◌, List, [], ◌∷◌, find, Option, Bool, true, not, ◌&&◌, ◌==◌, nat_le}
+use Rattle.std.specs.Prelude.{◌≡◌, ℕ, ◌-◌, ◌*◌, ◌%◌, ◌^◌, List, [], ◌∷◌, find, Option, Bool, true}
+use Rattle.std.specs.Prelude.{not, ◌&&◌, ◌==◌, nat_le}
 use Rattle.trap_model.specs.Limits.{is_block_size, greatest_record}
 use Rattle.trap_model.specs.declared.asked.Asked.{Asked}
 use Rattle.trap_model.specs.declared.numbers.Geometry.{Geometry}
 use Rattle.trap_format.specs.declared.limits.Field.{Field}
-use Rattle.trap_format.specs.declared.limits.Field.TheVariants.{Members, Chunk, Block, Rows, Volume, Slots, Gap, Entries, Ring, Seq}
+use Rattle.trap_format.specs.declared.limits.Field.TheVariants.{Members, Chunk, Block, Rows, Volume}
+use Rattle.trap_format.specs.declared.limits.Field.TheVariants.{Slots, Gap, Entries, Ring, Seq}
 
 abbrev pub is_between : ℕ → ℕ → ℕ → Bool
 is_between least most n = nat_le least n && nat_le n most

@@ -1,5 +1,6 @@
 -- The log's disk: its size, and its header.
-use Rattle.std.specs.Prelude.{◌≡◌, ℕ, ◌+◌, ◌*◌, ◌^◌, ◌<◌, List, ◌∷◌, ◌++◌, replicate, codes, slice_index, slice_range}
+use Rattle.std.specs.Prelude.{◌≡◌, ℕ, ◌+◌, ◌*◌, ◌^◌, ◌<◌, List, ◌∷◌, ◌++◌, replicate, codes}
+use Rattle.std.specs.Prelude.{slice_index, slice_range}
 use Rattle.std.specs.Int.{w16, w32, w64, to_be_bytes}
 use Rattle.trap_model.specs.Limits.{open_gate}
 use Rattle.trap_model.specs.declared.asked.Asked.{Asked}

@@ -1,5 +1,6 @@
 -- The replica's disk: its size, and its header.
-use Rattle.std.specs.Prelude.{◌≡◌, ℕ, ◌+◌, ◌*◌, ◌^◌, List, ◌∷◌, ◌++◌, replicate, codes, Option, Some, None, not, nat_le, if◌then◌else◌}
+use Rattle.std.specs.Prelude.{◌≡◌, ℕ, ◌+◌, ◌*◌, ◌^◌, List, ◌∷◌, ◌++◌, replicate, codes, Option}
+use Rattle.std.specs.Prelude.{Some, None, not, nat_le, if◌then◌else◌}
 use Rattle.std.specs.Int.{w16, w32, w64, to_be_bytes}
 use Rattle.trap_model.specs.Limits.{open_gate, is_block_size}
 use Rattle.trap_format.specs.Checked.{is_between}

@@ -3,7 +3,9 @@
 ghost use Rattle.std.specs.Prelude.{◌≡◌, ◌↔◌, ◌^◌, ◌<◌, ◌≤◌, IsTrue, IfSome, IfNone};
 ghost use Rattle.std.specs.Option.{ForSome};
 ghost use Rattle.trap_format.specs.declared.head.Head.{Head};
-ghost use Rattle.trap_format.specs.HeadValue.{lost_byte, head_value, IsLostInRange, KeepsNumbers, KeepsOffsets, IsEmpty, IsHead, IsHeadValue, HeadStandsIn, HeadFits};
+ghost use Rattle.trap_format.specs.HeadValue.{lost_byte, head_value, IsLostInRange, KeepsNumbers};
+ghost use Rattle.trap_format.specs.HeadValue.{KeepsOffsets, IsEmpty, IsHead, IsHeadValue};
+ghost use Rattle.trap_format.specs.HeadValue.{HeadStandsIn, HeadFits};
 
 use crate::head::Head;
 use crate::limits::greatest_record;

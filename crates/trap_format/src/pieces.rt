@@ -1,6 +1,7 @@
 //! Pieces of a list of bytes, at its front, inside it and at its end.
 
-ghost use Rattle.std.specs.Prelude.{◌≡◌, ◌↔◌, ◌+◌, ◌-◌, ◌<◌, ◌≤◌, [], ◌∷◌, length, take, drop, replicate, IsTrue};
+ghost use Rattle.std.specs.Prelude.{◌≡◌, ◌↔◌, ◌+◌, ◌-◌, ◌<◌, ◌≤◌, [], ◌∷◌, length, take, drop};
+ghost use Rattle.std.specs.Prelude.{replicate, IsTrue};
 ghost use Rattle.trap_block.specs.Fields.{put_over};
 
 use trap_block::is_zero;

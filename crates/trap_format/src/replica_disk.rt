@@ -1,8 +1,10 @@
 //! The replica's disk: which numbers it can have, its size, and its header.
 
-ghost use Rattle.std.specs.Prelude.{◌≡◌, ◌≢◌, ◌↔◌, ◌^◌, ◌<◌, take, None, Some, IsOk, IfOk, IfErr, IsTrue, IfSome, IfNone};
+ghost use Rattle.std.specs.Prelude.{◌≡◌, ◌≢◌, ◌↔◌, ◌^◌, ◌<◌, take, None, Some, IsOk, IfOk, IfErr};
+ghost use Rattle.std.specs.Prelude.{IsTrue, IfSome, IfNone};
 ghost use Rattle.trap_model.specs.Limits.{is_block_size};
-ghost use Rattle.trap_format.specs.ReplicaDisk.{first_broken_shape, HasShape, replica_size, replica_start, replica_header};
+ghost use Rattle.trap_format.specs.ReplicaDisk.{first_broken_shape, HasShape, replica_size};
+ghost use Rattle.trap_format.specs.ReplicaDisk.{replica_start, replica_header};
 
 use crate::layout::OPEN_GATE;
 use crate::limits::{BadGeometry, Field};

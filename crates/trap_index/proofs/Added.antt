@@ -8,8 +8,8 @@ use Rattle.trap_model.specs.declared.numbers.Geometry.{Geometry}
 use Rattle.trap_model.specs.Image.{volume}
 use Rattle.trap_model.specs.LogRecord.{IsRecordInRange, SnapshotLength}
 use Rattle.trap_index.specs.declared.item.Item.{Item}
-use Rattle.trap_index.specs.Indexed.{Indexed, with_record, last_seq, last_time, rec_len, recs_len, newest, no_rec, item_after}
-use Rattle.trap_index.specs.Keeping.{KeepsItems, rec_of, recs_of, no_item, link, told}
+use Rattle.trap_index.specs.Indexed.{Indexed, with_record, last_seq, last_record_time, rec_len, recs_len, newest, no_rec, item_after}
+use Rattle.trap_index.specs.Keeping.{KeepsItems, rec_of_item, recs_of, no_item, link, told}
 use Rattle.trap_index.proofs.Numbered.{length-recs_of, recs_of-push, numbered-push, times-push, time_of_last-push, recs_len-push}
 use Rattle.trap_index.proofs.Chains.{newest-push, newest-push_other}
 use Rattle.trap_index.proofs.Links.{link-some}
@@ -18,7 +18,7 @@ use Rattle.trap_index.proofs.Links.{link-some}
 pub record IsNext (i : Indexed) (rec : LogRec) : Type 0 where
   pub few : length i.recs < i.g.entries
   pub number : rec.seq ≡ last_seq i + 1
-  pub time : last_time i ≤ rec.time
+  pub time : last_record_time i ≤ rec.time
   pub block : rec.block < volume i.g
   pub ranges : IsRecordInRange i.g.block rec
 
@@ -118,7 +118,7 @@ added i items heads end_off last rec new prev kept of next prev_is new_is =
     ap (λ (b : Buffer Item). b.items) new_is
     ∙ keep_all items.capacity (items.items ++ item ∷ []) (let few = next.few in let room = kept.room in omega arith) in
     let room : items.capacity ≡ new.capacity = sym (ap (λ (b : Buffer Item). b.capacity) new_is) in
-    let pushed : recs_of i.first (items.items ++ item ∷ []) ≡ recs_of i.first items.items ++ rec_of rec.seq item ∷ [] = recs_of-push i.first rec.seq items.items item
+    let pushed : recs_of i.first (items.items ++ item ∷ []) ≡ recs_of i.first items.items ++ rec_of_item rec.seq item ∷ [] = recs_of-push i.first rec.seq items.items item
     (let seq = next.number in omega arith) in
     let recs : recs_of i.first new.items ≡ i.recs ++ rec ∷ [] = ap (recs_of i.first) items_are ∙ pushed ∙ ap (λ (l : List LogRec). l ++ rec ∷ []) (sym of) in
     let whole : KeepsItems (with_record i rec) (items.items ++ item ∷ []) items.capacity (set heads rec.block rec.seq) (end_off + rec_len rec) rec.time = kept_added i

@@ -17,7 +17,7 @@ use Rattle.trap_model.specs.Size.{size_over}
 use Rattle.trap_model.specs.State as state
 use Rattle.trap_model.specs.State.{fresh, image, image_at, image_by, kept, last, up_to}
 use Rattle.trap_model.proofs.Records.{length-record_of, length-records_from, records_from-append}
-use Rattle.trap_index.specs.Indexed.{Indexed, nothing_indexed, with_record, dropped_to, time_of_last, last_seq, last_time, recs_len, rec_len, of_block, newest, no_rec, rec_at, item_at, IsLastBy, path_to}
+use Rattle.trap_index.specs.Indexed.{Indexed, nothing_indexed, with_record, dropped_to, time_of_last, last_seq, last_record_time, recs_len, rec_len, of_block, newest, no_rec, rec_at, item_at, IsLastBy, path_to}
 use Rattle.trap_index.specs.Describes.{headers_from, headers, Describes, IsLastOf, block_before, IsItemOf}
 use Rattle.trap_index.proofs.Numbered.{numbered-take}
 use Rattle.trap_index.proofs.Chains.{IsNewest, HasNone, newest_cases, of_block_parts, none_of_block}
@@ -55,7 +55,7 @@ last_told i s is =
     let first = is.first in
     omega arith
 
-pub time_told : (i : Indexed) (s : State) → Describes i s → last_time i ≡ state.last_time s
+pub time_told : (i : Indexed) (s : State) → Describes i s → last_record_time i ≡ state.last_time s
 time_told i s is = ap (λ (t : ℕ). time_of_last t i.recs) is.base_time ∙ ap (time_of_last s.base_time) is.recs ∙ headers-time s.base s.first s.base_time s.entries
 
 pub bytes_told : (i : Indexed) (s : State) → Describes i s → recs_len i.recs ≡ kept s

@@ -1,10 +1,10 @@
 -- Records that are dropped: the items that stay are told as those of the records that stay.
-use Rattle.std.proofs.Common.{◌≡◌, ℕ, suc, ◌+◌, ◌-◌, ◌<◌, ◌≤◌, List, length, get_or, take, drop, refl, ap, sym, ◌∙◌, subst, arith, length-drop}
+use Rattle.std.proofs.Common.{◌≡◌, ℕ, suc, ◌+◌, ◌-◌, ◌<◌, ◌≤◌, List, length, get_or, take, drop, ap, sym, ◌∙◌, subst, arith, length-drop}
 use Rattle.std.proofs.lemmas.List.{get_or-drop, drop-take, take_all, take-take, length-take-le}
 use Rattle.circular_buffer.specs.Buffer.{Buffer, buffer, keep_last}
 use Rattle.trap_model.specs.declared.log_record.LogRec.{LogRec}
 use Rattle.trap_index.specs.declared.item.Item.{Item}
-use Rattle.trap_index.specs.Indexed.{Indexed, dropped_to, last_seq, last_time, time_of_last, recs_len, newest, no_rec, recs_up_to, recs_above, item_after, item_at}
+use Rattle.trap_index.specs.Indexed.{Indexed, dropped_to, last_seq, last_record_time, time_of_last, recs_len, newest, no_rec, recs_up_to, recs_above, item_after, item_at}
 use Rattle.trap_index.specs.Keeping.{IsIndexed, KeepsItems, AreNumbered, recs_of, no_item, link, told}
 use Rattle.trap_index.proofs.Numbered.{length-recs_of, numbered-take, numbered-drop, times-drop, time_of_last-parts, time_of_last-at, recs_len-parts, recs_of-drop}
 use Rattle.trap_index.proofs.Links.{link-twice, newest-drop}
@@ -124,8 +124,8 @@ off_at_last i q is = ap (λ (l : List LogRec). i.first_off + recs_len l) (sym (t
 pub last-dropped : (i : Indexed) (q : ℕ) → i.first ≤ q → q ≤ last_seq i → last_seq (dropped_to i q) ≡ last_seq i
 last-dropped i q low high = let rest = length-drop (q - i.first) i.recs in omega arith
 
-pub last_time-dropped : (i : Indexed) (q : ℕ) → last_time (dropped_to i q) ≡ last_time i
-last_time-dropped i q = time_of_last-parts i.base_time i.recs (q - i.first)
+pub last_record_time-dropped : (i : Indexed) (q : ℕ) → last_record_time (dropped_to i q) ≡ last_record_time i
+last_record_time-dropped i q = time_of_last-parts i.base_time i.recs (q - i.first)
 
 pub bytes-dropped : (i : Indexed) (q : ℕ) → (dropped_to i q).first_off + recs_len (dropped_to i q).recs ≡ i.first_off + recs_len i.recs
 bytes-dropped i q = let parts = recs_len-parts i.recs (q - i.first) in omega arith

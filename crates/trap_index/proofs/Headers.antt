@@ -4,8 +4,9 @@ use Rattle.trap_model.specs.declared.history.Entry.{Entry}
 use Rattle.trap_model.specs.declared.log_record.LogRec.{LogRec}
 use Rattle.trap_model.specs.Image.{block_of, written, image_after}
 use Rattle.trap_model.specs.Path as entries
+use Rattle.trap_model.proofs.Records.{snapshot_size}
 use Rattle.trap_model.specs.Records.{rec_of, no_entry}
-use Rattle.trap_model.specs.Size.{code_of, entry_size, size_over}
+use Rattle.trap_model.specs.Size.{entry_size, size_over}
 use Rattle.trap_model.specs.State.{time_after}
 use Rattle.trap_index.specs.Indexed.{time_of_last, rec_len, recs_len, of_block, no_rec}
 use Rattle.trap_index.specs.Keeping.{AreNumbered}
@@ -40,13 +41,9 @@ pub headers-time : (image : List (List ℕ)) (q before : ℕ) (xs : List Entry) 
 headers-time image q before [] = refl
 headers-time image q before (x ∷ xs) = headers-time (written image x) (q + 1) x.time xs
 
-second_len : (snap : Bool) (block : List ℕ) → length (if snap then code_of block else []) ≡ (if snap then length (code_of block) else 0)
-second_len true block = refl
-second_len false block = refl
-
 -- a record is as long as its entry's size
 pub rec_len-entry : (q : ℕ) (old : List ℕ) (x : Entry) → rec_len (rec_of q old x) ≡ entry_size old x
-rec_len-entry q old x = let second = second_len x.snap x.bytes in omega arith
+rec_len-entry q old x = let second = snapshot_size x.snap x.bytes in omega arith
 
 pub headers-len : (image : List (List ℕ)) (q : ℕ) (xs : List Entry) → recs_len (headers_from image q xs) ≡ size_over image xs
 headers-len image q [] = refl
@@ -60,11 +57,11 @@ one_more true rec x recs xs e = ap suc e
 one_more false rec x recs xs e = e
 
 -- as many headers are of a block as entries write it
-pub headers-of_block : (image : List (List ℕ)) (q block k : ℕ) (xs : List Entry) → length (of_block block (drop k (headers_from image q xs))) ≡ length (entries.of_block block (drop k xs))
+pub headers-of_block : (image : List (List ℕ)) (q block k : ℕ) (xs : List Entry) → length (of_block block (drop k (headers_from image q xs))) ≡ length (entries.entries_of_block block (drop k xs))
 headers-of_block image q block zero [] = refl
 headers-of_block image q block (suc k) [] = refl
 headers-of_block image q block zero (x ∷ xs) =
-    one_more (x.block == block) (rec_of (q + 1) (block_of image x.block) x) x (of_block block (headers_from (written image x) (q + 1) xs)) (entries.of_block block xs)
+    one_more (x.block == block) (rec_of (q + 1) (block_of image x.block) x) x (of_block block (headers_from (written image x) (q + 1) xs)) (entries.entries_of_block block xs)
     (headers-of_block (written image x) (q + 1) block zero xs)
 headers-of_block image q block (suc k) (x ∷ xs) = headers-of_block (written image x) (q + 1) block k xs
 

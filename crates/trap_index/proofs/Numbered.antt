@@ -3,15 +3,15 @@ use Rattle.std.proofs.Common.{◌≡◌, ℕ, zero, suc, ◌+◌, ◌<◌, ◌�
 use Rattle.trap_model.specs.declared.log_record.LogRec.{LogRec}
 use Rattle.trap_index.specs.declared.item.Item.{Item}
 use Rattle.trap_index.specs.Indexed.{time_of_last, rec_len, recs_len, no_rec}
-use Rattle.trap_index.specs.Keeping.{AreNumbered, TimesNeverFall, rec_of, recs_of}
+use Rattle.trap_index.specs.Keeping.{AreNumbered, TimesNeverFall, rec_of_item, recs_of}
 
 pub length-recs_of : (before : ℕ) (items : List Item) → length (recs_of before items) ≡ length items
 length-recs_of before [] = refl
 length-recs_of before (item ∷ later) = ap suc (length-recs_of (before + 1) later)
 
-pub recs_of-push : (before q : ℕ) (items : List Item) (item : Item) → q ≡ before + length items + 1 → recs_of before (items ++ item ∷ []) ≡ recs_of before items ++ rec_of q item ∷ []
-recs_of-push before q [] item is = ap (λ (n : ℕ). rec_of n item ∷ []) (let same : before + 1 ≡ q = omega arith in same)
-recs_of-push before q (x ∷ items) item is = ap (λ (l : List LogRec). rec_of (before + 1) x ∷ l) (recs_of-push (before + 1) q items item (omega arith))
+pub recs_of-push : (before q : ℕ) (items : List Item) (item : Item) → q ≡ before + length items + 1 → recs_of before (items ++ item ∷ []) ≡ recs_of before items ++ rec_of_item q item ∷ []
+recs_of-push before q [] item is = ap (λ (n : ℕ). rec_of_item n item ∷ []) (let same : before + 1 ≡ q = omega arith in same)
+recs_of-push before q (x ∷ items) item is = ap (λ (l : List LogRec). rec_of_item (before + 1) x ∷ l) (recs_of-push (before + 1) q items item (omega arith))
 
 pub recs_of_numbered : (before : ℕ) (items : List Item) → AreNumbered before (recs_of before items)
 recs_of_numbered before [] = tt

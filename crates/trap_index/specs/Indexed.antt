@@ -1,10 +1,12 @@
 -- What an index tells of the retained records: it is computed from their headers.
-use Rattle.std.specs.Prelude.{ℕ, ◌+◌, ◌-◌, ◌<◌, ◌≤◌, List, [], ◌∷◌, ◌++◌, length, get_or, take, drop, filter, ◌==◌, false}
+use Rattle.std.specs.Prelude.{ℕ, ◌+◌, ◌-◌, ◌<◌, ◌≤◌, List, [], ◌∷◌, ◌++◌, length, get_or, take}
+use Rattle.std.specs.Prelude.{drop, filter, ◌==◌, false}
 use Rattle.trap_model.specs.declared.known.Known.TheVariants.{Present}
 use Rattle.trap_model.specs.declared.known.Path.{Path}
 use Rattle.trap_model.specs.declared.known.Way.TheVariants.{Back}
 use Rattle.trap_model.specs.declared.log_record.LogRec.{LogRec}
 use Rattle.trap_model.specs.declared.numbers.Geometry.{Geometry}
+use Rattle.trap_model.specs.Limits.{record_header_len}
 use Rattle.trap_index.specs.declared.item.Item.{Item}
 
 -- the numbers of an array, how many entries were dropped and the time of the last of them, the
@@ -34,12 +36,12 @@ abbrev pub time_of_last : ℕ → List LogRec → ℕ
 time_of_last before [] = before
 time_of_last before (rec ∷ later) = time_of_last rec.time later
 
-abbrev pub last_time : Indexed → ℕ
-last_time i = time_of_last i.base_time i.recs
+abbrev pub last_record_time : Indexed → ℕ
+last_record_time i = time_of_last i.base_time i.recs
 
 -- a record's bytes: those of its header, and its codes
 abbrev pub rec_len : LogRec → ℕ
-rec_len rec = 26 + rec.plen + rec.slen
+rec_len rec = record_header_len + rec.plen + rec.slen
 
 -- the records' bytes together
 abbrev pub recs_len : List LogRec → ℕ

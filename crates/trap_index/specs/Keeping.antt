@@ -1,9 +1,11 @@
 -- What is so of every index, and how its items are kept.
-use Rattle.std.specs.Prelude.{◌≡◌, ℕ, ◌+◌, ◌*◌, ◌^◌, ◌<◌, ◌≤◌, List, [], ◌∷◌, length, get_or, take, false, nat_le, if◌then◌else◌}
+use Rattle.std.specs.Prelude.{◌≡◌, ℕ, ◌+◌, ◌*◌, ◌^◌, ◌<◌, ◌≤◌, List, [], ◌∷◌, length, get_or, take}
+use Rattle.std.specs.Prelude.{false, nat_le, if◌then◌else◌}
 use Rattle.trap_model.specs.declared.log_record.LogRec.{LogRec}
 use Rattle.trap_model.specs.Image.{volume}
 use Rattle.trap_index.specs.declared.item.Item.{Item}
-use Rattle.trap_index.specs.Indexed.{Indexed, last_seq, last_time, recs_len, newest, no_rec, item_after}
+use Rattle.trap_index.specs.Indexed.{Indexed, last_seq, last_record_time, recs_len, newest, no_rec}
+use Rattle.trap_index.specs.Indexed.{item_after}
 
 -- the records have the numbers that follow this one
 abbrev pub AreNumbered : ℕ → List LogRec → Type 0
@@ -23,8 +25,8 @@ pub record IsIndexed (i : Indexed) : Type 0 where
   pub times : TimesNeverFall i.base_time i.recs
 
 -- the header that an item was made of, of an entry with this number
-abbrev pub rec_of : ℕ → Item → LogRec
-rec_of q item = record {
+abbrev pub rec_of_item : ℕ → Item → LogRec
+rec_of_item q item = record {
   snap = item.snap;
   seq = q;
   time = item.time;
@@ -36,7 +38,7 @@ rec_of q item = record {
 -- the headers of items that have the numbers that follow this one
 abbrev pub recs_of : ℕ → List Item → List LogRec
 recs_of before [] = []
-recs_of before (item ∷ later) = rec_of (before + 1) item ∷ recs_of (before + 1) later
+recs_of before (item ∷ later) = rec_of_item (before + 1) item ∷ recs_of (before + 1) later
 
 -- what stands for an item where there is none
 abbrev pub no_item : Item
@@ -64,4 +66,4 @@ pub record KeepsItems (i : Indexed) (items : List Item) (capacity : ℕ) (heads 
       ≡ newest block i.recs
   pub end : end_off ≡ i.first_off + recs_len i.recs
   pub end_most : end_off ≤ 2 ^ 54 + 8232 * last_seq i
-  pub time : last ≡ last_time i
+  pub time : last ≡ last_record_time i

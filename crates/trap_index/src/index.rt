@@ -3,7 +3,9 @@
 ghost use Rattle.std.specs.Prelude.{◌≡◌, ◌↔◌, ◌+◌, ◌^◌, ◌<◌, ◌≤◌, length, IfOk, IfSome, IsSome};
 ghost use Rattle.trap_model.specs.Image.{volume};
 ghost use Rattle.trap_model.specs.LogRecord.{IsRecordInRange};
-ghost use Rattle.trap_index.specs.Indexed.{nothing_indexed, with_record, dropped_to, time_of_last, recs_up_to, last_seq, last_time, recs_len, newest, item_at, IsLastBy, path_to};
+ghost use Rattle.trap_index.specs.Indexed.{nothing_indexed, with_record, dropped_to, time_of_last};
+ghost use Rattle.trap_index.specs.Indexed.{recs_up_to, last_seq, last_record_time, recs_len};
+ghost use Rattle.trap_index.specs.Indexed.{newest, item_at, IsLastBy, path_to};
 ghost use Rattle.trap_index.specs.Keeping.{IsIndexed, link};
 
 use crate::Item;
@@ -85,7 +87,7 @@ impl Index {
     pub fn add(&mut self, rec: &LogRec)
         requires few { length self.old.recs < self.old.g.entries }
         requires number { rec.now.seq ≡ last_seq self.old + 1 }
-        requires time { last_time self.old ≤ rec.now.time }
+        requires time { last_record_time self.old ≤ rec.now.time }
         requires block { rec.now.block < volume self.old.g }
         requires ranges { IsRecordInRange self.old.g.block rec.now }
         ensures { self.new ≡ with_record self.old rec.now }
@@ -180,7 +182,7 @@ impl Index {
 
     /// The time of the last record, or the base time where there is none.
     pub fn last_time(&self) -> u64
-        ensures { result ≡ last_time self.now }
+        ensures { result ≡ last_record_time self.now }
     {
         self.last_time
     }

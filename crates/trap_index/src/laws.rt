@@ -11,7 +11,9 @@ ghost use Rattle.trap_model.specs.Path.{path};
 ghost use Rattle.trap_model.specs.Records.{rec_of, record_of, records, entry_at};
 ghost use Rattle.trap_model.specs.State.{fresh, image, image_at, image_by, kept, last};
 ghost use Rattle.trap_model.specs.State as state;
-ghost use Rattle.trap_index.specs.Indexed.{Indexed, nothing_indexed, with_record, dropped_to, last_seq, last_time, recs_len, newest, item_at, rec_at, rec_len, IsLastBy, path_to};
+ghost use Rattle.trap_index.specs.Indexed.{Indexed, nothing_indexed, with_record, dropped_to};
+ghost use Rattle.trap_index.specs.Indexed.{last_seq, last_record_time, recs_len, newest, item_at};
+ghost use Rattle.trap_index.specs.Indexed.{rec_at, rec_len, IsLastBy, path_to};
 ghost use Rattle.trap_index.specs.Keeping.{IsIndexed, link, told};
 ghost use Rattle.trap_index.specs.Describes.{Describes, IsLastOf, IsItemOf, block_before};
 
@@ -32,7 +34,7 @@ pub fn described()
 pub fn drops()
     ensures last { (i : Indexed) (q : ℕ) → i.first ≤ q → q ≤ last_seq i
         → last_seq (dropped_to i q) ≡ last_seq i }
-    ensures time { (i : Indexed) (q : ℕ) → last_time (dropped_to i q) ≡ last_time i }
+    ensures time { (i : Indexed) (q : ℕ) → last_record_time (dropped_to i q) ≡ last_record_time i }
     ensures end { (i : Indexed) (q : ℕ)
         → (dropped_to i q).first_off + recs_len (dropped_to i q).recs
         ≡ i.first_off + recs_len i.recs }
@@ -45,7 +47,8 @@ pub fn drops()
 /// Its numbers are the state's, and each item is its entry's.
 pub fn tells()
     ensures last { (i : Indexed) (s : State) → Describes i s → last_seq i ≡ last s }
-    ensures time { (i : Indexed) (s : State) → Describes i s → last_time i ≡ state.last_time s }
+    ensures time { (i : Indexed) (s : State) → Describes i s
+        → last_record_time i ≡ state.last_time s }
     ensures bytes { (i : Indexed) (s : State) → Describes i s → recs_len i.recs ≡ kept s }
     ensures item { (i : Indexed) (s : State) (q : ℕ) → Describes i s → s.first < q → q ≤ last s
         → IsItemOf s i.first_off q (item_at i q) }

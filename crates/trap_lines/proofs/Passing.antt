@@ -1,18 +1,18 @@
 -- What calls of a reader pass over.
-use Rattle.std.proofs.Common.{◌≡◌, ℕ, zero, suc, ◌+◌, ◌-◌, ◌<◌, ◌≤◌, ◌==◌, min, nat_lt, cond, List, [], ◌∷◌, ◌++◌, length, get_or, take, drop, Bool, true, false, Option, None, Some, refl, sym, ap, subst, ◌∙◌, append_assoc, append-nil, take-append-drop, length-append, length-take, length-drop, get_or-take, add-one, drop-cons, arith, rules}
-use Rattle.std.specs.List.{All, position, position_or_len}
+use Rattle.std.proofs.Common.{◌≡◌, ℕ, suc, ◌+◌, ◌-◌, ◌<◌, ◌≤◌, ◌==◌, nat_lt, cond, List, [], ◌∷◌, ◌++◌, length, get_or, take, drop, Bool, true, false, Option, None, Some, refl, sym, ap, subst, ◌∙◌, append_assoc, append-nil, take-append-drop, length-append, length-take, length-drop, get_or-take, add-one, drop-cons, arith}
+use Rattle.std.specs.List.{position, position_or_len}
 use Rattle.std.specs.Io.KnownBytes.{Consumes, prepend_known}
 use Rattle.std.proofs.KnownBytes.{Consumes-trans, Consumes-nil}
-use Rattle.std.proofs.lemmas.List.{drop-take, drop-drop}
 use Rattle.std.proofs.lemmas.List.Elements.{All-append, All-from_get_or}
 use Rattle.std.proofs.lemmas.List.Quantifiers.{position-Some}
 use Rattle.std.proofs.lemmas.List.Sums.{fails_before_first, position_or_len_is}
 use Rattle.std.proofs.lemmas.Bool.{false_from_ne_true}
 use Rattle.memchr.specs.Find.{IsFirstByte, is_byte}
 use Rattle.trap_bank.specs.Stream.{Stream}
+use Rattle.trap_bank.proofs.Regions.{window_drop}
 use Rattle.trap_lines.specs.declared.reader.LineReader.{LineReader}
 use Rattle.trap_script.specs.Lines.{HasNoFeed}
-use Rattle.trap_lines.specs.Reader.{pending, to_come, taken, room, IsLine, Advances, Passes}
+use Rattle.trap_lines.specs.Reader.{unread, to_come, room, IsLine, Advances, Passes}
 
 pub passes_nothing : (r : LineReader) (s : Stream) → Passes [] r r s s
 passes_nothing r s = record {
@@ -48,28 +48,20 @@ consumes_front None bytes n = tt
 consumes_front (Some rest) bytes n =
     ap (λ l. l ++ rest) (sym (take-append-drop n bytes)) ∙ append_assoc (take n bytes) (drop n bytes) rest
 
--- a window of a list that begins later
-pub window_drop : (xs : List ℕ) (at end count : ℕ) → count ≤ end - at
-    → take (end - (at + count)) (drop (at + count) xs) ≡ drop count (take (end - at) (drop at xs))
-window_drop xs at end count within =
-    let parts : count + (end - (at + count)) ≡ end - at = omega arith in
-    sym (ap (λ n. drop count (take n (drop at xs))) (sym parts) ∙ drop-take count (end - (at + count)) (drop at xs)
-    ∙ ap (take (end - (at + count))) (drop-drop count at xs))
-
 -- the reader went on by so many of the bytes that were taken
 pub passes_front : (r r' : LineReader) (s : Stream) (count : ℕ) → count ≤ r.end - r.at → r.end ≤ length r.chunk.items → Advances count r r'
-    → (pending r' ≡ drop count (pending r)) × Passes (take count (pending r)) r r' s s
+    → (unread r' ≡ drop count (unread r)) × Passes (take count (unread r)) r r' s s
 passes_front r r' s count within inside step =
-    let left : pending r' ≡ drop count (pending r) =
+    let left : unread r' ≡ drop count (unread r) =
     ap (λ c. take (r'.end - r'.at) (drop r'.at c.items)) step.chunk
     ∙ ap (λ e. take (e - r'.at) (drop r'.at r.chunk.items)) step.end
     ∙ ap (λ a. take (r.end - a) (drop a r.chunk.items)) step.at
     ∙ window_drop r.chunk.items r.at r.end count within in
-    let long : length (take count (pending r)) ≡ count = simp (length-take, length-drop) (omega arith) in (
+    let long : length (take count (unread r)) ≡ count = simp (length-take, length-drop) (omega arith) in (
       left,
       record {
-        bytes = subst (λ l. Consumes (to_come r s) (prepend_known l s.left) (take count (pending r))) (sym left)
-            (consumes_front s.left (pending r) count);
+        bytes = subst (λ l. Consumes (to_come r s) (prepend_known l s.left) (take count (unread r))) (sym left)
+            (consumes_front s.left (unread r) count);
         used = step.used ∙ ap (λ n. r.used + n) (sym long);
         given = omega arith;
         faults = omega arith;
@@ -138,12 +130,12 @@ line_grows front more len r r' is_line none same_room kept =
 -- More of a line is passed over: what was passed over of it before, and so many bytes more.
 pub front_grows : {front : List ℕ} {len : ℕ} (r0 r1 r2 r3 : LineReader) (s0 s1 s2 : Stream) (count : ℕ)
     → IsLine front len r1 → Passes front r0 r1 s0 s1 → Passes [] r1 r2 s1 s2 → r2.line ≡ r1.line
-    → count ≤ r2.end - r2.at → r2.end ≤ length r2.chunk.items → HasNoFeed (take count (pending r2))
-    → Advances count r2 r3 → (len + count ≤ room r2 → take (len + count) r3.line.items ≡ take len r2.line.items ++ take count (pending r2))
-    → (pending r3 ≡ drop count (pending r2))
-    × IsLine (front ++ take count (pending r2)) (len + count) r3 × Passes (front ++ take count (pending r2)) r0 r3 s0 s2
+    → count ≤ r2.end - r2.at → r2.end ≤ length r2.chunk.items → HasNoFeed (take count (unread r2))
+    → Advances count r2 r3 → (len + count ≤ room r2 → take (len + count) r3.line.items ≡ take len r2.line.items ++ take count (unread r2))
+    → (unread r3 ≡ drop count (unread r2))
+    × IsLine (front ++ take count (unread r2)) (len + count) r3 × Passes (front ++ take count (unread r2)) r0 r3 s0 s2
 front_grows {front} {len} r0 r1 r2 r3 s0 s1 s2 count is_line before idle same within inside none step kept =
-    let more = take count (pending r2) in
+    let more = take count (unread r2) in
     let over = passes_front r2 r3 s2 count within inside step in
     let long : length more ≡ count = simp (length-take, length-drop) (omega arith) in
     let here : IsLine front len r2 = line_stays r1 r2 same is_line in
@@ -157,21 +149,21 @@ front_grows {front} {len} r0 r1 r2 r3 s0 s1 s2 count is_line before idle same wi
 -- The line feed of a line is found and passed over.
 pub line_ends : {front : List ℕ} {len : ℕ} (r0 r1 r2 r3 r4 : LineReader) (s0 s1 s2 : Stream) (place : ℕ)
     → IsLine front len r1 → Passes front r0 r1 s0 s1 → Passes [] r1 r2 s1 s2 → r2.line ≡ r1.line → r2.end ≤ length r2.chunk.items
-    → position (λ byte. byte == 10) (pending r2) ≡ Some place
-    → Advances place r2 r3 → (len + place ≤ room r2 → take (len + place) r3.line.items ≡ take len r2.line.items ++ take place (pending r2))
+    → position (λ byte. byte == 10) (unread r2) ≡ Some place
+    → Advances place r2 r3 → (len + place ≤ room r2 → take (len + place) r3.line.items ≡ take len r2.line.items ++ take place (unread r2))
     → Advances 1 r3 r4 → r4.line ≡ r3.line
     → (line : List ℕ) × IsLine line (len + place) r4 × Passes (line ++ 10 ∷ []) r0 r4 s0 s2
 line_ends {front} {len} r0 r1 r2 r3 r4 s0 s1 s2 place is_line before idle same inside found step kept feed same_line =
-    let where_ = feed_found (pending r2) place found in
-    let long : length (pending r2) ≤ r2.end - r2.at = omega (arith, length-take (r2.end - r2.at) (drop r2.at r2.chunk.items)) in
-    let short : place < length (pending r2) = where_.0 in
+    let where_ = feed_found (unread r2) place found in
+    let long : length (unread r2) ≤ r2.end - r2.at = omega (arith, length-take (r2.end - r2.at) (drop r2.at r2.chunk.items)) in
+    let short : place < length (unread r2) = where_.0 in
     let room_for : place + 1 ≤ r2.end - r2.at = omega arith in
     let grown = front_grows r0 r1 r2 r3 s0 s1 s2 place is_line before idle same (omega arith) inside where_.1 step kept in
-    let first : take 1 (pending r3) ≡ 10 ∷ [] = ap (take 1) (grown.0 ∙ where_.2) in
+    let first : take 1 (unread r3) ≡ 10 ∷ [] = ap (take 1) (grown.0 ∙ where_.2) in
     let inside' : r3.end ≤ length r3.chunk.items =
     subst (λ c. r3.end ≤ length c.items) (sym step.chunk) (omega arith) in
     let over = passes_front r3 r4 s2 1 (omega arith) inside' feed in (
-      front ++ take place (pending r2),
+      front ++ take place (unread r2),
       line_stays r3 r4 same_line grown.1,
       passes_trans grown.2 (subst (λ l. Passes l r3 r4 s2 s2) first over.1),
     )

@@ -1,5 +1,6 @@
 -- What a reader of lines has before it, and what one call passes over.
-use Rattle.std.specs.Prelude.{◌≡◌, ℕ, ◌+◌, ◌-◌, ◌^◌, ◌<◌, ◌≤◌, List, [], ◌∷◌, ◌++◌, length, take, drop, Option, None, Bool, true, false}
+use Rattle.std.specs.Prelude.{◌≡◌, ℕ, ◌+◌, ◌-◌, ◌^◌, ◌<◌, ◌≤◌, List, [], ◌∷◌, ◌++◌, length, take}
+use Rattle.std.specs.Prelude.{drop, Option, None, Bool, true, false}
 use Rattle.std.specs.Io.KnownBytes.{Consumes, IsAtEnd, prepend_known}
 use Rattle.trap_bank.specs.Faults.{Rose}
 use Rattle.trap_bank.specs.Stream.{Stream}
@@ -11,12 +12,12 @@ use Rattle.trap_lines.specs.declared.found.ReadFault.{ReadFault}
 use Rattle.trap_lines.specs.declared.found.ReadFault.TheVariants.{Source, TooLong}
 
 -- the bytes that were taken and not passed over yet
-abbrev pub pending : LineReader → List ℕ
-pending r = take (r.end - r.at) (drop r.at r.chunk.items)
+abbrev pub unread : LineReader → List ℕ
+unread r = take (r.end - r.at) (drop r.at r.chunk.items)
 
 -- all that is still to come, where the source tells it
 abbrev pub to_come : LineReader → Stream → Option (List ℕ)
-to_come r s = prepend_known (pending r) s.left
+to_come r s = prepend_known (unread r) s.left
 
 -- how many bytes were taken through the reader
 abbrev pub taken : LineReader → ℕ
@@ -82,7 +83,7 @@ IsCause TooLong r' s s' = (taken r' ≡ 2 ^ 40) × (s'.ended ≡ false)
 
 -- all that was taken is passed over, and nothing more is there
 abbrev pub StopsAt : ReadFault → LineReader → Stream → Stream → Type 0
-StopsAt fault r' s s' = (pending r' ≡ []) × IsCause fault r' s s'
+StopsAt fault r' s s' = (unread r' ≡ []) × IsCause fault r' s s'
 
 -- no line was found, and what was passed over has no line feed
 abbrev pub FindsNone : ReadFault → LineReader → LineReader → Stream → Stream → Type 0

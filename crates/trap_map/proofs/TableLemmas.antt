@@ -3,8 +3,8 @@ use Rattle.std.proofs.Common.{◌≡◌, ◌≢◌, ℕ, ◌/◌, ◌<◌, List,
 use Rattle.trap_model.specs.Image.{volume, IsImage}
 use Rattle.std.proofs.lemmas.Bool.{cases_eq, ne_eqb}
 use Rattle.std.proofs.lemmas.List.{length-set, get_or-set_same, get_or-set_other}
-use Rattle.trap_block.specs.Xor.{xor, zeros, xor_over, xor_but, HaveSize, OthersHaveSize}
-use Rattle.trap_block.proofs.OverLemmas.{length-xor_but, xor_but_same, xor_over_is_zero, one_from_others, xor_but_changed}
+use Rattle.trap_block.specs.Xor.{xor, zeros, xor_over, xor_but, HaveSize}
+use Rattle.trap_block.proofs.OverLemmas.{length-xor_but, xor_but_same, xor_over_is_zero, one_from_others, xor_but_changed, OthersHaveSize}
 use Rattle.trap_map.specs.Layout.{parity_member, block_place, block_at}
 use Rattle.trap_map.specs.Table.{data_place, row_parity, table}
 use Rattle.trap_model.specs.declared.numbers.Geometry.{Geometry}
@@ -18,7 +18,8 @@ table_at_parity g image row member e = rw (eq-eqb member (parity_member g row) e
 pub table_elsewhere : (g : Geometry) (image : List (List ℕ)) (row member : ℕ) → member ≢ parity_member g row → table g image row member ≡ data_place g image row member
 table_elsewhere g image row member h = rw (ne_eqb member (parity_member g row) h) refl
 
-parity_member-lt : (g : Geometry) (row : ℕ) → parity_member g row < g.members
+-- a parity has a member
+pub parity_member-lt : (g : Geometry) (row : ℕ) → parity_member g row < g.members
 parity_member-lt g row = parity_in-lt g.members (row / g.chunk) (omega arith)
 
 data_sized : (g : Geometry) (image : List (List ℕ)) → IsImage g image → (row : ℕ) → row < g.rows → OthersHaveSize g.block (parity_member g row) (data_place g image row) g.members

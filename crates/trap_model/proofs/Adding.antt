@@ -42,6 +42,11 @@ write_accepted g s time block bytes e =
       fits = ltb-false g.ring (kept s + entry_size (block_of (image s) block) entry) room.1;
     }
 
+-- times that never fall end at no earlier one
+pub time_rises : (before : ℕ) (entries : List Entry) → NeverFall before entries → before ≤ time_after before entries
+time_rises before [] rise = omega arith
+time_rises before (entry ∷ later) rise = let low = rise.0 in let high = time_rises entry.time later rise.1 in omega arith
+
 never_fall-push : (before : ℕ) (xs : List Entry) (entry : Entry) → NeverFall before xs → time_after before xs ≤ entry.time → NeverFall before (xs ++ entry ∷ [])
 never_fall-push before [] entry h later = (later, tt)
 never_fall-push before (x ∷ xs) entry h later = (h.0, never_fall-push x.time xs entry h.1 later)

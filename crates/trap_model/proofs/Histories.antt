@@ -1,5 +1,6 @@
 -- The times and sizes of entries, and the images by a time.
-use Rattle.std.proofs.Common.{◌≡◌, ◌≢◌, ℕ, ◌+◌, ◌<◌, ◌≤◌, List, [], ◌∷◌, ◌++◌, length, get_or, take, refl, ap, sym, ◌∙◌, arith, drop, filter, nat_le, Bool, true, false, append-nil, ◌⊎◌, ⊎_elim, inl, inr}
+use Rattle.std.proofs.Common.{◌≡◌, ◌≢◌, ℕ, ◌+◌, ◌<◌, ◌≤◌, List, [], ◌∷◌, ◌++◌, length, get_or, take, refl, ap, sym, ◌∙◌, arith, drop, filter, nat_le, true, false, append-nil, ⊎_elim}
+use Rattle.std.proofs.lemmas.Bool.{cases_Bool}
 use Rattle.std.proofs.lemmas.List.{take-append-drop}
 use Rattle.std.proofs.lemmas.List.Elements.{filter-append}
 use Rattle.trap_model.specs.declared.history.Entry.{Entry}
@@ -35,10 +36,6 @@ size_over-take base xs i =
     let whole : size_over base (take i xs ++ drop i xs) ≡ size_over base xs = ap (size_over base) (take-append-drop i xs) in
     omega arith
 
-either : (b : Bool) → (b ≡ true) ⊎ (b ≡ false)
-either true = inl refl
-either false = inr refl
-
 -- a block by a time, with one more entry, which counts and writes it or doesn't
 module _ (base : List (List ℕ)) (xs : List Entry) (time i : ℕ) (x : Entry) (number : ℕ) (inside : i < length xs) (is : x ≡ get_or xs i x) where
   kept_more : filter (λ (entry : Entry). nat_le entry.time time) (take (i + 1) xs) ≡ filter (λ (entry : Entry). nat_le entry.time time) (take i xs) ++ filter
@@ -73,4 +70,4 @@ module _ (base : List (List ℕ)) (xs : List Entry) (time i : ℕ) (x : Entry) (
       ∙ ap (λ (im : List (List ℕ)). block_of im number) (image_after-push base front x)
       ∙ block_written_other (image_after base front) x number other))
       (λ (later : nat_le x.time time ≡ false). block_by_later later)
-      (either (nat_le x.time time))
+      (cases_Bool (nat_le x.time time))

@@ -36,7 +36,8 @@ snapshot_len_is : (size : ℕ) (snap : Bool) (block : List ℕ) → 1 ≤ size �
 snapshot_len_is size true block some long = length-code_of size block some long
 snapshot_len_is size false block some long = refl
 
-snapshot_size : (snap : Bool) (block : List ℕ) → length (if snap then code_of block else []) ≡ (if snap then length (code_of block) else 0)
+-- how long the second code of an entry is
+pub snapshot_size : (snap : Bool) (block : List ℕ) → length (if snap then code_of block else []) ≡ (if snap then length (code_of block) else 0)
 snapshot_size true block = refl
 snapshot_size false block = refl
 

@@ -2,7 +2,7 @@
 use Rattle.std.proofs.Common.{◌≡◌, ℕ, zero, suc, ◌+◌, ◌-◌, ◌<◌, ◌≤◌, List, [], ◌∷◌, ◌++◌, length, get_or, replicate, flat_map, refl, sym, ◌∙◌, ap, subst, inl, inr, ⊎_elim, arith, length-append, get_or-append-add}
 use Rattle.std.proofs.lemmas.Bool.{cases_lt}
 use Rattle.std.proofs.lemmas.List.{length-replicate}
-use Rattle.trap_model.specs.ZeroRun.{Segment, spelling, contents, size_of, AreZeros, IsLiteral, KeepsRules, Walks, ZeroRun}
+use Rattle.trap_model.specs.ZeroRun.{Segment, spelling, contents, segment_size, AreZeros, IsLiteral, KeepsRules, Walks, ZeroRun}
 use Rattle.trap_model.proofs.ZeroRuns.{literal_some, segment}
 
 -- segments that stand for the bytes
@@ -92,7 +92,7 @@ zero_first xs (s ∷ a) (follows, walk) meant = record {
   segments = segment (suc s.zeros) s.literal ∷ a;
   rules = (
     longer follows,
-    subst (λ (m : ℕ). Walks 4 m a 0) (let same : length xs - size_of s ≡ suc (length xs) - (suc s.zeros + length s.literal) = omega arith in same) walk,
+    subst (λ (m : ℕ). Walks 4 m a 0) (let same : length xs - segment_size s ≡ suc (length xs) - (suc s.zeros + length s.literal) = omega arith in same) walk,
   );
   meant = ap (λ (l : List ℕ). 0 ∷ l) meant;
 }
@@ -116,7 +116,7 @@ literal_first n xs (s ∷ a) (inl has, walk) meant = ⊎_elim
         }),
         subst (λ (m : ℕ). Walks 4 m a 0)
             (let len = length-joined n s.zeros s.literal in
-            let same : length xs - size_of s ≡ suc (length xs) - (0 + length (joined n s.zeros s.literal)) = omega arith in same)
+            let same : length xs - segment_size s ≡ suc (length xs) - (0 + length (joined n s.zeros s.literal)) = omega arith in same)
             walk,
       );
       meant = ap (λ (l : List ℕ). suc n ∷ l) meant;

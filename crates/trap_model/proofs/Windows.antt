@@ -5,7 +5,7 @@ use Rattle.std.proofs.lemmas.Bool.{cases_lt}
 use Rattle.std.proofs.lemmas.List.Elements.{All-nil, All-cons, All-head, All-tail}
 use Rattle.trap_model.specs.declared.arrival.Arrival.{Arrival}
 use Rattle.trap_model.specs.declared.arrival.Taken.TheVariants.{Applied, Held, Repeat, Beyond}
-use Rattle.trap_model.specs.Receiver.{window, Receiver, starting, hold, is_held, applied, settled, is_known, is_beyond, with_frame, taken, answer, receive, answers, bare, gapless, CameWithin, IsGapless}
+use Rattle.trap_model.specs.Receiver.{window, Receiver, starting, hold, is_held, applied, settled, is_known, is_beyond, with_frame, after_frame, answer, receive, answers, bare, gapless, CameWithin, IsGapless}
 
 -- the numbers rise, and the first is above this one
 abbrev pub Ascends : ℕ → List Arrival → Type 0
@@ -154,7 +154,7 @@ ascends_lower a b (f ∷ held) le order = (let above = order.0 in omega arith, o
 
 -- one more number
 takes : (n m : ℕ) (before : List ℕ) (r : Receiver) → r.number ≡ gapless n before → Knows n before (r.number + 1) r.number r.held
-    → (let s = taken r (bare m) in Knows n (before ++ m ∷ []) (s.number + 1) s.number s.held)
+    → (let s = after_frame r (bare m) in Knows n (before ++ m ∷ []) (s.number + 1) s.number s.held)
 takes n m before r is knows = at (is_known r (bare m)) (is_beyond r (bare m)) refl refl
   where
     at : (k b : Bool) → is_known r (bare m) ≡ k → is_beyond r (bare m) ≡ b → (let s = (if k || b then r else with_frame r (bare m)) in Knows n (before ++ m ∷ []) (s.number + 1) s.number s.held)
@@ -194,7 +194,7 @@ takes n m before r is knows = at (is_known r (bare m)) (is_beyond r (bare m)) re
 
 receive-append : (r : Receiver) (a b : List Arrival) → receive r (a ++ b) ≡ receive (receive r a) b
 receive-append r [] b = refl
-receive-append r (f ∷ a) b = receive-append (taken r f) a b
+receive-append r (f ∷ a) b = receive-append (after_frame r f) a b
 
 map_bare-append : (a b : List ℕ) → map bare (a ++ b) ≡ map bare a ++ map bare b
 map_bare-append [] b = refl
@@ -203,7 +203,7 @@ map_bare-append (x ∷ a) b = ap (λ (l : List Arrival). bare x ∷ l) (map_bare
 abbrev after_numbers : ℕ → List ℕ → Receiver
 after_numbers n numbers = receive (starting n 0 []) (map bare numbers)
 
-after_one_more : (n m : ℕ) (before : List ℕ) → after_numbers n (before ++ m ∷ []) ≡ taken (after_numbers n before) (bare m)
+after_one_more : (n m : ℕ) (before : List ℕ) → after_numbers n (before ++ m ∷ []) ≡ after_frame (after_numbers n before) (bare m)
 after_one_more n m before = ap (receive (starting n 0 [])) (map_bare-append before (m ∷ [])) ∙ receive-append (starting n 0 []) (map bare before) (bare m ∷ [])
 
 abbrev AllKnown : ℕ → List ℕ → Type 0
@@ -212,7 +212,7 @@ AllKnown n before = (let r = after_numbers n before in Knows n before (r.number 
 all_known : (n : ℕ) (before numbers : List ℕ) → AllKnown n before → AllKnown n (before ++ numbers)
 all_known n before [] knows = subst (AllKnown n) (sym (append-nil before)) knows
 all_known n before (m ∷ numbers) knows =
-    let one : Knows n (before ++ m ∷ []) ((taken (after_numbers n before) (bare m)).number + 1) (taken (after_numbers n before) (bare m)).number (taken (after_numbers n before) (bare m)).held =
+    let one : (let r = after_frame (after_numbers n before) (bare m) in Knows n (before ++ m ∷ []) (r.number + 1) r.number r.held) =
     takes n m before (after_numbers n before) refl knows in
     let next : AllKnown n (before ++ m ∷ []) = subst (λ (r : Receiver). Knows n (before ++ m ∷ []) (r.number + 1) r.number r.held) (sym (after_one_more n m before)) one in
     subst (AllKnown n) (append_assoc before (m ∷ []) numbers) (all_known n (before ++ m ∷ []) numbers next)
@@ -252,7 +252,7 @@ settled-grows r (f ∷ held) = at (f.seq == r.number + 1) (settled-grows (applie
     at true rest = omega arith
     at false rest = omega arith
 
-pub taken-grows : (r : Receiver) (f : Arrival) → r.number ≤ (taken r f).number
+pub taken-grows : (r : Receiver) (f : Arrival) → r.number ≤ (after_frame r f).number
 taken-grows r f = at (is_known r f || is_beyond r f)
   where
     at : (b : Bool) → r.number ≤ (if b then r else with_frame r f).number
@@ -273,9 +273,9 @@ none-beyond n r [] least all = All-nil (λ a. a ≢ Beyond)
 none-beyond n r (f ∷ frames) least all =
     let inside : f.seq ≤ n + window = All-head (λ g. g.seq ≤ n + window) f frames all in
     let near : f.seq ≤ r.number + window = omega arith in
-    All-cons (λ a. a ≢ Beyond) (answer r f) (answers (taken r f) frames)
+    All-cons (λ a. a ≢ Beyond) (answer r f) (answers (after_frame r f) frames)
     (answer-not_beyond (is_known r f) (is_beyond r f) (f.seq == r.number + 1) (with_frame r f).number (not_above (r.number + window) f.seq near))
-    (none-beyond n (taken r f) frames (let grows = taken-grows r f in omega arith) (All-tail (λ g. g.seq ≤ n + window) f frames all))
+    (none-beyond n (after_frame r f) frames (let grows = taken-grows r f in omega arith) (All-tail (λ g. g.seq ≤ n + window) f frames all))
 
 -- what tells how far a receiver comes: its number, and the numbers that it holds
 abbrev bared : Arrival → Arrival
@@ -307,7 +307,7 @@ shadow-is_held : (q : ℕ) (held : List Arrival) → is_held q (map bared held) 
 shadow-is_held q [] = refl
 shadow-is_held q (f ∷ held) = ap (λ (b : Bool). (f.seq == q) || b) (shadow-is_held q held)
 
-shadow-taken : (r : Receiver) (f : Arrival) → shadow (taken r f) ≡ taken (shadow r) (bared f)
+shadow-taken : (r : Receiver) (f : Arrival) → shadow (after_frame r f) ≡ after_frame (shadow r) (bared f)
 shadow-taken r f = at (is_known r f || is_beyond r f) ∙ ap (λ (b : Bool). if (nat_le f.seq r.number || b) || is_beyond r f then shadow r else with_frame (shadow r)
     (bared f)) (sym (shadow-is_held f.seq r.held))
   where
@@ -317,7 +317,7 @@ shadow-taken r f = at (is_known r f || is_beyond r f) ∙ ap (λ (b : Bool). if 
 
 shadow-receive : (r : Receiver) (frames : List Arrival) → shadow (receive r frames) ≡ receive (shadow r) (map bared frames)
 shadow-receive r [] = refl
-shadow-receive r (f ∷ frames) = shadow-receive (taken r f) frames ∙ ap (λ (s : Receiver). receive s (map bared frames)) (shadow-taken r f)
+shadow-receive r (f ∷ frames) = shadow-receive (after_frame r f) frames ∙ ap (λ (s : Receiver). receive s (map bared frames)) (shadow-taken r f)
 
 map_bared : (frames : List Arrival) → map bared frames ≡ map bare (map (λ f. f.seq) frames)
 map_bared [] = refl

@@ -4,7 +4,7 @@ use Rattle.std.specs.Int.{from_be_bytes}
 use Rattle.std.proofs.lemmas.Nat.{from_be_bytes-to_be_bytes_2}
 use Rattle.std.proofs.lemmas.Bool.{cases_lt}
 use Rattle.std.proofs.lemmas.List.{length-replicate, get_or-replicate, get_or_append_left, get_or_past}
-use Rattle.trap_model.specs.ZeroRun.{Segment, spelling, contents, size_of, IsLiteral, KeepsRules, Walks, ZeroRun, least_after, NoneFollows, IsRefused}
+use Rattle.trap_model.specs.ZeroRun.{Segment, spelling, contents, segment_size, IsLiteral, KeepsRules, Walks, ZeroRun, least_after, NoneFollows, IsRefused}
 
 -- a literal isn't empty
 pub literal_some : (l : List ℕ) → IsLiteral l → 1 ≤ length l
@@ -12,18 +12,18 @@ literal_some [] is = let begins = is.begins in omega arith
 literal_some (x ∷ xs) is = omega arith
 
 -- a segment has at least one byte of the block, and no more than the block has left
-pub Follows_some : (least owed : ℕ) (s : Segment) → KeepsRules least owed s → 1 ≤ size_of s
+pub Follows_some : (least owed : ℕ) (s : Segment) → KeepsRules least owed s → 1 ≤ segment_size s
 Follows_some least owed s (inl has) = let some = literal_some s.literal has.literal in omega arith
 Follows_some least owed s (inr rest) = let some = rest.some in omega arith
 
-pub Follows_within : (least owed : ℕ) (s : Segment) → KeepsRules least owed s → size_of s ≤ owed
+pub Follows_within : (least owed : ℕ) (s : Segment) → KeepsRules least owed s → segment_size s ≤ owed
 Follows_within least owed s (inl has) = has.within
 Follows_within least owed s (inr rest) = let whole = rest.whole in let none : length s.literal ≡ 0 = ap length rest.empty in omega arith
 
 pub length-spelling : (s : Segment) → length (spelling s) ≡ 4 + length s.literal
 length-spelling s = omega arith
 
-pub length-contents : (s : Segment) → length (contents s) ≡ size_of s
+pub length-contents : (s : Segment) → length (contents s) ≡ segment_size s
 length-contents s = length-append (replicate {A = ℕ} s.zeros 0) s.literal ∙ ap (λ n. n + length s.literal) (length-replicate {A = ℕ} s.zeros 0)
 
 -- a segment by its parts
@@ -34,7 +34,7 @@ pub same_segment : (s t : Segment) → s.zeros ≡ t.zeros → s.literal ≡ t.l
 same_segment s t zeros literal = ap₂ segment zeros literal
 
 -- no segment's spelling begins another's
-pub spelling-same : (s t : Segment) (x y : List ℕ) → size_of s < 2 ^ 16 → size_of t < 2 ^ 16 → spelling s ++ x ≡ spelling t ++ y → (s ≡ t) × (x ≡ y)
+pub spelling-same : (s t : Segment) (x y : List ℕ) → segment_size s < 2 ^ 16 → segment_size t < 2 ^ 16 → spelling s ++ x ≡ spelling t ++ y → (s ≡ t) × (x ≡ y)
 spelling-same s t x y small_s small_t e =
     let zeros : s.zeros ≡ t.zeros =
     sym (from_be_bytes-to_be_bytes_2 s.zeros (omega arith)) ∙ ap (λ (bytes : List ℕ). from_be_bytes w16 (take 2 bytes)) e ∙ from_be_bytes-to_be_bytes_2 t.zeros (omega arith) in
@@ -75,8 +75,8 @@ walk-same least owed left_a left_b (s ∷ a) (t ∷ b) x y small walk_a walk_b s
     let within_t = Follows_within least owed t walk_b.0 in
     let same = spelling-same s t (flat_map spelling a ++ x) (flat_map spelling b ++ y) (omega arith) (omega arith)
     (sym (append_assoc (spelling s) (flat_map spelling a) x) ∙ e ∙ append_assoc (spelling t) (flat_map spelling b) y) in
-    let rest = walk-same 4 (owed - size_of s) left_a left_b a b x y (omega arith) walk_a.1
-    (subst (λ (u : Segment). Walks 4 (owed - size_of u) b left_b) (sym same.0) walk_b.1)
+    let rest = walk-same 4 (owed - segment_size s) left_a left_b a b x y (omega arith) walk_a.1
+    (subst (λ (u : Segment). Walks 4 (owed - segment_size u) b left_b) (sym same.0) walk_b.1)
     (stops_after a left_a x stop_a) (stops_after b left_b y stop_b) same.1 in
     (cons-same s t a b same.0 rest.0, rest.1, rest.2)
 
@@ -92,7 +92,7 @@ walk-none least left (s ∷ a) walk =
 pub walk-room : (least owed left : ℕ) (a : List Segment) → least ≤ 4 → Walks least owed a left → length (flat_map spelling a) + least + left ≤ owed + 7
 walk-room least owed left [] few walk = let whole : left ≡ owed = walk in omega arith
 walk-room least owed left (s ∷ a) few (inl has, walk) =
-    let more = walk-room 4 (owed - size_of s) left a (omega arith) walk in
+    let more = walk-room 4 (owed - segment_size s) left a (omega arith) walk in
     let zeros = has.zeros in
     let within = has.within in
     let len = length-append (spelling s) (flat_map spelling a) in
@@ -102,7 +102,7 @@ walk-room least owed left (s ∷ a) few (inr rest, walk) =
     let some = rest.some in
     let none : length s.literal ≡ 0 = ap length rest.empty in
     let whole = rest.whole in
-    let nothing : owed - size_of s ≡ 0 = omega arith in
+    let nothing : owed - segment_size s ≡ 0 = omega arith in
     let over = walk-none 4 left a (subst (λ (n : ℕ). Walks 4 n a left) nothing walk) in
     let behind : length (flat_map spelling a) ≡ 0 = ap (λ (b : List Segment). length (flat_map spelling b)) over.0 in
     let end : left ≡ 0 = over.1 in
@@ -114,7 +114,7 @@ walk-room least owed left (s ∷ a) few (inr rest, walk) =
 pub walk-size : (least owed left : ℕ) (a : List Segment) → Walks least owed a left → length (flat_map contents a) + left ≡ owed
 walk-size least owed left [] walk = let whole : left ≡ owed = walk in omega arith
 walk-size least owed left (s ∷ a) walk =
-    let more = walk-size 4 (owed - size_of s) left a walk.1 in
+    let more = walk-size 4 (owed - segment_size s) left a walk.1 in
     let within = Follows_within least owed s walk.0 in
     let len = length-append (contents s) (flat_map contents a) in
     let front = length-contents s in
@@ -145,7 +145,7 @@ after_zero owed (s ∷ a) (inr rest, walk) k below = ⊎_elim
     (λ (past : s.zeros ≤ k).
     let none : length s.literal ≡ 0 = ap length rest.empty in
     let whole = rest.whole in
-    let sizes = walk-size 4 (owed - size_of s) 0 a walk in
+    let sizes = walk-size 4 (owed - segment_size s) 0 a walk in
     let len = length-append (contents s) (flat_map contents a) in
     let front = length-contents s in
     get_or_past (contents s ++ flat_map contents a) k 0 (omega arith))
@@ -211,8 +211,8 @@ contents-same least owed (s ∷ a) (t ∷ b) walk_a walk_b e =
     let more_s = zeros-le least owed t s (flat_map contents b) (flat_map contents a) walk_b.0 walk_a.0 (sym e) in
     let zeros : s.zeros ≡ t.zeros = omega arith in
     let behind : s.literal ++ flat_map contents a ≡ t.literal ++ flat_map contents b = after_zeros zeros in
-    let le_t = literal-le s.literal t.literal (flat_map contents a) (flat_map contents b) (after_zero (owed - size_of s) a walk_a.1) (literal_or_none least owed t walk_b.0) behind in
-    let le_s = literal-le t.literal s.literal (flat_map contents b) (flat_map contents a) (after_zero (owed - size_of t) b walk_b.1) (literal_or_none least owed s walk_a.0) (sym behind) in
+    let le_t = literal-le s.literal t.literal (flat_map contents a) (flat_map contents b) (after_zero (owed - segment_size s) a walk_a.1) (literal_or_none least owed t walk_b.0) behind in
+    let le_s = literal-le t.literal s.literal (flat_map contents b) (flat_map contents a) (after_zero (owed - segment_size t) b walk_b.1) (literal_or_none least owed s walk_a.0) (sym behind) in
     let len : length s.literal ≡ length t.literal = omega arith in
     let literal : s.literal ≡ t.literal =
     sym (take_at s.literal (flat_map contents a) (length t.literal) len) ∙ ap (λ (bytes : List ℕ). take (length t.literal) bytes) behind
@@ -222,7 +222,7 @@ contents-same least owed (s ∷ a) (t ∷ b) walk_a walk_b e =
     ∙ drop_at t.literal (flat_map contents b) (length t.literal) refl in
     let same = same_segment s t zeros literal in
     cons-same s t a b same
-    (contents-same 4 (owed - size_of s) a b walk_a.1 (subst (λ (u : Segment). Walks 4 (owed - size_of u) b 0) (sym same) walk_b.1) rest)
+    (contents-same 4 (owed - segment_size s) a b walk_a.1 (subst (λ (u : Segment). Walks 4 (owed - segment_size u) b 0) (sym same) walk_b.1) rest)
   where
     after_zeros : s.zeros ≡ t.zeros → s.literal ++ flat_map contents a ≡ t.literal ++ flat_map contents b
     after_zeros zeros =

@@ -1,5 +1,6 @@
 -- What a request does to the state of an array, and what is replied.
-use Rattle.std.specs.Prelude.{◌≡◌, ℕ, ◌+◌, ◌^◌, List, [], ◌∷◌, ◌++◌, length, Bool, false, ◌||◌, ◌==◌, nat_lt, nat_le, if◌then◌else◌, Option, Some, None}
+use Rattle.std.specs.Prelude.{◌≡◌, ℕ, ◌+◌, ◌^◌, List, [], ◌∷◌, ◌++◌, length, Bool, false, ◌||◌}
+use Rattle.std.specs.Prelude.{◌==◌, nat_lt, nat_le, if◌then◌else◌, Option, Some, None}
 use Rattle.trap_model.specs.Machine.{Machine}
 use Rattle.trap_model.specs.Image.{volume, block_of}
 use Rattle.trap_model.specs.State.{last, last_time, time_at, image, image_at, image_by, above, kept}
@@ -8,11 +9,14 @@ use Rattle.trap_model.specs.declared.numbers.Geometry.{Geometry}
 use Rattle.trap_model.specs.declared.history.Entry.{Entry}
 use Rattle.trap_model.specs.declared.history.State.{State}
 use Rattle.trap_model.specs.declared.request.Request.{Request}
-use Rattle.trap_model.specs.declared.request.Request.TheVariants.{Write, Read, At, By, Info, Keep, Quit, Bad}
+use Rattle.trap_model.specs.declared.request.Request.TheVariants.{Write, Read, At, By, Info, Keep}
+use Rattle.trap_model.specs.declared.request.Request.TheVariants.{Quit, Bad}
 use Rattle.trap_model.specs.declared.request.Reply.{Reply}
-use Rattle.trap_model.specs.declared.request.Reply.TheVariants.{Kept, Is, At as Then, Span, No, Silent}
+use Rattle.trap_model.specs.declared.request.Reply.TheVariants.{Kept, Is, At as Then, Span, No}
+use Rattle.trap_model.specs.declared.request.Reply.TheVariants.{Silent}
 use Rattle.trap_model.specs.declared.request.Refusal.{Refusal}
-use Rattle.trap_model.specs.declared.request.Refusal.TheVariants.{NoLine, NoBlock, TimeBack, Worn, Full, NotKept, Ahead}
+use Rattle.trap_model.specs.declared.request.Refusal.TheVariants.{NoLine, NoBlock, TimeBack, Worn}
+use Rattle.trap_model.specs.declared.request.Refusal.TheVariants.{Full, NotKept, Ahead}
 
 -- whether the next entry of a block is marked: none is
 abbrev pub due : Geometry → State → ℕ → Bool

@@ -1,5 +1,6 @@
 -- The frames of a stream: a header, and the code of a parity after it.
-use Rattle.std.specs.Prelude.{◌≡◌, ◌⊎◌, ℕ, ◌+◌, ◌^◌, ◌<◌, ◌≤◌, List, [], ◌∷◌, ◌++◌, length, drop, codes, slice_range}
+use Rattle.std.specs.Prelude.{◌≡◌, ◌⊎◌, ℕ, ◌+◌, ◌^◌, ◌<◌, ◌≤◌, List, [], ◌∷◌, ◌++◌, length, drop}
+use Rattle.std.specs.Prelude.{codes, slice_range}
 use Rattle.std.specs.Int.{w16, w32, w64, to_be_bytes}
 use Rattle.trap_model.specs.ZeroRun.{ZeroRun, IsCode}
 use Rattle.trap_model.specs.declared.frame.Frame.{Frame}

@@ -1,5 +1,6 @@
 -- Images of a volume, and entries written over them.
-use Rattle.std.specs.Prelude.{◌≡◌, ℕ, ◌-◌, ◌*◌, ◌<◌, List, [], length, replicate, set, fold, slice_index_or}
+use Rattle.std.specs.Prelude.{◌≡◌, ℕ, ◌-◌, ◌*◌, ◌<◌, List, [], length, replicate, set, fold}
+use Rattle.std.specs.Prelude.{slice_index_or}
 use Rattle.trap_model.specs.declared.numbers.Geometry.{Geometry}
 use Rattle.trap_model.specs.declared.history.Entry.{Entry}
 

@@ -5,6 +5,10 @@ use Rattle.std.specs.Prelude.{◌≡◌, ℕ, ◌+◌, ◌-◌, ◌*◌, ◌%◌
 abbrev pub open_gate : ℕ
 open_gate = 165
 
+-- how many bytes head a record of the log
+abbrev pub record_header_len : ℕ
+record_header_len = 26
+
 -- the block sizes, in bytes: the powers of two from 16 to 4096
 abbrev pub is_block_size : ℕ → Bool
 is_block_size size = (size == 16) || (size == 32) || (size == 64) || (size == 128) || (size == 256)
@@ -12,7 +16,7 @@ is_block_size size = (size == 16) || (size == 32) || (size == 64) || (size == 12
 
 -- the greatest length of a log record over blocks of a size: its header, and two codes
 abbrev pub greatest_record : ℕ → ℕ
-greatest_record block = 26 + 2 * (block + 7)
+greatest_record block = record_header_len + 2 * (block + 7)
 
 -- the numbers of an array are within their limits
 pub record AreWithinLimits (members chunk block rows slots gap entries ring : ℕ) : Type 0 where

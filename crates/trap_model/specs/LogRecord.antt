@@ -1,5 +1,6 @@
 -- The records of a log: a header, and one code or two after it.
-use Rattle.std.specs.Prelude.{◌≡◌, ℕ, ◌+◌, ◌^◌, ◌<◌, ◌≤◌, List, [], ◌∷◌, ◌++◌, length, Bool, true, false}
+use Rattle.std.specs.Prelude.{◌≡◌, ℕ, ◌+◌, ◌^◌, ◌<◌, ◌≤◌, List, [], ◌∷◌, ◌++◌, length, Bool, true}
+use Rattle.std.specs.Prelude.{false}
 use Rattle.std.specs.Int.{w16, w32, w64, to_be_bytes}
 use Rattle.trap_model.specs.ZeroRun.{IsCode}
 use Rattle.trap_model.specs.declared.log_record.LogRec.{LogRec}
@@ -8,7 +9,7 @@ abbrev pub flag : Bool → ℕ
 flag true = 1
 flag false = 0
 
--- kind 1, the flag, and the five numbers: 26 bytes
+-- kind 1, the flag, and the five numbers: `record_header_len` bytes
 abbrev pub header : LogRec → List ℕ
 header r = 1 ∷ flag r.snap ∷ to_be_bytes w64 r.seq ++ to_be_bytes w64 r.time
     ++ to_be_bytes w32 r.block ++ to_be_bytes w16 r.plen ++ to_be_bytes w16 r.slen

@@ -8,10 +8,14 @@ use Rattle.trap_model.specs.declared.known.Way.TheVariants.{Back}
 use Rattle.trap_model.specs.State.{above}
 
 -- those that write a block
-abbrev pub of_block : ℕ → List Entry → List Entry
-of_block block entries = filter (λ entry. entry.block == block) entries
+abbrev pub entries_of_block : ℕ → List Entry → List Entry
+entries_of_block block entries = filter (λ entry. entry.block == block) entries
 
 -- From the present back to the instant after entry number q: over each of the block's entries above
 -- q.
 abbrev pub path : State → ℕ → ℕ → Path
-path s block q = record { from = Present; turns = length (of_block block (above s q)); way = Back }
+path s block q = record {
+  from = Present;
+  turns = length (entries_of_block block (above s q));
+  way = Back;
+}

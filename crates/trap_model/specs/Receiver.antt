@@ -1,6 +1,7 @@
 -- A receiver of frames: what it has applied and what it holds, and what becomes of each frame that
 -- comes.
-use Rattle.std.specs.Prelude.{◌≡◌, ℕ, ◌+◌, ◌<◌, ◌≤◌, List, [], ◌∷◌, ◌++◌, map, set, Bool, false, ◌||◌, ◌==◌, nat_lt, nat_le, if◌then◌else◌}
+use Rattle.std.specs.Prelude.{◌≡◌, ℕ, ◌+◌, ◌<◌, ◌≤◌, List, [], ◌∷◌, ◌++◌, map, set, Bool, false}
+use Rattle.std.specs.Prelude.{◌||◌, ◌==◌, nat_lt, nat_le, if◌then◌else◌}
 use Rattle.trap_block.specs.Xor.{xor}
 use Rattle.trap_model.specs.Image.{block_of}
 use Rattle.trap_model.specs.declared.arrival.Arrival.{Arrival}
@@ -65,8 +66,8 @@ abbrev pub with_frame : Receiver → Arrival → Receiver
 with_frame r f = settled r (hold f r.held)
 
 -- the receiver after a frame
-abbrev pub taken : Receiver → Arrival → Receiver
-taken r f = if is_known r f || is_beyond r f then r else with_frame r f
+abbrev pub after_frame : Receiver → Arrival → Receiver
+after_frame r f = if is_known r f || is_beyond r f then r else with_frame r f
 
 -- what becomes of a frame
 abbrev pub answer : Receiver → Arrival → Taken
@@ -77,12 +78,12 @@ answer r f =
 -- the receiver after these frames, each in turn
 abbrev pub receive : Receiver → List Arrival → Receiver
 receive r [] = r
-receive r (f ∷ frames) = receive (taken r f) frames
+receive r (f ∷ frames) = receive (after_frame r f) frames
 
 -- what becomes of each of these frames
 abbrev pub answers : Receiver → List Arrival → List Taken
 answers r [] = []
-answers r (f ∷ frames) = answer r f ∷ answers (taken r f) frames
+answers r (f ∷ frames) = answer r f ∷ answers (after_frame r f) frames
 
 -- a frame of which only the number matters
 abbrev pub bare : ℕ → Arrival

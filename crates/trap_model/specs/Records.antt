@@ -1,5 +1,6 @@
 -- The log's records of the retained entries, as bytes.
-use Rattle.std.specs.Prelude.{ℕ, ◌+◌, ◌-◌, List, [], ◌∷◌, ◌++◌, length, get_or, false, if◌then◌else◌}
+use Rattle.std.specs.Prelude.{ℕ, ◌+◌, ◌-◌, List, [], ◌∷◌, ◌++◌, length, get_or, false}
+use Rattle.std.specs.Prelude.{if◌then◌else◌}
 use Rattle.trap_block.specs.Xor.{xor}
 use Rattle.trap_model.specs.declared.history.Entry.{Entry}
 use Rattle.trap_model.specs.declared.history.State.{State}

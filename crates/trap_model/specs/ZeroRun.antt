@@ -1,5 +1,6 @@
 -- The code of a block: runs of zero bytes, and the literal bytes after each run.
-use Rattle.std.specs.Prelude.{◌≡◌, ◌⊎◌, ℕ, ◌+◌, ◌-◌, ◌<◌, ◌≤◌, List, [], ◌∷◌, ◌++◌, length, replicate, flat_map, slice_index}
+use Rattle.std.specs.Prelude.{◌≡◌, ◌⊎◌, ℕ, ◌+◌, ◌-◌, ◌<◌, ◌≤◌, List, [], ◌∷◌, ◌++◌, length}
+use Rattle.std.specs.Prelude.{replicate, flat_map, slice_index}
 use Rattle.std.specs.Int.{w16, to_be_bytes}
 pub use Rattle.trap_block.specs.Zeros.{AreZeros}
 
@@ -17,8 +18,8 @@ abbrev pub contents : Segment → List ℕ
 contents s = replicate s.zeros 0 ++ s.literal
 
 -- how many bytes of the block it stands for
-abbrev pub size_of : Segment → ℕ
-size_of s = s.zeros + length s.literal
+abbrev pub segment_size : Segment → ℕ
+segment_size s = s.zeros + length s.literal
 
 -- a literal begins and ends with a nonzero byte, so it isn't empty, and holds no four zero bytes in
 -- succession
@@ -32,7 +33,7 @@ pub record IsLiteral (bytes : List ℕ) : Type 0 where
 pub record HasLiteral (least owed : ℕ) (s : Segment) : Type 0 where
   pub zeros : least ≤ s.zeros
   pub literal : IsLiteral s.literal
-  pub within : size_of s ≤ owed
+  pub within : segment_size s ≤ owed
 
 -- a segment without one: it is the last, and all that the block has left is zero
 pub record IsRest (owed : ℕ) (s : Segment) : Type 0 where
@@ -49,7 +50,7 @@ KeepsRules least owed s = HasLiteral least owed s ⊎ IsRest owed s
 abbrev pub Walks : ℕ → ℕ → List Segment → ℕ → Type 0
 Walks least owed [] left = left ≡ owed
 Walks least owed (s ∷ segments) left =
-    KeepsRules least owed s × Walks 4 (owed - size_of s) segments left
+    KeepsRules least owed s × Walks 4 (owed - segment_size s) segments left
 
 -- the bytes spell the block
 pub record ZeroRun (block bytes : List ℕ) : Type 0 where

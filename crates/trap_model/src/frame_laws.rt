@@ -2,7 +2,8 @@
 //! law.
 
 ghost use Rattle.std.specs.Prelude.{◌≡◌, ℕ, ◌^◌, ◌<◌, List, [], ◌∷◌, ◌++◌, length};
-ghost use Rattle.trap_model.specs.Frame.{SpellsFrame, IsPart, IsCut, IsBadFrame, Sent, Ending, AreFrames, further};
+ghost use Rattle.trap_model.specs.Frame.{SpellsFrame, IsPart, IsCut, IsBadFrame, Sent, Ending};
+ghost use Rattle.trap_model.specs.Frame.{AreFrames, further};
 
 use crate::Frame;
 

@@ -2,7 +2,8 @@
 //! law.
 
 ghost use Rattle.std.specs.Prelude.{◌≡◌, ◌≢◌, ℕ, ◌+◌, ◌≤◌, List, All, map};
-ghost use Rattle.trap_model.specs.Receiver.{window as window_size, starting, receive, answers, gapless, IsGapless};
+ghost use Rattle.trap_model.specs.Receiver.{window as window_size, starting, receive, answers};
+ghost use Rattle.trap_model.specs.Receiver.{gapless, IsGapless};
 
 use crate::{Arrival, Taken};
 

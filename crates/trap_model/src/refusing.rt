@@ -3,7 +3,8 @@
 ghost use Rattle.std.specs.Prelude.{◌≡◌, ◌^◌, ◌<◌, ◌≤◌, length};
 ghost use Rattle.trap_model.specs.Image.{volume, block_of};
 ghost use Rattle.trap_model.specs.State.{last, image, IsValid};
-ghost use Rattle.trap_model.specs.ArrayStep.{entry_of, full, write_refusal, number_refusal, time_refusal, refusal, IsSized};
+ghost use Rattle.trap_model.specs.ArrayStep.{entry_of, full, write_refusal, number_refusal};
+ghost use Rattle.trap_model.specs.ArrayStep.{time_refusal, refusal, IsSized};
 
 use crate::code::change_len;
 use crate::history::State;

@@ -1,5 +1,6 @@
 -- A pool of blocks of one size, of which some are out on a lease.
-use Rattle.std.specs.Prelude.{◌≡◌, ◌≢◌, ℕ, ◌+◌, ◌<◌, Bool, true, false, not, List, [], length, get_or, set, replicate, count_by}
+use Rattle.std.specs.Prelude.{◌≡◌, ◌≢◌, ℕ, ◌+◌, ◌<◌, Bool, true, false, not, List, [], length}
+use Rattle.std.specs.Prelude.{get_or, set, replicate, count_by}
 use Rattle.trap_block.specs.Xor.{zeros}
 
 -- the size of a block, the bytes of each block, and which of the blocks are leased

@@ -1,7 +1,8 @@
 //! Laws of leases and of what a call leaves.
 
 ghost use Rattle.std.specs.Prelude.{◌≡◌, ◌≢◌, ℕ, List, ◌∷◌, []};
-ghost use Rattle.trap_pool.specs.Pooled.{Pooled, pool_block, with_pool_block, IsLive, Leased, Gives};
+ghost use Rattle.trap_pool.specs.Pooled.{Pooled, pool_block, with_pool_block, IsLive, Leased};
+ghost use Rattle.trap_pool.specs.Pooled.{Gives};
 ghost use Rattle.trap_pool.specs.Frames.{AreLeases, Only, KeepsLeases};
 
 /// A change through one lease leaves all others as they were.

@@ -3,7 +3,8 @@
 ghost use Rattle.std.specs.Prelude.{◌≡◌, ◌≢◌, ◌↔◌, ◌<◌, ◌∷◌, [], length, IfOk, IsSome, MatchOption};
 ghost use Rattle.std.specs.Borrow.{sem};
 ghost use Rattle.trap_block.specs.Xor.{xor};
-ghost use Rattle.trap_pool.specs.Pooled.{unleased, pool_block, with_pool_block, IsLive, free_of, Leased, Gives};
+ghost use Rattle.trap_pool.specs.Pooled.{unleased, pool_block, with_pool_block, IsLive, free_of};
+ghost use Rattle.trap_pool.specs.Pooled.{Leased, Gives};
 ghost use Rattle.trap_pool.specs.Frames.{Only};
 ghost use Rattle.trap_pool.specs.Lending.{LendsBlock};
 

@@ -1,22 +1,15 @@
 -- A record written piece by piece.
-use Rattle.std.proofs.Common.{◌≡◌, ℕ, ◌+◌, ◌≤◌, ◌^◌, ◌<◌, Bool, true, false, List, [], ◌∷◌, ◌++◌, length, take, drop, set, refl, sym, ◌∙◌, ap, arith, w16, w32, w64, append_assoc, length-append, length-take-le, take_at, drop_at, drop-drop}
+use Rattle.std.proofs.Common.{◌≡◌, ℕ, ◌+◌, ◌≤◌, ◌^◌, ◌<◌, Bool, true, false, List, [], ◌∷◌, ◌++◌, length, take, drop, set, refl, ◌∙◌, ap, arith, w16, w32, w64, append_assoc, length-append, length-take-le, take_at}
 use Rattle.std.specs.Int.{to_be_bytes}
 use Rattle.std.proofs.lemmas.Slice.{take-put_mid}
 use mir.Val.{bool_byte}
 use borrow.Rule.Slice.PartMut.{put_mid, post_of}
 use Rattle.trap_block.specs.Fields.{put_over}
+use Rattle.trap_block.proofs.Cuts.{put-next}
 use Rattle.trap_model.specs.declared.log_record.LogRec.{LogRec}
 use Rattle.trap_model.specs.ZeroRun.{IsCode}
 use Rattle.trap_model.specs.LogRecord.{flag, header, SnapshotLength, IsSnapshot, LogRecord}
 use Rattle.trap_model.proofs.ZeroRuns.{ZeroRun-length}
-
--- a piece written after what is done
-put-next : (done piece out : List ℕ) (at n : ℕ) → length done ≡ at → length piece ≡ n → put_over at piece (done ++ drop at out) ≡ (done ++ piece) ++ drop (at + n) out
-put-next done piece out at n len size =
-    ap (λ (l : List ℕ). l ++ piece ++ drop (at + length piece) (done ++ drop at out)) (take_at done (drop at out) at len)
-    ∙ ap (λ (l : List ℕ). done ++ piece ++ l)
-    (sym (drop-drop (length piece) at (done ++ drop at out)) ∙ ap (λ (l : List ℕ). drop (length piece) l) (drop_at done (drop at out) at len) ∙ drop-drop (length piece) at out
-    ∙ ap (λ (m : ℕ). drop (at + m) out) size)
 
 -- the first two bytes
 two-first : (out : List ℕ) (kind mark : ℕ) → 2 ≤ length out → set (set out 0 kind) 1 mark ≡ (kind ∷ mark ∷ []) ++ drop 2 out

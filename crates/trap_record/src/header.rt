@@ -1,6 +1,8 @@
-//! The 26 bytes that head a record.
+//! The bytes that head a record.
 
-ghost use Rattle.std.specs.Prelude.{◌≡◌, ◌+◌, ◌^◌, ◌<◌, ◌≤◌, ◌↔◌, List, ◌++◌, length, drop, IsTrue, IfSome, IfNone};
+ghost use Rattle.std.specs.Prelude.{◌≡◌, ◌+◌, ◌^◌, ◌<◌, ◌≤◌, ◌↔◌, List, ◌++◌, length, drop, IsTrue};
+ghost use Rattle.std.specs.Prelude.{IfSome, IfNone};
+ghost use Rattle.trap_model.specs.Limits.{record_header_len};
 ghost use Rattle.trap_model.specs.LogRecord.{header, IsRecordInRange, SnapshotLength};
 ghost use Rattle.trap_record.specs.Reading.{BeginsWith};
 
@@ -65,8 +67,9 @@ fn keeps_ranges(rec: LogRec, size: usize) -> bool
 
 // The fields of a header, whatever their ranges.
 fn split_header(bytes: &[u8]) -> Option<LogRec>
-    requires { 26 ≤ length bytes.now }
-    ensures found { IfSome result (λ rec. bytes.now ≡ header rec ++ drop 26 bytes.now) }
+    requires { record_header_len ≤ length bytes.now }
+    ensures found { IfSome result (λ rec.
+        bytes.now ≡ header rec ++ drop record_header_len bytes.now) }
     ensures none { IfNone result ((rec : LogRec) (more : List _)
         → bytes.now ≡ header rec ++ more → ⊥) }
 {
@@ -95,7 +98,7 @@ fn split_header(bytes: &[u8]) -> Option<LogRec>
 /// The header that begins the bytes, where its fields keep their ranges.
 pub fn read_header(bytes: &[u8], size: usize) -> Option<LogRec>
     requires size { size < 2 ^ 15 }
-    requires long { 26 ≤ length bytes.now }
+    requires long { record_header_len ≤ length bytes.now }
     ensures found { IfSome result (λ rec. BeginsWith size rec bytes.now) }
     ensures none { IfNone result ((rec : LogRec) → BeginsWith size rec bytes.now → ⊥) }
 {
@@ -108,10 +111,10 @@ pub fn read_header(bytes: &[u8], size: usize) -> Option<LogRec>
     Some(rec)
 }
 
-/// Writes a header over the first 26 bytes.
+/// Writes a header over the first bytes.
 pub fn put_header(rec: &LogRec, out: &mut [u8])
-    requires { 26 ≤ length out.old }
-    ensures spelled { out.new ≡ header rec.now ++ drop 26 out.old }
+    requires { record_header_len ≤ length out.old }
+    ensures spelled { out.new ≡ header rec.now ++ drop record_header_len out.old }
 
     // What the types of the fields say.
     ensures time { rec.now.time < 2 ^ 64 }

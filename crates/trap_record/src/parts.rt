@@ -1,9 +1,11 @@
 //! Reads one part of a record whose header is known.
 
 ghost use Rattle.std.specs.Prelude.{◌≡◌, ◌↔◌, ◌^◌, ◌<◌, ◌≤◌, length, IsTrue};
+ghost use Rattle.trap_model.specs.Limits.{record_header_len};
 ghost use Rattle.trap_model.specs.LogRecord.{IsSnapshot};
 ghost use Rattle.trap_model.specs.ZeroRun.{ZeroRun};
-ghost use Rattle.trap_record.specs.Reading.{BeginsWith, IsWhole, record_len, parity_of, snapshot_of};
+ghost use Rattle.trap_record.specs.Reading.{BeginsWith, IsWhole, record_len, parity_of};
+ghost use Rattle.trap_record.specs.Reading.{snapshot_of};
 ghost use Rattle.trap_record.specs.Parts.{part_of};
 ghost use Rattle.trap_record.specs.declared.parts.Part.TheVariants as Part;
 
@@ -41,7 +43,7 @@ pub fn read_part(bytes: &[u8], rec: &LogRec, part: Part, into: &mut [u8]) -> boo
 // Whether this header begins the bytes.
 fn has_header(bytes: &[u8], rec: &LogRec, size: usize) -> bool
     requires size { size < 2 ^ 15 }
-    requires long { 26 ≤ length bytes.now }
+    requires long { record_header_len ≤ length bytes.now }
     ensures { IsTrue result ↔ BeginsWith size rec.now bytes.now }
 {
     match read_header(bytes, size) {

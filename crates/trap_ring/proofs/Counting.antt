@@ -3,7 +3,7 @@ use Rattle.std.proofs.Common.{◌≡◌, ℕ, ◌+◌, ◌%◌, ◌<◌, ◌≤�
 use Rattle.std.proofs.lemmas.Bool.{cases_lt, le-leb}
 use Rattle.std.proofs.lemmas.Bool.Decides.{leb_tells}
 use Rattle.trap_bank.specs.Disks.{View}
-use Rattle.trap_bank.specs.Calls.{Goes}
+use Rattle.trap_bank.specs.Calls.{IsOneCall}
 use Rattle.trap_bank.specs.Called.{CalledTimes, CalledAtMost}
 use Rattle.trap_bank.proofs.Called.{called_once, called_then, called_at_most}
 use Rattle.trap_ring.specs.Ring.{RingPlace, GoesRoundEnd, ring_calls}
@@ -25,25 +25,25 @@ calls_some r offset len =
     (cases_lt r.len (offset % r.len + len))
 
 -- the first call failed
-pub one_at_most : {T E : Type 0} (result : Result T E) (a b : View) (r : RingPlace) (offset len : ℕ) → Goes result a b → CalledAtMost (ring_calls r offset len) a b
+pub one_at_most : {T E : Type 0} (result : Result T E) (a b : View) (r : RingPlace) (offset len : ℕ) → IsOneCall result a b → CalledAtMost (ring_calls r offset len) a b
 one_at_most result a b r offset len goes = called_at_most 1 (ring_calls r offset len) a b (calls_some r offset len) (called_once result a b goes)
 
 -- nothing is left after the first call
 pub one_call : {T E : Type 0} (result : Result T E) (a b : View) (r : RingPlace) (offset len start count : ℕ) → GoesRoundEnd r offset len start count → count ≡ len
-    → Goes result a b → CalledTimes (ring_calls r offset len) a b
+    → IsOneCall result a b → CalledTimes (ring_calls r offset len) a b
 one_call result a b r offset len start count cut all goes =
     let fits = cut.fits in
     subst (λ (n : ℕ). CalledTimes n a b) (sym (calls_within r offset len (omega arith))) (called_once result a b goes)
 
 -- the second call takes the rest
 pub two_calls : {T E : Type 0} (result more : Result T E) (a b c : View) (r : RingPlace) (offset len start count : ℕ) → GoesRoundEnd r offset len start count → count < len
-    → Goes result a b → Goes more b c → CalledTimes (ring_calls r offset len) a c
+    → IsOneCall result a b → IsOneCall more b c → CalledTimes (ring_calls r offset len) a c
 two_calls result more a b c r offset len start count cut part first second =
     let round = cut.round part in
     subst (λ (n : ℕ). CalledTimes n a c) (sym (calls_over r offset len (omega arith))) (called_then 1 1 a b c (called_once result a b first) (called_once more b c second))
 
 pub two_at_most : {T E : Type 0} (result more : Result T E) (a b c : View) (r : RingPlace) (offset len start count : ℕ) → GoesRoundEnd r offset len start count → count < len
-    → Goes result a b → Goes more b c → CalledAtMost (ring_calls r offset len) a c
+    → IsOneCall result a b → IsOneCall more b c → CalledAtMost (ring_calls r offset len) a c
 two_at_most result more a b c r offset len start count cut part first second =
     let n = ring_calls r offset len in
     called_at_most n n a c (omega arith) (two_calls result more a b c r offset len start count cut part first second)

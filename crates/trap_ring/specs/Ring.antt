@@ -1,5 +1,6 @@
 -- A ring of bytes on a disk: the byte with absolute offset x stands at byte x mod its length.
-use Rattle.std.specs.Prelude.{◌≡◌, ℕ, ◌+◌, ◌%◌, ◌<◌, ◌≤◌, List, length, slice_index, if◌then◌else◌, nat_le}
+use Rattle.std.specs.Prelude.{◌≡◌, ℕ, ◌+◌, ◌%◌, ◌<◌, ◌≤◌, List, length, slice_index, if◌then◌else◌}
+use Rattle.std.specs.Prelude.{nat_le}
 use Rattle.trap_bank.specs.Disks.{Disks, Area, Within, Differs, byte}
 
 -- where a ring stands, and how many bytes it has

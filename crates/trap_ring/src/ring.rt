@@ -6,7 +6,8 @@ ghost use Rattle.trap_bank.specs.Disks.{Differs, Torn};
 ghost use Rattle.trap_bank.specs.Called.{TakesCalls};
 ghost use Rattle.trap_bank.specs.Calls.{Fits};
 ghost use Rattle.trap_bank.specs.Steps.{Moves, Same};
-ghost use Rattle.trap_ring.specs.Ring.{InRing, RingHas, KeepsWindow, Appends, GoesRoundEnd, ring_calls};
+ghost use Rattle.trap_ring.specs.Ring.{InRing, RingHas, KeepsWindow, Appends, GoesRoundEnd};
+ghost use Rattle.trap_ring.specs.Ring.{ring_calls};
 
 use std::marker::Model;
 use trap_bank::{Bank, DiskFault};
@@ -55,12 +56,6 @@ impl Ring {
         requires order { from ≤ to }
         requires room { to - from + length bytes.now ≤ self.now.len }
         requires there { Fits (B.view bank.old) self.now.disk (self.now.at + self.now.len) }
-        ensures sizes { (e : ℕ) → (B.view bank.new).sizes e ≡ (B.view bank.old).sizes e }
-        ensures cause { OnErr result (Rose ((B.view bank.old).faults self.now.disk)
-            ((B.view bank.new).faults self.now.disk)) }
-        ensures contents { IsTrue (B.view bank.old).tells
-            → Torn (InRing self.now to (length bytes.now))
-            (B.view bank.old).now (B.view bank.new).now }
         ensures written { IsTrue (B.view bank.old).tells → OnOk result
             (Appends self.now from to bytes.now
             (B.view bank.old).now.disks (B.view bank.new).now.disks) }
@@ -68,6 +63,12 @@ impl Ring {
         // One write, or two where the bytes go over the ring's end, and no other call.
         ensures calls { TakesCalls (ring_calls self.now to (length bytes.now)) result
             (B.view bank.old) (B.view bank.new) }
+        ensures contents { IsTrue (B.view bank.old).tells
+            → Torn (InRing self.now to (length bytes.now))
+            (B.view bank.old).now (B.view bank.new).now }
+        ensures sizes { (e : ℕ) → (B.view bank.new).sizes e ≡ (B.view bank.old).sizes e }
+        ensures cause { OnErr result (Rose ((B.view bank.old).faults self.now.disk)
+            ((B.view bank.new).faults self.now.disk)) }
 
         // Stopped at any moment, no byte but those of the new bytes' places has changed.
         ensures any_moment { Moves (B.view bank.old) (B.view bank.new)
@@ -95,17 +96,17 @@ impl Ring {
     pub fn read<B: Bank>(&self, bank: &mut B, at: u64, buf: &mut [u8]) -> Result<(), DiskFault>
         requires room { length buf.old ≤ self.now.len }
         requires there { Fits (B.view bank.old) self.now.disk (self.now.at + self.now.len) }
-        ensures sizes { (e : ℕ) → (B.view bank.new).sizes e ≡ (B.view bank.old).sizes e }
-        ensures cause { OnErr result (Rose ((B.view bank.old).faults self.now.disk)
-            ((B.view bank.new).faults self.now.disk)) }
-        ensures contents { IsTrue (B.view bank.old).tells
-            → (B.view bank.new).now ≡ (B.view bank.old).now }
         ensures bytes { IsTrue (B.view bank.old).tells
             → OnOk result (RingHas self.now at buf.new (B.view bank.old).now.disks) }
 
         // One read, or two where the bytes go over the ring's end, and no other call.
         ensures calls { TakesCalls (ring_calls self.now at (length buf.old)) result
             (B.view bank.old) (B.view bank.new) }
+        ensures contents { IsTrue (B.view bank.old).tells
+            → (B.view bank.new).now ≡ (B.view bank.old).now }
+        ensures sizes { (e : ℕ) → (B.view bank.new).sizes e ≡ (B.view bank.old).sizes e }
+        ensures cause { OnErr result (Rose ((B.view bank.old).faults self.now.disk)
+            ((B.view bank.new).faults self.now.disk)) }
 
         ensures any_moment { Moves (B.view bank.old) (B.view bank.new) Same Same }
     {

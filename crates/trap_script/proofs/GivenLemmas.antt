@@ -1,5 +1,6 @@
 -- How many replies are given, once a part of them is said.
 use Rattle.std.proofs.Common.{arith, ◌≡◌, ◌≢◌, ◌⊎◌, inl, inr, ℕ, zero, suc, ◌+◌, ◌<◌, ◌≤◌, length, take, drop, List, [], ◌∷◌, ◌++◌, append_assoc, length-append, sym, ◌∙◌, ap, refl, Bool, true, false, cond}
+use Rattle.std.proofs.lemmas.Bool.{false_from_ne_true}
 use Rattle.std.proofs.lemmas.Bool.Decides.{Decides-eqb}
 use Rattle.std.proofs.lemmas.List.{append-nil, length-map}
 use Rattle.std.proofs.lemmas.List.Elements.{All-nil, All-cons, All-head, All-tail}
@@ -21,13 +22,9 @@ use Rattle.trap_script.specs.Walk.{state_after, replies, reply_texts, first_text
 begins : (text rest : List ℕ) → starts_with nat_eq (text ++ rest) text ≡ true
 begins text rest = (starts_is Decides-eqb (text ++ rest) text (starts_with nat_eq (text ++ rest) text) refl).1 rest refl
 
-not_true : (b : Bool) → (b ≡ true → ⊥) → b ≡ false
-not_true true other = absurd (other refl)
-not_true false other = refl
-
 -- a shorter list doesn't
 too_short : (bytes text : List ℕ) → length bytes < length text → starts_with nat_eq bytes text ≡ false
-too_short bytes text short = not_true (starts_with nat_eq bytes text) (λ whole.
+too_short bytes text short = false_from_ne_true (starts_with nat_eq bytes text) (λ whole.
     let is = (starts_is Decides-eqb bytes text (starts_with nat_eq bytes text) refl).0 whole in
     omega (arith, short, ap length is, length-append text (drop (length text) bytes)))
 

@@ -1,5 +1,6 @@
 -- The lines and the requests of an input, line after line.
-use Rattle.std.proofs.Common.{arith, ◌≡◌, ℕ, ◌+◌, ◌<◌, length, drop, map, Option, Some, None, List, [], ◌∷◌, ◌++◌, append_assoc, length-append, sym, ◌∙◌, ap, refl, Bool, true, false, cond, subst, ◌⊎◌, inl, inr}
+use Rattle.std.proofs.Common.{arith, ◌≡◌, ℕ, ◌+◌, ◌<◌, length, drop, map, Option, Some, None, List, [], ◌∷◌, ◌++◌, append_assoc, length-append, sym, ◌∙◌, ap, refl, true, false, cond, subst, inl, inr}
+use Rattle.std.proofs.lemmas.Bool.{cases_Bool}
 use Rattle.std.proofs.lemmas.List.{drop-drop}
 use Rattle.std.proofs.lemmas.List.Elements.{All-nil, All-cons, All-head, All-tail}
 use Rattle.std.proofs.lemmas.List.Splits.{slice_split_none, slice_split_at, length-slice_split}
@@ -11,10 +12,6 @@ use Rattle.std.specs.Io.KnownBytes.{Consumes}
 use Rattle.trap_model.specs.declared.request.Request.{Request}
 use Rattle.trap_script.specs.Lines.{is_line_feed, request_of, goes_on, HasNoFeed, line_feeds, without_empty_last, lines_of, lines}
 use Rattle.trap_script.proofs.LineLemmas.{HasFirst, has_first}
-
-pub true_or_false : (b : Bool) → (b ≡ true) ⊎ (b ≡ false)
-true_or_false true = inl refl
-true_or_false false = inr refl
 
 -- a part before others stays
 kept_part : (part : List ℕ) (parts : List (List ℕ)) → HasFirst parts
@@ -77,7 +74,7 @@ lines-last_quit size line none some quit =
 going_on : (requests : List Request) → All (λ request. goes_on request ≡ true) (take_while goes_on requests)
 going_on [] = All-nil (λ request. goes_on request ≡ true)
 going_on (request ∷ requests) =
-    elim (true_or_false (goes_on request)) as (λ _. All (λ request. goes_on request ≡ true) (take_while goes_on (request ∷ requests))) [
+    elim (cases_Bool (goes_on request)) as (λ _. All (λ request. goes_on request ≡ true) (take_while goes_on (request ∷ requests))) [
       | inl more ↦ subst (All (λ request. goes_on request ≡ true))
           (sym (take_while-cons goes_on request requests ∙ ap (λ b. cond b (request ∷ take_while goes_on requests) []) more))
           (All-cons (λ request. goes_on request ≡ true) request (take_while goes_on requests) more (going_on requests))

@@ -2,7 +2,8 @@
 use Rattle.std.specs.Prelude.{ℕ, List, [], ◌∷◌, Option, Some, None, Result, Ok, Err}
 use Rattle.hex.specs.Hex.{decode_sized}
 use Rattle.trap_model.specs.declared.request.Request.{Request}
-use Rattle.trap_model.specs.declared.request.Request.TheVariants.{Write, Read, At, By, Info, Quit, Bad}
+use Rattle.trap_model.specs.declared.request.Request.TheVariants.{Write, Read, At, By, Info, Quit}
+use Rattle.trap_model.specs.declared.request.Request.TheVariants.{Bad}
 use Rattle.trap_script.specs.Numbers.{number_of}
 
 -- `Q`

@@ -1,11 +1,16 @@
 -- The requests of a session's lines.
-use Rattle.std.specs.Prelude.{◌≡◌, ℕ, ◌+◌, ◌*◌, nat_lt, ◌==◌, ◌&&◌, List, [], ◌∷◌, length, slice_index, map, take_while, count_by, All, Bool, true, false, if◌then◌else◌, Option, Some, None, ⊤}
+use Rattle.std.specs.Prelude.{◌≡◌, ℕ, ◌+◌, ◌*◌, nat_lt, ◌==◌, ◌&&◌, List, [], ◌∷◌, length}
+use Rattle.std.specs.Prelude.{slice_index, map, take_while, count_by, All, Bool, true, false}
+use Rattle.std.specs.Prelude.{if◌then◌else◌, Option, Some, None, ⊤}
 use Rattle.std.specs.List.{slice_split}
 use Rattle.trap_model.specs.declared.request.Request.{Request}
-use Rattle.trap_model.specs.declared.request.Request.TheVariants.{Write, Read, At, By, Info, Keep, Quit, Bad}
+use Rattle.trap_model.specs.declared.request.Request.TheVariants.{Write, Read, At, By, Info, Keep}
+use Rattle.trap_model.specs.declared.request.Request.TheVariants.{Quit, Bad}
 use Rattle.trap_script.specs.declared.lines.Line.{Line}
 use Rattle.trap_script.specs.declared.lines.Line.TheVariants as line
-pub use Rattle.trap_script.specs.Forms.{quit_form, read_request, read_form, write_request, write_form, both_numbers, two_numbers, at_request, at_form, by_request, by_form, info_form}
+pub use Rattle.trap_script.specs.Forms.{quit_form, read_request, read_form, write_request}
+pub use Rattle.trap_script.specs.Forms.{write_form, both_numbers, two_numbers, at_request, at_form}
+pub use Rattle.trap_script.specs.Forms.{by_request, by_form, info_form}
 
 -- the space between fields
 abbrev pub is_space : ℕ → Bool

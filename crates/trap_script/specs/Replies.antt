@@ -2,7 +2,8 @@
 use Rattle.std.specs.Prelude.{ℕ, List, [], ◌++◌, length, codes, decimal}
 use Rattle.hex.specs.Hex.{encode_lower}
 use Rattle.trap_model.specs.declared.request.Refusal.{Refusal}
-use Rattle.trap_model.specs.declared.request.Refusal.TheVariants.{NoLine, NoBlock, TimeBack, Worn, Full, NotKept, Ahead}
+use Rattle.trap_model.specs.declared.request.Refusal.TheVariants.{NoLine, NoBlock, TimeBack, Worn}
+use Rattle.trap_model.specs.declared.request.Refusal.TheVariants.{Full, NotKept, Ahead}
 use Rattle.trap_model.specs.declared.request.Reply.{Reply}
 use Rattle.trap_model.specs.declared.request.Reply.TheVariants.{Kept, Is, At, Span, No, Silent}
 use Rattle.trap_script.specs.declared.answers.Answer.{Answer}

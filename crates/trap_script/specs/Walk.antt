@@ -1,5 +1,6 @@
 -- What a machine goes through and says over a list of requests.
-use Rattle.std.specs.Prelude.{◌≡◌, ◌⊎◌, ℕ, ◌+◌, ◌≤◌, List, [], ◌∷◌, ◌++◌, length, map, take, flat_map}
+use Rattle.std.specs.Prelude.{◌≡◌, ◌⊎◌, ℕ, ◌+◌, ◌≤◌, List, [], ◌∷◌, ◌++◌, length, map, take}
+use Rattle.std.specs.Prelude.{flat_map}
 use Rattle.trap_model.specs.Given.{given}
 use Rattle.trap_model.specs.Machine.{Machine}
 use Rattle.trap_model.specs.declared.request.Request.{Request}

@@ -2,7 +2,8 @@
 
 ghost use Rattle.std.specs.Prelude.{◌≡◌, ◌+◌, ◌*◌, ◌≤◌, ◌++◌, length, take};
 ghost use Rattle.hex.specs.Hex.{encode_lower};
-ghost use Rattle.trap_script.specs.Replies.{refusal_words, span_words, reply_words, reply_text, reply_from, shown_len};
+ghost use Rattle.trap_script.specs.Replies.{refusal_words, span_words, reply_words, reply_text};
+ghost use Rattle.trap_script.specs.Replies.{reply_from, shown_len};
 
 use crate::text::{put, put_number};
 use trap_model::Refusal;

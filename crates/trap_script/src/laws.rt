@@ -1,6 +1,7 @@
 //! Laws over the definitions of this crate.
 
-ghost use Rattle.std.specs.Prelude.{◌≡◌, ◌≢◌, ◌↔◌, ◌<◌, ◌≤◌, ◌+◌, ◌^◌, ℕ, List, ◌∷◌, ◌++◌, Some, true, length, drop, slice_get, decimal};
+ghost use Rattle.std.specs.Prelude.{◌≡◌, ◌≢◌, ◌↔◌, ◌<◌, ◌≤◌, ◌+◌, ◌^◌, ℕ, List, ◌∷◌, ◌++◌, Some};
+ghost use Rattle.std.specs.Prelude.{true, length, drop, slice_get, decimal};
 ghost use Rattle.trap_model.specs.Given.{given};
 ghost use Rattle.trap_model.specs.Machine.{Machine};
 ghost use Rattle.trap_model.specs.declared.request.Request.{Request};
@@ -8,7 +9,8 @@ ghost use Rattle.trap_model.specs.declared.request.Reply.TheVariants.{Silent};
 ghost use Rattle.trap_script.specs.Lines.{goes_on, lines};
 ghost use Rattle.trap_script.specs.Numbers.{number_of};
 ghost use Rattle.trap_script.specs.Replies.{reply_text};
-ghost use Rattle.trap_script.specs.Walk.{states, state_after, replies, reply_texts, first_texts, AreSaid};
+ghost use Rattle.trap_script.specs.Walk.{states, state_after, replies, reply_texts, first_texts};
+ghost use Rattle.trap_script.specs.Walk.{AreSaid};
 
 /// A text is a number exactly where it is the number's decimal text, and the number is below 2^64.
 pub fn numbers()

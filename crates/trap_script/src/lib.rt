@@ -11,5 +11,5 @@ mod tests;
 pub mod text;
 
 pub use answers::{Answer, Span4, write_answer};
-pub use lines::{Line, read_line};
+pub use lines::{Line, longest_line, read_line};
 pub use numbers::read_number;

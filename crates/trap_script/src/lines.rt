@@ -3,7 +3,9 @@
 ghost use Rattle.std.specs.Prelude.{◌≡◌, ◌+◌, ◌*◌, ◌≤◌, ◌∷◌, ℕ, List, length};
 ghost use Rattle.std.specs.List.{slice_split};
 ghost use Rattle.std.specs.Option.{option_copied};
-ghost use Rattle.trap_script.specs.Lines.{is_space, is_letter, fields_after, read_form, write_form, quit_form, two_numbers, at_form, by_form, info_form, request_of, request_with, LeavesBuffer};
+ghost use Rattle.trap_script.specs.Lines.{is_space, is_letter, fields_after, read_form, write_form};
+ghost use Rattle.trap_script.specs.Lines.{quit_form, two_numbers, at_form, by_form, info_form};
+ghost use Rattle.trap_script.specs.Lines.{longest_line, request_of, request_with, LeavesBuffer};
 
 use crate::digits::decode_to_slice;
 use crate::read_number;
@@ -84,11 +86,11 @@ fn write_form(rest: Option<&[u8]>, fresh: &mut [u8]) -> Line
     let Some(rest) = rest else {
         return Line::Bad;
     };
-    let (time, behind) = cut_field(rest);
-    let Some(behind) = behind else {
+    let (time, later) = cut_field(rest);
+    let Some(later) = later else {
         return Line::Bad;
     };
-    let (block, digits) = cut_field(behind);
+    let (block, digits) = cut_field(later);
     let Some(digits) = digits else {
         return Line::Bad;
     };
@@ -109,8 +111,8 @@ fn write_form(rest: Option<&[u8]>, fresh: &mut [u8]) -> Line
 fn two_numbers(rest: Option<&[u8]>) -> Option<(u64, u64)>
     ensures { result ≡ two_numbers (fields_after (option_copied rest.entry)) }
 {
-    let (first, behind) = cut_field(rest?);
-    let (second, more) = cut_field(behind?);
+    let (first, later) = cut_field(rest?);
+    let (second, more) = cut_field(later?);
     if let Some(_) = more {
         return None;
     }
@@ -152,6 +154,14 @@ fn info_form(rest: Option<&[u8]>) -> Line
     }
 }
 
+/// How many bytes the longest line has that has a form, over blocks of that size.
+pub fn longest_line(size: usize) -> usize
+    requires { size ≤ 4096 }
+    ensures { result ≡ longest_line size }
+{
+    44 + 2 * size
+}
+
 /// Reads a line without its line feed; `fresh` has as many bytes as a block, at most 4096. For a
 /// write `fresh` then holds the block's new contents. After a line without a form it holds any
 /// bytes, and after every other line it is as it was. `Bad` comes exactly where the line has no
@@ -161,7 +171,7 @@ pub fn read_line(line: &[u8], fresh: &mut [u8]) -> Line
     ensures request { request_of (length fresh.old) line.now ≡ request_with result fresh.new }
     ensures buffer { LeavesBuffer result fresh.old fresh.new }
 {
-    if line.len() > 44 + 2 * fresh.len() {
+    if line.len() > longest_line(fresh.len()) {
         return Line::Bad;
     }
     let (name, rest) = cut_field(line);

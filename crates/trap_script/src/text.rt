@@ -3,16 +3,7 @@
 ghost use Rattle.std.specs.Prelude.{◌≡◌, ◌+◌, ◌≤◌, ◌++◌, length, take, decimal};
 
 use itoa::Buffer;
-
-/// Writes the bytes at a place, and answers the place after them.
-pub fn put(out: &mut [u8], at: usize, bytes: &[u8]) -> usize
-    requires { at + length bytes.now ≤ length out.old }
-    ensures end { result ≡ at + length bytes.now }
-    ensures so_far { take result out.new ≡ take at out.old ++ bytes.now }
-{
-    out[at..at + bytes.len()].copy_from_slice(bytes);
-    at + bytes.len()
-}
+pub use trap_block::put;
 
 /// Writes the number in decimal digits, at most twenty.
 pub fn put_number(out: &mut [u8], at: usize, number: u64) -> usize

@@ -1,7 +1,7 @@
 -- What the loops of the writer and the reader keep: segments that spell the front of a block.
 use Rattle.std.proofs.Common.{◌≡◌, ℕ, ◌+◌, ◌-◌, ◌<◌, ◌≤◌, List, [], ◌∷◌, ◌++◌, length, flat_map, refl, sym, ◌∙◌, ap, subst, arith, append-nil}
 use Rattle.std.proofs.lemmas.List.Concat.{flat_map-append}
-use Rattle.trap_model.specs.ZeroRun.{Segment, spelling, contents, size_of, KeepsRules, Walks, ZeroRun, least_after, NoneFollows, IsRefused}
+use Rattle.trap_model.specs.ZeroRun.{Segment, spelling, contents, segment_size, KeepsRules, Walks, ZeroRun, least_after, NoneFollows, IsRefused}
 use Rattle.trap_model.proofs.ZeroRuns.{least_after_four, walk-size, walk-room}
 
 -- segments that spell the front of a block of that size
@@ -24,11 +24,11 @@ begun-left size least front bytes b =
     omega arith
 
 -- one segment more at the end of a walk
-walk-more : (least owed left : ℕ) (a : List Segment) (s : Segment) → Walks least owed a left → KeepsRules (least_after least a) left s → Walks least owed (a ++ s ∷ []) (left - size_of s)
+walk-more : (least owed left : ℕ) (a : List Segment) (s : Segment) → Walks least owed a left → KeepsRules (least_after least a) left s → Walks least owed (a ++ s ∷ []) (left - segment_size s)
 walk-more least owed left [] s walk follows =
-    (subst (λ (n : ℕ). KeepsRules least n s) walk follows, ap (λ (n : ℕ). n - size_of s) walk)
+    (subst (λ (n : ℕ). KeepsRules least n s) walk follows, ap (λ (n : ℕ). n - segment_size s) walk)
 walk-more least owed left (t ∷ a) s walk follows =
-    (walk.0, walk-more 4 (owed - size_of t) left a s walk.1 (subst (λ (n : ℕ). KeepsRules n left s) (sym (least_after_four a)) follows))
+    (walk.0, walk-more 4 (owed - segment_size t) left a s walk.1 (subst (λ (n : ℕ). KeepsRules n left s) (sym (least_after_four a)) follows))
 
 four_after : (a : List Segment) (s : Segment) → least_after 0 (a ++ s ∷ []) ≡ 4
 four_after [] s = refl
@@ -42,7 +42,7 @@ pub begun-more : (size least : ℕ) (front bytes : List ℕ) (s : Segment) → B
     → KeepsRules least (size - length front) s → Begun size 4 (front ++ contents s) (bytes ++ spelling s)
 begun-more size least front bytes s b follows = record {
   segments = b.segments ++ s ∷ [];
-  left = b.left - size_of s;
+  left = b.left - segment_size s;
   rules = walk-more 0 size b.left b.segments s b.rules here;
   next = four_after b.segments s;
   spelled = ap (λ (l : List ℕ). l ++ spelling s) b.spelled ∙ sym (more-map spelling b.segments s);

@@ -1,6 +1,6 @@
 -- What the reader's loops keep.
 use Rattle.std.proofs.Common.{◌≡◌, ℕ, ◌+◌, ◌-◌, ◌<◌, ◌≤◌, List, [], ◌++◌, length, take, drop, refl, sym, ◌∙◌, ap, subst, arith, ◌^◌, Result, Ok, Err, IsOk, IsErr, length-append, length-drop, length-take-le, take-add, take_at, take_all, take-append-drop}
-use Rattle.trap_model.specs.ZeroRun.{Segment, spelling, contents, size_of, KeepsRules, ZeroRun, IsCode, NoneFollows, IsRefused}
+use Rattle.trap_model.specs.ZeroRun.{Segment, spelling, contents, segment_size, KeepsRules, ZeroRun, IsCode, NoneFollows, IsRefused}
 use Rattle.trap_model.proofs.ZeroRuns.{length-spelling, length-contents, Follows_within, NoneFollows-whole, IsRefused-not}
 use Rattle.trap_zrun.specs.Scans.{IsNextSegment}
 use Rattle.trap_zrun.proofs.Begun.{Begun, begun_nothing, begun-more, begun_all, begun_refused}
@@ -40,7 +40,7 @@ read-more bytes least owed at s inside next =
     )
 
 pub decoded-more : (old out bytes : List ℕ) (least filled at end : ℕ) (s : Segment) → IsDecoded old bytes least filled at
-    → IsNextSegment least (length old - filled) (drop at bytes) s → length out ≡ length old → end ≡ filled + size_of s → take end out ≡ take filled old ++ contents s
+    → IsNextSegment least (length old - filled) (drop at bytes) s → length out ≡ length old → end ≡ filled + segment_size s → take end out ≡ take filled old ++ contents s
     → IsDecoded out bytes 4 end (at + (4 + length s.literal))
 decoded-more old out bytes least filled at end s decoded next same place front =
     let inside = decoded.inside in
@@ -59,7 +59,7 @@ decoded-more old out bytes least filled at end s decoded next same place front =
     }
 
 pub checked-more : (size : ℕ) (bytes : List ℕ) (least filled at end : ℕ) (s : Segment) → IsChecked size bytes least filled at
-    → IsNextSegment least (size - filled) (drop at bytes) s → end ≡ filled + size_of s
+    → IsNextSegment least (size - filled) (drop at bytes) s → end ≡ filled + segment_size s
     → IsChecked size bytes 4 end (at + (4 + length s.literal))
 checked-more size bytes least filled at end s checked next place =
     let inside = checked.inside in

@@ -6,18 +6,6 @@ use Rattle.std.proofs.lemmas.List.Edits.{length-between, get_or-between}
 use Rattle.trap_model.specs.ZeroRun.{AreZeros, IsLiteral}
 use Rattle.trap_zrun.specs.Scans.{ZerosFollow}
 
--- zero bytes stand from one place to another
-pub record AreZerosTo (bytes : List ℕ) (at end : ℕ) : Type 0 where
-  pub from : at ≤ end
-  pub inside : end ≤ length bytes
-  pub zeros : (place : ℕ) → at ≤ place → place < end → get_or bytes place 0 ≡ 0
-
-pub zeros_between : (bytes : List ℕ) (at end : ℕ) → AreZerosTo bytes at end → AreZeros bytes at (end - at)
-zeros_between bytes at end run = record {
-  inside = (let from = run.from in let inside = run.inside in omega arith);
-  zeros = λ k below. run.zeros (at + k) (omega arith) (omega arith);
-}
-
 -- from a nonzero byte to another one, where no four zero bytes stand, is a literal
 pub literal-found : (block : List ℕ) (at stop end : ℕ) → at < end → end ≤ stop → stop ≤ length block → 0 < get_or block at 0 → 0 < get_or block (end - 1) 0
     → ((place : ℕ) → at ≤ place → place < stop → ¬ AreZeros block place 4) → IsLiteral (slice_range block at end)

@@ -3,15 +3,7 @@
 ghost use Rattle.std.specs.Prelude.{◌≡◌, ◌+◌, ◌^◌, ◌<◌, ◌≤◌, ◌++◌, length, take, replicate};
 ghost use Rattle.trap_model.specs.ZeroRun.{spelling, contents};
 
-// Writes the bytes at a place, and answers the place after them.
-fn put(out: &mut [u8], at: usize, bytes: &[u8]) -> usize
-    requires { at + length bytes.now ≤ length out.old }
-    ensures end { result ≡ at + length bytes.now }
-    ensures so_far { take result out.new ≡ take at out.old ++ bytes.now }
-{
-    out[at..at + bytes.len()].copy_from_slice(bytes);
-    at + bytes.len()
-}
+use trap_block::put;
 
 // Writes zero bytes at a place, and answers the place after them.
 fn put_zeros(out: &mut [u8], at: usize, count: usize) -> usize

@@ -1,7 +1,9 @@
 //! Reads the code of a block.
 
-ghost use Rattle.std.specs.Prelude.{◌≡◌, ℕ, ◌+◌, ◌^◌, ◌<◌, ◌≤◌, ◌↔◌, List, length, take, drop, IsTrue, IsOk, IfOk, IfErr, OnOk, IfSome, IfNone};
-ghost use Rattle.trap_model.specs.ZeroRun.{ZeroRun, IsCode, IsRefused, IsLiteral, KeepsRules, NoneFollows};
+ghost use Rattle.std.specs.Prelude.{◌≡◌, ℕ, ◌+◌, ◌^◌, ◌<◌, ◌≤◌, ◌↔◌, List, length, take, drop};
+ghost use Rattle.std.specs.Prelude.{IsTrue, IsOk, IfOk, IfErr, OnOk, IfSome, IfNone};
+ghost use Rattle.trap_model.specs.ZeroRun.{ZeroRun, IsCode, IsRefused, IsLiteral, KeepsRules};
+ghost use Rattle.trap_model.specs.ZeroRun.{NoneFollows};
 ghost use Rattle.trap_zrun.specs.Scans.{IsNextSegment};
 
 use crate::pieces::put_contents;
@@ -55,14 +57,14 @@ fn next_segment(bytes: &[u8], least: usize, owed: usize) -> Option<(usize, &[u8]
     }
     let zeros = usize::from(get_u16(bytes, 0));
     let len = usize::from(get_u16(bytes, 2));
-    let behind = &bytes[4..];
-    if behind.len() < len {
+    let rest = &bytes[4..];
+    if rest.len() < len {
         return None;
     }
-    if !follows(least, owed, zeros, behind, len) {
+    if !follows(least, owed, zeros, rest, len) {
         return None;
     }
-    Some((zeros, &behind[..len]))
+    Some((zeros, &rest[..len]))
 }
 
 /// Bytes that spell no block of the size asked. `at` is the offset of the first byte of the first

@@ -1,7 +1,8 @@
 //! How a reader finds lines.
 
 ghost use Rattle.std.specs.Prelude.{◌≡◌, ◌+◌, ◌-◌, ◌^◌, ◌<◌, ◌≤◌, ◌++◌, [], take, IfOk, IfErr};
-ghost use Rattle.trap_lines.specs.Reader.{pending, taken, room, Advances, Passes, IsOpen, Refills, Finds, FindsNone, StopsAt};
+ghost use Rattle.trap_lines.specs.Reader.{unread, taken, room, Advances, Passes, IsOpen, Refills};
+ghost use Rattle.trap_lines.specs.Reader.{Finds, FindsNone, StopsAt};
 
 use super::LineReader;
 use super::pieces::{find_line_feed, keep, take_some};
@@ -16,7 +17,7 @@ impl LineReader {
     /// Takes room for pieces of 64 KiB, and for a line of `line_bytes` bytes. A longer line is
     /// found as well, and isn't kept.
     pub fn new(alloc: Global, line_bytes: usize) -> Result<LineReader, OutOfMemory>
-        ensures none { IfOk result (λ reader. pending reader ≡ []) }
+        ensures none { IfOk result (λ reader. unread reader ≡ []) }
         ensures untaken { IfOk result (λ reader. taken reader ≡ 0) }
         ensures room { IfOk result (λ reader. room reader ≡ line_bytes) }
     {
@@ -67,10 +68,10 @@ impl LineReader {
     // Passes over that many bytes of a line, of which `len` were passed over before.
     fn pass(&mut self, len: usize, count: usize)
         requires { count ≤ self.old.end - self.old.at }
-        ensures goes_on { Advances count self.old self.new }
+        ensures advances { Advances count self.old self.new }
         ensures line { len + count ≤ room self.old
             → take (len + count) self.new.line.items
-            ≡ take len self.old.line.items ++ take count (pending self.old) }
+            ≡ take len self.old.line.items ++ take count (unread self.old) }
     {
         keep(
             self.line.as_mut_slice(),
@@ -84,7 +85,7 @@ impl LineReader {
     // Passes over the line feed that stands first.
     fn pass_feed(&mut self)
         requires { self.old.at < self.old.end }
-        ensures goes_on { Advances 1 self.old self.new }
+        ensures advances { Advances 1 self.old self.new }
         ensures line { self.new.line ≡ self.old.line }
     {
         self.at += 1;

@@ -1,6 +1,7 @@
 //! Pieces of input, and the places of lines in them.
 
-ghost use Rattle.std.specs.Prelude.{◌≡◌, ◌+◌, ◌^◌, ◌<◌, ◌≤◌, ◌==◌, ◌++◌, length, take, position, IfOk, IfErr};
+ghost use Rattle.std.specs.Prelude.{◌≡◌, ◌+◌, ◌^◌, ◌<◌, ◌≤◌, ◌==◌, ◌++◌, length, take, position};
+ghost use Rattle.std.specs.Prelude.{IfOk, IfErr};
 ghost use Rattle.trap_bank.specs.Stream.{Gave};
 ghost use Rattle.trap_lines.specs.Taking.{TakesNone};
 

@@ -1,7 +1,7 @@
 use Rattle.std.proofs.Common.{◌≡◌, ℕ, List, IsTrue, length, ap, sym, arith, rules, ◌∙◌, subst}
 use Rattle.trap_bank.specs.Disks.{Contents, View, Area, Differs, Within, region}
-use Rattle.trap_bank.specs.Steps.{Moves, Same, Settled, PlacedThrough}
-use Rattle.trap_bank.proofs.Moves.{write_steps, sync_steps, synced_steps, moves_then}
+use Rattle.trap_bank.specs.Steps.{Moves, Same, PlacedThrough}
+use Rattle.trap_bank.proofs.Moves.{write_steps, sync_steps, synced_steps, moves_then, Settled}
 use Rattle.trap_bank.proofs.Called.{called_once, called_then, called_at_most, took_calls}
 use Rattle.trap_bank.proofs.Regions.{region_of_disk}
 use Rattle.trap_bank.proofs.through.write_through.Goals as goal
@@ -38,7 +38,8 @@ pub returns-clause-any_moment : goal.returns-clause-any_moment
 returns-clause-any_moment g c = then_same _ _ _ _ (write_steps _ _ _ _ _ _ c.write.ensures.call) (sync_steps _ _ _ _ c.sync.ensures.call)
 
 pub returns-clause-ok : goal.returns-clause-ok
-returns-clause-ok g c = then_settled _ _ _ _ _ _ (write_steps _ _ _ _ _ _ c.write.ensures.call) c.in_ok-write.ensures.call.written (synced_steps _ _ _ _ c.in_ok-sync.ensures.call) c.sync.ensures.call.same
+returns-clause-ok g c = then_settled _ _ _ _ _ _ (write_steps _ _ _ _ _ _ c.write.ensures.call) c.in_ok-write.ensures.call.written
+    (synced_steps _ _ _ _ c.in_ok-sync.ensures.call) c.sync.ensures.call.same
 
 pub returns-in_err-write-clause-calls : goal.returns-in_err-write-clause-calls
 returns-in_err-write-clause-calls g c = record { ok = search rules; most = called_at_most 1 2 _ _ (omega arith) (called_once _ _ _ c.write.ensures.call.goes) }

@@ -1,5 +1,5 @@
 use Rattle.std.proofs.Common.{◌<◌}
-use Rattle.trap_zrun.proofs.Scanning.{AreZerosTo}
+use Rattle.trap_block.proofs.ScanLemmas.{AreZerosTo}
 use Rattle.trap_zrun.proofs.scans.without_zeros.Given as goal
 
 abbrev pub invariant-loop-end : goal.invariant-loop-end

@@ -2,7 +2,7 @@ use Rattle.std.proofs.Common.{◌≡◌, ℕ, ◌+◌, ap, subst, sym, ◌∙◌
 use Rattle.trap_bank.specs.declared.disks.Failed.{Failed}
 use Rattle.trap_bank.specs.Calls.{Writes}
 use Rattle.trap_bank.specs.Memory.{Memory, view_of}
-use Rattle.trap_bank.specs.MemorySteps.{counted_on, found_no_memory, blamed, written}
+use Rattle.trap_bank.specs.MemorySteps.{counted_on, found_no_memory, blamed, overwritten}
 use Rattle.trap_bank.specs.Counts.{one_more, with_raised}
 use Rattle.trap_bank.proofs.MemoryTime.{raised, none_falls}
 use Rattle.trap_bank.proofs.MemoryCalls.{on_disk, counted, fits_bytes, fails_writing, not_used_up, used_up, worn_before, worn_after}
@@ -21,8 +21,8 @@ pub returns-then-struck-clause-call : goal.returns-then-struck-clause-call
 returns-then-struck-clause-call c =
     let m : Memory = c.args.self.now in
     let d : ℕ = c.args.d in
-    let new : c.blame-then-struck.new.self ≡ blamed (written (counted_on m d) d c.args.at c.args.bytes.now) d =
-    c.blame-then-struck.ensures ∙ ap (λ (n : Memory). blamed n d) (c.in-Ok.ensures.ok ∙ ap (λ (n : Memory). written n d c.args.at c.args.bytes.now) c.count_on.ensures) in
+    let new : c.blame-then-struck.new.self ≡ blamed (overwritten (counted_on m d) d c.args.at c.args.bytes.now) d =
+    c.blame-then-struck.ensures ∙ ap (λ (n : Memory). blamed n d) (c.in-Ok.ensures.ok ∙ ap (λ (n : Memory). overwritten n d c.args.at c.args.bytes.now) c.count_on.ensures) in
     subst (λ (n : Memory). Writes {T = Unit {0}} {E = Failed} c.args.d c.args.at c.args.bytes.now (Err c.blame-then-struck.result) (view_of m) (view_of n)) (sym new)
     (writes (Err c.blame-then-struck.result) m c.args.d c.args.at c.args.bytes.now (with_raised m.faults d) c.is_struck_on-struck.ensures.sound
     (not_used_up m c.is_worn.result c.if-is_worn.false (λ worn. c.is_worn.ensures.worn.1 (worn_after m c.args.d c.count_on.new.self c.count_on.ensures worn)))
@@ -34,7 +34,7 @@ returns-else-struck-clause-call c =
     let m : Memory = c.args.self.now in
     let d : ℕ = c.args.d in
     subst (λ (n : Memory). Writes {T = Unit {0}} {E = Failed} c.args.d c.args.at c.args.bytes.now (Ok tt) (view_of m) (view_of n))
-    (sym (c.in-Ok.ensures.ok ∙ ap (λ (n : Memory). written n d c.args.at c.args.bytes.now) c.count_on.ensures))
+    (sym (c.in-Ok.ensures.ok ∙ ap (λ (n : Memory). overwritten n d c.args.at c.args.bytes.now) c.count_on.ensures))
     (writes (Ok tt) m c.args.d c.args.at c.args.bytes.now m.faults c.is_struck_on-struck.ensures.sound
     (not_used_up m c.is_worn.result c.if-is_worn.false (λ worn. c.is_worn.ensures.worn.1 (worn_after m c.args.d c.count_on.new.self c.count_on.ensures worn)))
     c.requires.disk (fits_bytes m d _ c.requires.room)

@@ -13,10 +13,12 @@ pub returns-clause-ok : goal.returns-clause-ok
 returns-clause-ok g c = open_done _ _ _ _ _ _ c.requires.ready c.disk-disk.ensures.is c.other_start-start.ensures.is c.in_ok-write_through.ensures.ok
 
 pub returns-in_err-write_through-clause-contents : goal.returns-in_err-write_through-clause-contents
-returns-in_err-write_through-clause-contents g c = open_contents _ _ _ _ (g.B.Bank.view c.args.bank.now) (g.B.Bank.view c.write_through.new.bank) c.requires.ready c.disk-disk.ensures.is c.other_start-start.ensures.is c.write_through.ensures.contents
+returns-in_err-write_through-clause-contents g c = let last = c.write_through.ensures.contents in let end = g.B.Bank.view c.write_through.new.bank in
+    open_contents _ _ _ _ (g.B.Bank.view c.args.bank.now) end c.requires.ready c.disk-disk.ensures.is c.other_start-start.ensures.is last
 
 pub returns-clause-contents : goal.returns-clause-contents
-returns-clause-contents g c = open_contents _ _ _ _ (g.B.Bank.view c.args.bank.now) (g.B.Bank.view c.write_through.new.bank) c.requires.ready c.disk-disk.ensures.is c.other_start-start.ensures.is c.write_through.ensures.contents
+returns-clause-contents g c = let last = c.write_through.ensures.contents in let end = g.B.Bank.view c.write_through.new.bank in
+    open_contents _ _ _ _ (g.B.Bank.view c.args.bank.now) end c.requires.ready c.disk-disk.ensures.is c.other_start-start.ensures.is last
 
 pub returns-in_err-write_through-clause-gate : goal.returns-in_err-write_through-clause-gate
 returns-in_err-write_through-clause-gate g c = gate_moves c.args.self.now _ _ _ _ c.disk-disk.ensures.is c.other_start-start.ensures.is c.write_through.ensures.any_moment

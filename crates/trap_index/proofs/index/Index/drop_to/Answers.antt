@@ -1,7 +1,7 @@
-use Rattle.std.proofs.Common.{◌≡◌, ℕ, ◌+◌, ◌-◌, List, refl, ap, sym, ◌∙◌, subst, arith}
+use Rattle.std.proofs.Common.{◌≡◌, ℕ, ◌-◌, List, refl, ap, sym, ◌∙◌, subst, arith}
 use Rattle.trap_model.specs.declared.log_record.LogRec.{LogRec}
 use Rattle.trap_model.specs.declared.numbers.Geometry.{Geometry}
-use Rattle.trap_index.specs.Indexed.{Indexed, dropped_to, last_seq, time_of_last, recs_len, recs_up_to}
+use Rattle.trap_index.specs.Indexed.{Indexed, dropped_to, last_seq}
 use Rattle.trap_index.specs.Keeping.{KeepsItems, recs_of}
 use Rattle.trap_index.proofs.Dropped.{IsDroppedTo, dropped}
 use Rattle.trap_index.proofs.index.Index.drop_to.Goals as goal

@@ -1,5 +1,4 @@
-use Rattle.std.proofs.Common.{◌≡◌, ℕ, ◌+◌, ◌-◌, ◌^◌, ◌≤◌, List, length}
-use Rattle.trap_script.specs.Lines.{HasNoFeed}
+use Rattle.std.proofs.Common.{ℕ, ◌+◌, ◌-◌, ◌^◌, ◌≤◌, List}
 use Rattle.trap_lines.specs.Reader.{taken, IsLine, Passes, IsOpen}
 use Rattle.trap_lines.proofs.reader.LineReader.next.Given as goal
 
