@@ -3,9 +3,9 @@ use Rattle.std.proofs.Common.{◌≡◌, ◌≢◌, ℕ, ◌^◌, ◌<◌, ◌�
 use Rattle.std.proofs.lemmas.Bool.{cases_eq}
 use Rattle.std.proofs.lemmas.List.{length-replicate, length-drop, length-take-le, take_all, get_or-take}
 use Rattle.trap_bank.specs.Disks.{View, Disks, Area, Within, Torn, Differs, byte, bytes_of, size_of, region}
-use Rattle.trap_bank.specs.Steps.{Moves, RemadeDisk, MadeDisk, PlacedThrough}
-use Rattle.trap_bank.proofs.Regions.{disk_apart, disk_beside, region_byte, region_beside, byte_in_region}
-use Rattle.trap_bank.proofs.Moves.{moves_then, moves_weaken}
+use Rattle.trap_bank.specs.Steps.{Moves, PlacedThrough}
+use Rattle.trap_bank.proofs.Regions.{disk_apart, disk_beside, region_byte, region_beside, byte_in_region, zero_byte, size_length}
+use Rattle.trap_bank.proofs.Moves.{moves_then, moves_weaken, RemadeDisk, MadeDisk}
 use Rattle.trap_cell.specs.Slots.{Place, Slots, Stands, begun, place_of, cell_value, cell_area}
 use Rattle.trap_cell.specs.Steps.{IsFirst}
 use Rattle.trap_cell.proofs.Beside.{range_apart, cell_beside, stands_beside}
@@ -14,7 +14,6 @@ use Rattle.trap_format.specs.HeadValue.{head_value}
 use Rattle.trap_model.specs.declared.numbers.Geometry.{Geometry}
 use Rattle.trap_mount.specs.Holding.{head_place}
 use Rattle.trap_mount.specs.Creating.{IsNoArray, OnlyDisk, fresh_head, IsLogGateOff, IsShutLog, IsNewLog, ShutsLog, HasShutLog, MakesLog, HasNewLog}
-use Rattle.trap_mount.proofs.Zeros.{zero_byte, size_length}
 use Rattle.trap_mount.proofs.MemberDisks.{only_then}
 
 -- a disk whose gate is off is no log

@@ -1,15 +1,14 @@
 -- How the members' disks are made, one after the other.
 use Rattle.std.proofs.Common.{◌≡◌, ◌≢◌, ◌⊎◌, ℕ, ◌+◌, ◌*◌, ◌-◌, ◌<◌, ◌≤◌, List, ◌++◌, length, replicate, get_or, Option, Some, IsTrue, inr, ⊎_elim, refl, sym, ap, subst, ◌∙◌, arith}
-use Rattle.std.proofs.lemmas.Bool.{cases_eq}
+use Rattle.std.proofs.lemmas.Bool.{cases_eq, cases_lt}
 use Rattle.std.proofs.lemmas.List.{length-append, length-replicate, get_or_append_left, get_or-append_right}
 use Rattle.trap_bank.specs.Disks.{View, Disks, Within, Torn, Differs, byte, bytes_of, size_of, region}
-use Rattle.trap_bank.specs.Steps.{Moves, RemadeDisk, MadeDisk, PlacedThrough}
-use Rattle.trap_bank.proofs.Regions.{disk_beside, disk_ext, byte_beside, byte_in_region}
-use Rattle.trap_bank.proofs.Moves.{moves_then, moves_weaken}
+use Rattle.trap_bank.specs.Steps.{Moves, PlacedThrough}
+use Rattle.trap_bank.proofs.Regions.{disk_beside, disk_ext, byte_beside, byte_in_region, zero_byte}
+use Rattle.trap_bank.proofs.Moves.{moves_then, moves_weaken, RemadeDisk, MadeDisk}
 use Rattle.trap_format.specs.MemberDisk.{member_size, member_header}
 use Rattle.trap_model.specs.declared.numbers.Geometry.{Geometry}
 use Rattle.trap_mount.specs.Creating.{OnlyDisk, OnlyMembers, new_member, HasMember, HasNewMembers, AreSized}
-use Rattle.trap_mount.proofs.Zeros.{below_or, zero_byte}
 
 -- a change of one disk and then another
 pub only_then : (d : ℕ) (x y z : Disks) → OnlyDisk d x y → OnlyDisk d y z → OnlyDisk d x z
@@ -49,7 +48,7 @@ headed d n rest header x y size made differs there = disk_ext (y d) (Some (heade
         (λ (inside : i < length header). byte_in_region y d 0 (length header) i i header (omega arith) there inside ∙ sym (get_or_append_left header (replicate rest 0) 0 i inside))
         (λ (behind : length header ≤ i). byte_beside d 0 (length header) x y i differs (inr (omega (arith, behind))) ∙ zero i
         ∙ sym (get_or-append_right header (replicate rest 0) (length header) i 0 refl behind ∙ zero_byte rest (i - length header)))
-        (below_or i (length header))
+        (cases_lt i (length header))
 
 module _ (g : Geometry) (m : ℕ) where
   -- a member's disk is made with its header

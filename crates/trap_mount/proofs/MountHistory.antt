@@ -3,7 +3,7 @@ use Rattle.std.proofs.Common.{◌≡◌, ℕ, ◌+◌, ◌-◌, List, slice_inde
 use Rattle.trap_bank.specs.Disks.{View, Disks}
 use Rattle.trap_bank.proofs.Moves.{always_same}
 use Rattle.trap_bank.specs.Steps.{OnlyReads}
-use Rattle.trap_bank.proofs.OnlyReads.{reads_then}
+use Rattle.trap_bank.proofs.OnlyReads.{reads_then, told_after, disks_same}
 use Rattle.trap_cell.specs.Slots.{Slots, Stands, cell_value}
 use Rattle.trap_format.specs.HeadValue.{IsHead, IsHeadValue, head_value}
 use Rattle.trap_format.specs.declared.head.Head.{Head}
@@ -25,7 +25,7 @@ use Rattle.trap_mount.specs.Mounting.{HasHeader, HasHead, HasSlots, HasRecords, 
 use Rattle.trap_mount.specs.MountSteps.{ReadsHeader, ReadsHead, ReadsStage, ReadsLog}
 use Rattle.trap_mount.specs.Reading.{AreRecordsRead, HasTaken, ReadsIndex}
 use Rattle.trap_mount.specs.declared.fault.MountFault.{MountFault}
-use Rattle.trap_mount.proofs.MountReads.{told_after, disks_same, stable_reads, refused_before}
+use Rattle.trap_mount.proofs.MountReads.{stable_reads, refused_before}
 
 -- what a call left open at the exit of a `?`
 pub exit : {T E : Type 0} (P : E → Type 0) (r : Result T E) (e : E) → IsErrAnd r (λ y. y ≡ e) → P e → IfErr r P
@@ -114,7 +114,7 @@ module _ (g : Geometry) (h : Head) (e : Expected) (r : RingPlace) (disks : Disks
       → offset ≡ ring_pos (log_ring g) at → IsDamage disks offset
   record_wrong at offset breaks place =
       let broken = here there.0 there.1 in
-      let behind = broken.behind in
+      let least = broken.least in
       let same : at ≡ h.first_off + (at - h.first_off) = omega arith in
       inr (inr (inr (
         g,

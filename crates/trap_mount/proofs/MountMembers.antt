@@ -7,6 +7,9 @@ use Rattle.trap_bank.specs.Disks.{View, Disks, size_of}
 use Rattle.trap_bank.specs.Calls.{IsLawful}
 use Rattle.trap_bank.specs.Faults.{Rose}
 use Rattle.trap_bank.specs.Steps.{OnlyReads}
+use Rattle.trap_bank.proofs.OnlyReads.{told_after, disks_same}
+use Rattle.trap_bank.proofs.Rising.{rose_since}
+use Rattle.trap_bank.proofs.Regions.{absent_disk}
 use Rattle.trap_format.specs.HeadValue.{lost_byte, IsHead}
 use Rattle.trap_format.specs.MemberDisk.{member_size}
 use Rattle.trap_format.specs.declared.head.Head.{Head}
@@ -15,14 +18,9 @@ use Rattle.trap_raid.specs.Members.{IsMember, IsOut}
 use Rattle.trap_mount.specs.Mounting.{HasRecords, HasMembers, AreOut, AreAbsent, IsWrong, IsFailing, Refuses}
 use Rattle.trap_mount.specs.MountSteps.{IsOnlyOut, IsFirstOut, FindsLost, ReadsMember, ReadsMembers, IsNextMember, KeepsRows, FindsMembers}
 use Rattle.trap_mount.specs.declared.fault.MountFault.{MountFault}
-use Rattle.trap_mount.proofs.MountReads.{told_after, disks_same, stable_reads, rose_later, refused_before}
+use Rattle.trap_mount.proofs.MountReads.{stable_reads, refused_before}
 
--- a disk with no size is absent
-pub absent_disk : (x : Option (List ℕ)) → size_of x ≡ None → x ≡ None
-absent_disk None e = refl
-absent_disk (Some xs) e = cc
-
--- and an absent one has none
+-- an absent disk has no size
 pub no_size : (x : Option (List ℕ)) → x ≡ None → size_of x ≡ None
 no_size x e = ap size_of e
 
@@ -198,7 +196,7 @@ module _ (g : Geometry) (h : Head) (lost : Option ℕ) (rebuilt : ℕ) (a b c : 
   mark told = by_recorded h.lost none some finds.still head.lost.none_rebuilt
     where
       at : (k : ℕ) → Rose (b.faults (k + 1)) (c.faults (k + 1)) ⊎ (IsMember g b.now.disks k → ⊥) → Rose (a.faults (k + 1)) (c.faults (k + 1)) ⊎ (IsMember g a.now.disks k → ⊥)
-      at k = ⊎_elim (λ rose. inl (rose_later _ _ _ (to_b.moves.faults (k + 1)) rose)) (λ not. inr (subst (λ (x : Disks). IsMember g x k → ⊥) (disks_same a b to_b told) not))
+      at k = ⊎_elim (λ rose. inl (rose_since _ _ _ (to_b.moves.faults (k + 1)) rose)) (λ not. inr (subst (λ (x : Disks). IsMember g x k → ⊥) (disks_same a b to_b told) not))
 
       by_recorded : (o : Option ℕ) → (o ≡ None → rebuilt ≡ 0) → ((m : ℕ) → o ≡ Some m → KeepsRows g m h.rebuilt rebuilt b c) → ((m : ℕ) → o ≡ Some m → lost ≡ Some m) → (o ≡ None → h.rebuilt ≡ 0)
           → (rebuilt ≡ h.rebuilt) ⊎ ((rebuilt ≡ 0) × ((m : ℕ) → lost ≡ Some m → Rose (a.faults (m + 1)) (c.faults (m + 1)) ⊎ (IsMember g a.now.disks m → ⊥)))

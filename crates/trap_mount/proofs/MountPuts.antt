@@ -1,14 +1,16 @@
 -- What mounting leaves, from what it found and the put of its head.
-use Rattle.std.proofs.Common.{◌≡◌, ◌≢◌, ℕ, ◌+◌, ◌<◌, ◌≤◌, List, length, Option, Some, None, Bool, true, false, IsTrue, inl, inr, ⊎_elim, refl, sym, ap, subst, ◌∙◌, arith}
+use Rattle.std.proofs.Common.{◌≡◌, ◌≢◌, ℕ, ◌+◌, ◌<◌, ◌≤◌, List, length, Some, None, true, false, IsTrue, inl, inr, ⊎_elim, refl, sym, ap, subst, ◌∙◌, arith}
 use Rattle.std.proofs.lemmas.Option.{same_Some}
 use Rattle.trap_bank.specs.Disks.{Contents, View, Disks, Quiet, Differs, size_of}
 use Rattle.trap_bank.specs.Calls.{MayLeave, IsLawful}
 use Rattle.trap_bank.specs.Faults.{Rose}
 use Rattle.trap_bank.specs.Steps.{Moves, Same, Always, OnlyReads}
-use Rattle.trap_bank.proofs.Regions.{region_of_disk, disk_apart}
+use Rattle.trap_bank.proofs.Regions.{disk_apart, absent_disk}
 use Rattle.trap_bank.proofs.Moves.{moves_then, moves_weaken, always_same, read_is_left}
-use Rattle.trap_bank.proofs.OnlyReads.{reads_then}
-use Rattle.trap_cell.specs.Slots.{Place, Slots, Stands, slot_at, value_at, current_slot, cell_value, other_slot}
+use Rattle.trap_bank.proofs.OnlyReads.{reads_then, told_after, disks_same}
+use Rattle.trap_bank.proofs.Rising.{rose_since, rose_later}
+use Rattle.trap_cell.proofs.Keeping.{value_on_disk}
+use Rattle.trap_cell.specs.Slots.{Place, Slots, Stands, current_slot, cell_value, other_slot}
 use Rattle.trap_cell.specs.Steps.{PutsIn, IsPut}
 use Rattle.trap_format.specs.LogDisk.{log_size}
 use Rattle.trap_format.specs.MemberDisk.{member_size}
@@ -19,13 +21,15 @@ use Rattle.trap_index.specs.Indexed.{Indexed}
 use Rattle.trap_model.specs.State.{last}
 use Rattle.trap_model.specs.declared.numbers.Geometry.{Geometry}
 use Rattle.trap_model.specs.declared.history.State.{State}
+use Rattle.trap_pool.specs.Pooled.{free_of}
 use Rattle.trap_raid.specs.Members.{Counts, IsMember, IsOut}
 use Rattle.trap_stage.specs.Slots.{Stage, SlotsAre}
 use Rattle.trap_stage.specs.Pending.{pending}
 use Rattle.trap_stage.specs.Found.{IsFound}
 use Rattle.trap_stage.proofs.FurtherSlots.{found_pending}
 use Rattle.trap_mount.specs.Holding.{head_place, MatchesHead, Holds, HoldsBy}
-use Rattle.trap_mount.specs.Mounted.{Mounted, StandsFor, IsReady}
+use Rattle.trap_mount.specs.Memory.{Buffers, HaveBlocksOf}
+use Rattle.trap_mount.specs.Mounted.{Mounted, StandsFor, HasExactSizes, IsReady}
 use Rattle.trap_mount.specs.Mounting.{KeepsWhoIsLost, Mounts, KeepsEachState, HasRecords, HasMembers, FoundLost, HasFound, IsFailing, Refuses, MountFails, is_refusal, PutsHead, MayPutHead, HasPutHead}
 use Rattle.trap_mount.specs.Mounting.{WritesHead}
 use Rattle.trap_mount.specs.MountEnds.{KnowsDisks}
@@ -35,18 +39,10 @@ use Rattle.trap_mount.specs.declared.fault.MountFault.{MountFault}
 use Rattle.trap_mount.specs.declared.fault.MountFault.TheVariants.{NotAnArray, BadVersion, WrongMember, TooManyLost, Damaged, LogFault, MemberFault, OutOfMemory}
 use Rattle.trap_mount.proofs.MountRecords.{read_described}
 use Rattle.trap_mount.proofs.Puts.{put_in_cell, fits_put, held_by_read}
-use Rattle.trap_mount.proofs.MountReads.{told_before, told_after, disks_same, stable_reads, rose_later, rose_before, refused_before}
+use Rattle.trap_mount.proofs.MountReads.{told_before, stable_reads, refused_before}
 use Rattle.trap_mount.proofs.MountRefusals.{never_refused}
-use Rattle.trap_mount.proofs.MountMembers.{absent_disk, is_some_or_not, finds_only, finds_one}
+use Rattle.trap_mount.proofs.MountMembers.{is_some_or_not, finds_only, finds_one}
 use Rattle.trap_mount.proofs.MountStands.{one_array, fits_agree, fits_changed}
-
--- a cell's value is what stands on its disk
-value_of_disk : (x y : Disks) → y 0 ≡ x 0 → cell_value head_place y ≡ cell_value head_place x
-value_of_disk x y same = in_slot (current_slot head_place y) ∙ ap (λ (slot : Option Bool). value_at slot head_place x) (ap (λ (disk : Option (List ℕ)). current_slot head_place (λ e. disk)) same)
-  where
-    in_slot : (slot : Option Bool) → value_at slot head_place y ≡ value_at slot head_place x
-    in_slot None = refl
-    in_slot (Some second) = ap {B = Option (List ℕ)} Some (region_of_disk x y 0 (slot_at head_place second + 2) 62 same)
 
 -- what is refused of the members
 pub members_refused : (g : Geometry) (h : Head) (cell : Slots) (stage : Stage) (a b : View) (why : MountFault) → OnlyReads a b → ReadsLog g h cell stage a b
@@ -56,7 +52,7 @@ members_refused g h cell stage a b why reads log refused told =
 
 -- a put that failed
 pub put_failed : (a c d : View) (why : MountFault) → OnlyReads a c → Rose (c.faults 0) (d.faults 0) → ◌≡◌ {A = MountFault} LogFault why → MountFails why a d
-put_failed a c d why reads rose is = subst (λ (w : MountFault). MountFails w a d) is (rose_later _ _ _ (reads.moves.faults 0) rose)
+put_failed a c d why reads rose is = subst (λ (w : MountFault). MountFails w a d) is (rose_since _ _ _ (reads.moves.faults 0) rose)
 
 -- one value of the head's cell is that of one head
 one_head : (g : Geometry) (h k : Head) (s t : State) (x y : Disks) → HoldsBy g h s x → HoldsBy g k t y → cell_value head_place y ≡ cell_value head_place x → h ≡ k
@@ -141,8 +137,17 @@ head_read a b reads = record {
 }
 
 -- the array that was mounted
-abbrev pub mounted_by : Geometry → Head → Slots → Stage → Indexed → Mounted
-mounted_by g k after stage index = record { g = g; head = k; cell = after; pending = stage.pending; index = index; is_stopped = false }
+abbrev pub mounted_by : Geometry → Head → Slots → Stage → Indexed → Buffers → Mounted
+mounted_by g k after stage index room = record {
+  g = g;
+  head = k;
+  cell = after;
+  pending = stage.pending;
+  index = index;
+  blocks = length room.pool.blocks;
+  free = free_of room.pool;
+  is_stopped = false;
+}
 
 module _ (g : Geometry) (h k : Head) (cell : Slots) (stage : Stage) (a b c : View) (to_b : OnlyReads a b) (to_c : OnlyReads b c) (lawful : IsLawful b)
     (log : ReadsLog g h cell stage a b) (members : FindsMembers g h k b c) where
@@ -180,7 +185,7 @@ module _ (g : Geometry) (h k : Head) (cell : Slots) (stage : Stage) (a b c : Vie
         mark = ⊎_elim inl
             (λ rest. inr (
               rest.0,
-              λ m is. ⊎_elim (λ rose. inl (rose_later _ _ _ (to_b.moves.faults (m + 1)) rose))
+              λ m is. ⊎_elim (λ rose. inl (rose_since _ _ _ (to_b.moves.faults (m + 1)) rose))
                   (λ not. inr (subst (λ (x : Disks). IsMember g x m → ⊥) same not)) (rest.1 m is),
             )) found.mark;
       }
@@ -193,7 +198,7 @@ module _ (g : Geometry) (h k : Head) (cell : Slots) (stage : Stage) (a b c : Vie
         same = found.same;
         lost = found.lost;
         still = found.still;
-        mark = ⊎_elim inl (λ rest. inr (rest.0, λ m is. ⊎_elim (λ rose. inl (rose_before _ _ _ (later (m + 1)) rose)) inr (rest.1 m is))) found.mark;
+        mark = ⊎_elim inl (λ rest. inr (rest.0, λ m is. ⊎_elim (λ rose. inl (rose_later _ _ _ rose (later (m + 1)))) inr (rest.1 m is))) found.mark;
       }
 
   -- every step passed
@@ -298,7 +303,7 @@ module _ (g : Geometry) (h k : Head) (cell : Slots) (stage : Stage) (a b c : Vie
       }
     where
       value_still : (y : Contents) → MayLeave c y → cell_value head_place y.disks ≡ Some (head_value h)
-      value_still y left = value_of_disk a.now.disks y.disks (log_left y left) ∙ log.head.value (told_before a c reads left.told)
+      value_still y left = value_on_disk head_place a.now.disks y.disks (log_left y left) ∙ log.head.value (told_before a c reads left.told)
 
   -- at any moment
   put_head : (w : View) → ((e : ℕ) → c.faults e ≤ w.faults e) → (y : Contents) (z : Disks) → MayLeave c y → MayPut cell h k y.disks z → MayPutHead a w y.disks z
@@ -368,7 +373,8 @@ module _ (g : Geometry) (h k : Head) (cell : Slots) (stage : Stage) (a b c : Vie
       lost = put_lost put.faults now;
     }
 
-    module _ (after : Slots) (index : Indexed) (known : ReadsIndex g h index a) (put : Moves c d (MayPut cell h k) (HasPut d cell after h k)) (sizes : (e : ℕ) → d.sizes e ≡ c.sizes e) where
+    module _ (after : Slots) (index : Indexed) (room : Buffers) (known : ReadsIndex g h index a)
+        (put : Moves c d (MayPut cell h k) (HasPut d cell after h k)) (sizes : (e : ℕ) → d.sizes e ≡ c.sizes e) where
       cell_after : Always d (Stands after)
       cell_after w left =
           let from = put.now w left in
@@ -391,7 +397,7 @@ module _ (g : Geometry) (h k : Head) (cell : Slots) (stage : Stage) (a b c : Vie
           high : h.last ≡ last s → h.drained ≤ h.last → h.drained ≤ last s
           high end drained = omega arith
 
-      pub mount_stands : (g' : Geometry) (s : State) → IsTrue a.tells → Holds g' s a.now.disks → (g ≡ g') × Always d (StandsFor (mounted_by g k after stage index) s)
+      pub mount_stands : (g' : Geometry) (s : State) → IsTrue a.tells → Holds g' s a.now.disks → (g ≡ g') × Always d (StandsFor (mounted_by g k after stage index room) s)
       mount_stands g' s told holds =
           let one = header_entry told g' s holds in
           let here = subst (λ (n : Geometry). Holds n s a.now.disks) one holds in (
@@ -403,7 +409,7 @@ module _ (g : Geometry) (h k : Head) (cell : Slots) (stage : Stage) (a b c : Vie
                   by = ⊎_elim
                       (λ none. record {
                         value = subst (λ (q : Disks). cell_value head_place q ≡ Some (head_value k)) (sym none.0)
-                            (value_of_disk a.now.disks from.origin.disks (log_left from.origin from.was) ∙ log.head.value told ∙ ap (λ (t : Head). Some (head_value t)) (sym none.1));
+                            (value_on_disk head_place a.now.disks from.origin.disks (log_left from.origin from.was) ∙ log.head.value told ∙ ap (λ (t : Head). Some (head_value t)) (sym none.1));
                         fits = subst (λ (q : Disks). MatchesHead g k s q) (sym none.0) fits;
                       })
                       (λ done. record {
@@ -423,7 +429,7 @@ module _ (g : Geometry) (h k : Head) (cell : Slots) (stage : Stage) (a b c : Vie
           (λ none. (
             inl none.0,
             subst (λ (q : Disks). cell_value head_place q ≡ Some (head_value k)) (sym none.0)
-                (value_of_disk a.now.disks y.disks (log_left y left) ∙ log.head.value (told_before a c reads left.told) ∙ ap (λ (t : Head). Some (head_value t)) (sym none.1)),
+                (value_on_disk head_place a.now.disks y.disks (log_left y left) ∙ log.head.value (told_before a c reads left.told) ∙ ap (λ (t : Head). Some (head_value t)) (sym none.1)),
           ))
           (λ was. (
             inr (puts_head d put.faults y z left was.0 (record { differs = was.1.differs; either = inr was.1.value })),
@@ -438,7 +444,7 @@ module _ (g : Geometry) (h k : Head) (cell : Slots) (stage : Stage) (a b c : Vie
           (λ x y z was same mid step. subst (λ (q : Disks). HasPutHead a d k q z.disks) same (done_head y z.disks mid step))
 
       -- what the array knows is what was read
-      pub mount_knows : KnowsDisks (mounted_by g k after stage index) a
+      pub mount_knows : KnowsDisks (mounted_by g k after stage index room) a
       mount_knows =
           let slots = stage_put in
           record {
@@ -450,8 +456,11 @@ module _ (g : Geometry) (h k : Head) (cell : Slots) (stage : Stage) (a b c : Vie
           members_drained : k.drained ≡ h.drained
           members_drained = ap (λ (t : Head). t.drained) members.same
 
-      pub mount_ready : IsReady (mounted_by g k after stage index) d
-      mount_ready = record {
+      pub mount_exact : HasExactSizes g k.lost k.rebuilt a
+      mount_exact = record { log = log.header.size; members = λ m inside counts. sym (to_b.sizes (m + 1)) ∙ (member_read m inside counts).size }
+
+      pub mount_ready : HaveBlocksOf g.block room → IsReady (mounted_by g k after stage index room) d
+      mount_ready own = record {
         sizes = λ running. record {
           log = (log_size g, sizes 0 ∙ reads.sizes 0 ∙ log.header.size, omega arith);
           members = λ m inside counts. (member_size g, sizes (m + 1) ∙ to_c.sizes (m + 1) ∙ (member_read m inside counts).size, omega arith);
@@ -459,9 +468,10 @@ module _ (g : Geometry) (h k : Head) (cell : Slots) (stage : Stage) (a b c : Vie
         stands = λ running. cell_after;
         value = λ running w left. let from = put.now w left in (done_head from.origin w.disks from.was from.by.disks).1;
         count = λ running. mount_knows.count;
+        room = (own.blocks, own.free);
       }
 
-      pub mount_found : HasFound (mounted_by g k after stage index) a d
+      pub mount_found : HasFound (mounted_by g k after stage index room) a d
       mount_found = record {
         passed = λ told.
             let later = told_after a b to_b told in

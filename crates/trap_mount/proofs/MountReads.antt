@@ -1,10 +1,11 @@
 -- Runs of calls that only read, and disks of which a crash leaves what a read gives.
-use Rattle.std.proofs.Common.{◌≡◌, ℕ, ◌+◌, ◌≤◌, Bool, true, false, IsTrue, Ok, sym, ap, subst, ◌∙◌, arith}
+use Rattle.std.proofs.Common.{◌≡◌, ℕ, ◌+◌, Bool, true, false, IsTrue, Ok, sym, ap, subst, ◌∙◌}
 use Rattle.trap_bank.specs.Disks.{Contents, View, Disks}
 use Rattle.trap_bank.specs.Calls.{Syncs}
-use Rattle.trap_bank.specs.Faults.{Rose}
 use Rattle.trap_bank.specs.Steps.{Moves, Same, OnlyReads}
 use Rattle.trap_bank.proofs.Moves.{synced_steps}
+use Rattle.trap_bank.proofs.OnlyReads.{told_after, disks_same}
+use Rattle.trap_bank.proofs.Rising.{rose_since, rose_later}
 use Rattle.trap_model.specs.declared.numbers.Geometry.{Geometry}
 use Rattle.trap_mount.specs.MountSteps.{IsStable}
 use Rattle.trap_mount.specs.Mounting.{Refuses, RefusesAs, MountFails, SizesShow}
@@ -14,21 +15,6 @@ use Rattle.trap_mount.specs.declared.fault.MountFault.TheVariants.{NotAnArray, B
 -- a bank that tells still does
 pub told_before : (a b : View) → OnlyReads a b → IsTrue b.tells → IsTrue a.tells
 told_before a b reads told = subst IsTrue reads.moves.tells told
-
-pub told_after : (a b : View) → OnlyReads a b → IsTrue a.tells → IsTrue b.tells
-told_after a b reads told = subst IsTrue (sym reads.moves.tells) told
-
--- the disks are those before
-pub disks_same : (a b : View) → OnlyReads a b → IsTrue a.tells → b.now.disks ≡ a.now.disks
-disks_same a b reads told = ap (λ (c : Contents). c.disks) (reads.same told)
-
--- a count that rose later rose all together
-pub rose_later : (a b c : ℕ) → a ≤ b → Rose b c → Rose a c
-rose_later a b c le rose = omega arith
-
--- and one that rose before it didn't fall
-pub rose_before : (a b c : ℕ) → b ≤ c → Rose a b → Rose a c
-rose_before a b c le rose = omega arith
 
 -- a disk that was synced is stable, after a read too
 pub stable_read : {T E : Type 0} (value : T) (a b c : View) (d : ℕ) → Syncs {T = T} {E = E} d (Ok value) a b → Moves b c Same Same → (IsTrue b.tells → c.now ≡ b.now) → IsStable c d
@@ -54,8 +40,8 @@ cause_before a b c (BadVersion version) reads fails = tt
 cause_before a b c (WrongMember member) reads fails = tt
 cause_before a b c (TooManyLost first second) reads fails = tt
 cause_before a b c (Damaged offset) reads fails = tt
-cause_before a b c LogFault reads fails = rose_later _ _ _ (reads.moves.faults 0) fails
-cause_before a b c (MemberFault first second) reads fails = (fails.0, fails.1, rose_later _ _ _ (reads.moves.faults (second + 1)) fails.2)
+cause_before a b c LogFault reads fails = rose_since _ _ _ (reads.moves.faults 0) fails
+cause_before a b c (MemberFault first second) reads fails = (fails.0, fails.1, rose_since _ _ _ (reads.moves.faults (second + 1)) fails.2)
 cause_before a b c OutOfMemory reads fails = tt
 
 -- what failed before a later run, which only reads, failed in both
@@ -65,8 +51,8 @@ cause_after a b c (BadVersion version) reads fails = tt
 cause_after a b c (WrongMember member) reads fails = tt
 cause_after a b c (TooManyLost first second) reads fails = tt
 cause_after a b c (Damaged offset) reads fails = tt
-cause_after a b c LogFault reads fails = rose_before _ _ _ (reads.moves.faults 0) fails
-cause_after a b c (MemberFault first second) reads fails = (fails.0, fails.1, rose_before _ _ _ (reads.moves.faults (second + 1)) fails.2)
+cause_after a b c LogFault reads fails = rose_later _ _ _ fails (reads.moves.faults 0)
+cause_after a b c (MemberFault first second) reads fails = (fails.0, fails.1, rose_later _ _ _ fails.2 (reads.moves.faults (second + 1)))
 cause_after a b c OutOfMemory reads fails = tt
 
 -- what the sizes show later they showed before

@@ -4,8 +4,9 @@ use Rattle.std.proofs.lemmas.List.Elements.{All-head, All-tail}
 use Rattle.std.proofs.lemmas.List.{append_assoc}
 use Rattle.trap_bank.specs.Disks.{View, Disks}
 use Rattle.trap_bank.specs.Steps.{OnlyReads}
+use Rattle.trap_model.proofs.Adding.{time_rises}
 use Rattle.trap_format.specs.declared.head.Head.{Head}
-use Rattle.trap_index.specs.Indexed.{Indexed, with_record, last_seq, last_time}
+use Rattle.trap_index.specs.Indexed.{Indexed, with_record, last_seq, last_record_time}
 use Rattle.trap_index.proofs.Numbered.{time_of_last-push}
 use Rattle.trap_index.proofs.Added.{IsNext}
 use Rattle.trap_index.specs.Describes.{Describes, headers_from}
@@ -28,11 +29,6 @@ use Rattle.trap_scan.specs.declared.expected.Expected.{Expected}
 use Rattle.trap_scan.proofs.Chains.{Scanned, scanned_none, scanned_next}
 use Rattle.trap_mount.specs.Holding.{log_ring, HoldsBy}
 use Rattle.trap_mount.specs.Reading.{Begins, AreRecordsRead, Awaits, HasTaken, ReadsIndex}
-
--- times that never fall end at no earlier one
-time_rises : (before : ℕ) (entries : List Entry) → NeverFall before entries → before ≤ time_after before entries
-time_rises before [] rise = omega arith
-time_rises before (entry ∷ later) rise = let low = rise.0 in let high = time_rises entry.time later rise.1 in omega arith
 
 cons_same : (a b : LogRec) (xs ys : List LogRec) → a ≡ b → xs ≡ ys → ◌≡◌ {A = List LogRec} (a ∷ xs) (b ∷ ys)
 cons_same a b xs ys one two = cc
@@ -87,8 +83,8 @@ pub record Taken (place : RingPlace) (a b : View) (old new : Scan) (before after
   pub scanned : Scanned place a b old new
   pub same : after ≡ record before { recs = after.recs }
   pub end : last_seq after ≡ new.seq
-  pub time : last_time after ≡ new.time
-  pub last : new.expected.last ≤ new.seq → last_time after ≡ new.expected.last_time
+  pub time : last_record_time after ≡ new.time
+  pub last : new.expected.last ≤ new.seq → last_record_time after ≡ new.expected.last_time
   pub read : IsTrue a.tells → (bytes : List ℕ) → IsAhead place old.window bytes a.now.disks
       → ReadsTo place a.now.disks new before.g.block after.recs bytes
 
@@ -104,7 +100,7 @@ taken_none place v s i first awaits more loaded =
       scanned = scanned_none place v s loaded;
       same = refl;
       end = omega (arith, first.seq);
-      time = ap last_time awaits.none ∙ sym first.time;
+      time = ap last_record_time awaits.none ∙ sym first.time;
       last = λ done. absurd (omega arith);
       read = λ told bytes ahead. record {
         rest = bytes;
@@ -146,8 +142,8 @@ taken_next place a b c old mid new i j k r awaits taken more looks expected take
   read = λ told bytes ahead. reached told bytes (taken.read told bytes ahead);
 }
   where
-    now : last_time k ≡ r.time
-    now = ap last_time known ∙ time_of_last-push j.base_time j.recs r
+    now : last_record_time k ≡ r.time
+    now = ap last_record_time known ∙ time_of_last-push j.base_time j.recs r
 
     added_same : (i j k : Indexed) (r : LogRec) → k ≡ with_record j r → j ≡ record i { recs = j.recs } → k ≡ record i { recs = k.recs }
     added_same i j k r one two = cc

@@ -1,7 +1,7 @@
 -- A state that the disks hold: which disks hold it too, and what mounting makes of its head.
 use Rattle.std.proofs.Common.{◌≡◌, ◌⊎◌, ℕ, ◌+◌, ◌<◌, List, Option, Some, None, unwrap_or, inl, inr, ⊎_elim, refl, sym, ap, subst, ◌∙◌, arith}
 use Rattle.trap_bank.specs.Disks.{Disks, region, size_of}
-use Rattle.trap_bank.proofs.Regions.{region_of_disk, byte_of_disk}
+use Rattle.trap_bank.proofs.Regions.{region_of_disk, byte_of_disk, absent_disk}
 use Rattle.trap_format.specs.LogDisk.{IsLogHeader}
 use Rattle.trap_format.specs.MemberDisk.{row_at}
 use Rattle.trap_format.specs.HeadValue.{IsHead}
@@ -17,7 +17,7 @@ use Rattle.trap_stage.specs.Staged.{Staged, newest_at}
 use Rattle.trap_stage.specs.Pending.{pending}
 use Rattle.trap_mount.specs.Holding.{log_ring, MatchesHead, Holds}
 use Rattle.trap_mount.specs.Mounting.{HasHeader}
-use Rattle.trap_mount.proofs.MountMembers.{absent_disk, no_size}
+use Rattle.trap_mount.proofs.MountMembers.{no_size}
 
 -- disks hold states of one array alone
 pub one_array : (g k : Geometry) (s : State) (x : Disks) → HasHeader g x → Holds k s x → k ≡ g

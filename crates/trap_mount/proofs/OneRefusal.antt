@@ -25,9 +25,6 @@ use Rattle.trap_mount.specs.declared.fault.MountFault.TheVariants.{NotAnArray, B
 by_order : (m n : ℕ) → (m < n → ⊥) → (n < m → ⊥) → m ≡ n
 by_order m n low high = omega arith
 
-some_number : (a b : ℕ) → Some a ≡ Some b → a ≡ b
-some_number a b e = cc
-
 -- every disk that is to be there is its member's own
 abbrev AllOwn : Geometry → Head → Disks → Type 0
 AllOwn g h x = (m : ℕ) → m < g.members → (IsOut h.lost x m → ⊥) → IsMember g x m
@@ -208,7 +205,7 @@ module _ (x : Disks) where
 
   same_first : (g : Geometry) (h : Head) (a b : ℕ) → FirstOut g h a → FirstOut g h b → a ≡ b
   same_first g h a b = ⊎_elim
-      (λ is_a. ⊎_elim (λ is_b. some_number a b (sym is_a ∙ is_b)) (λ none. let two : Some a ≡ None = sym is_a ∙ none.0 in cc))
+      (λ is_a. ⊎_elim (λ is_b. same_Some a b (sym is_a ∙ is_b)) (λ none. let two : Some a ≡ None = sym is_a ∙ none.0 in cc))
       (λ none_a. ⊎_elim (λ is_b. let two : Some b ≡ None = sym is_b ∙ none_a.0 in cc) (λ none_b. lowest none_a.2 none_a.3 none_b.2 none_b.3))
     where
       lowest : x (a + 1) ≡ None → ((m : ℕ) → m < a → x (m + 1) ≢ None) → x (b + 1) ≡ None → ((m : ℕ) → m < b → x (m + 1) ≢ None) → a ≡ b

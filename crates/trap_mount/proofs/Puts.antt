@@ -1,5 +1,6 @@
 -- A put of the head: where the disks fit it already, they hold its state.
-use Rattle.std.proofs.Common.{◌≡◌, ◌⊎◌, ℕ, List, Some, inl, inr, ⊎_elim, refl, sym, subst, ◌∙◌}
+use Rattle.std.proofs.Common.{◌≡◌, ◌⊎◌, Some, inl, inr, ⊎_elim, refl, sym, subst, ◌∙◌}
+use Rattle.std.proofs.lemmas.Option.{same_Some}
 use Rattle.trap_bank.specs.Disks.{Disks, View, Differs}
 use Rattle.trap_cell.specs.Slots.{Place, Slots, cell_area, cell_value, other_slot}
 use Rattle.trap_cell.specs.Steps.{PutsIn, IsPut}
@@ -39,9 +40,6 @@ module _ (g : Geometry) (h t : Head) (s u : State) (k : Slots) (is_head : k.plac
 -- the head that is read is the one by which a state is held
 pub held_by_read : (g : Geometry) (h : Head) (s : State) (x : Disks) → Holds g s x → cell_value head_place x ≡ Some (head_value h) → IsHead g h → HoldsBy g h s x
 held_by_read g h s x holds read is =
-    let same : head_value holds.head ≡ head_value h = some_same (head_value holds.head) (head_value h) (sym holds.by.value ∙ read) in
+    let same : head_value holds.head ≡ head_value h = same_Some (head_value holds.head) (head_value h) (sym holds.by.value ∙ read) in
     let one : holds.head ≡ h = heads_same g holds.head h (head_value h) (record { head = holds.by.fits.head.head; spelled = sym same }) (record { head = is; spelled = refl }) in
     subst (λ (t : Head). HoldsBy g t s x) one holds.by
-  where
-    some_same : (a b : List ℕ) → Some a ≡ Some b → a ≡ b
-    some_same a b e = cc

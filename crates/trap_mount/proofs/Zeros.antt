@@ -1,9 +1,8 @@
 -- Zero bytes: on a new disk, and in the table of the zero image.
-use Rattle.std.proofs.Common.{◌≡◌, ◌≢◌, ◌⊎◌, ℕ, zero, suc, ◌+◌, ◌-◌, ◌*◌, ◌<◌, ◌≤◌, List, [], length, take, drop, replicate, get_or, Option, Some, None, ⊎_elim, refl, ap, ◌∙◌, arith, eq-eqb}
+use Rattle.std.proofs.Common.{◌≡◌, ◌≢◌, ℕ, zero, suc, ◌+◌, ◌-◌, ◌*◌, ◌<◌, ◌≤◌, List, [], take, drop, replicate, ⊎_elim, refl, ap, ◌∙◌, arith, eq-eqb}
 use Rattle.std.proofs.Math.Seq.{drop-append-add}
 use Rattle.std.proofs.lemmas.Bool.{cases_eq, ne_eqb}
-use Rattle.std.proofs.lemmas.List.{length-replicate, get_or-replicate, get_or_past, take-replicate, drop-replicate}
-use Rattle.trap_bank.specs.Disks.{bytes_of, size_of}
+use Rattle.std.proofs.lemmas.List.{length-replicate, get_or-replicate, take-replicate, drop-replicate}
 use Rattle.trap_block.specs.Xor.{xor, zeros, xor_but}
 use Rattle.trap_block.proofs.XorLemmas.{xor-zeros}
 use Rattle.trap_format.specs.MemberDisk.{row_at, member_header}
@@ -14,24 +13,6 @@ use Rattle.trap_map.proofs.TableLemmas.{table_at_parity, table_elsewhere}
 use Rattle.trap_model.specs.Image.{volume, zero_image}
 use Rattle.trap_model.specs.declared.numbers.Geometry.{Geometry}
 use Rattle.trap_mount.specs.Creating.{new_member}
-
--- a number is below another or not
-pub below_or : (i n : ℕ) → (i < n) ⊎ (n ≤ i)
-below_or i n = grind arith
-
--- each byte of zeros is 0, and so is each after them
-pub zero_byte : (n i : ℕ) → ◌≡◌ {A = ℕ} (get_or (replicate n 0) i 0) 0
-zero_byte n i =
-    let zero : ℕ = 0 in
-    ⊎_elim
-    (λ (inside : i < n). get_or-replicate n i zero zero inside)
-    (λ (past : n ≤ i). get_or_past (replicate n zero) i zero (omega (arith, length-replicate n zero, past)))
-    (below_or i n)
-
--- a disk of a size has that number of bytes
-pub size_length : (disk : Option (List ℕ)) (n : ℕ) → size_of disk ≡ Some n → length (bytes_of disk) ≡ n
-size_length None n is = cc
-size_length (Some bytes) n is = cc
 
 -- the exclusive-or of zero blocks is a zero block
 xor_but_zeros : (size one n : ℕ) (block_of : ℕ → List ℕ) → ((m : ℕ) → m < n → m ≢ one → block_of m ≡ zeros size) → xor_but size one block_of n ≡ zeros size

@@ -1,5 +1,6 @@
 -- Making an array on disks that aren't there.
-use Rattle.std.specs.Prelude.{◌≡◌, ◌≢◌, ◌⊎◌, ℕ, ◌+◌, ◌*◌, ◌<◌, ◌≤◌, List, ◌++◌, replicate, take, drop, Some, None}
+use Rattle.std.specs.Prelude.{◌≡◌, ◌≢◌, ◌⊎◌, ℕ, ◌+◌, ◌*◌, ◌<◌, ◌≤◌, List, ◌++◌, replicate, take}
+use Rattle.std.specs.Prelude.{drop, Some, None}
 use Rattle.trap_bank.specs.Disks.{Disks, View, byte, region, size_of}
 use Rattle.trap_bank.specs.Faults.{Rose}
 use Rattle.trap_cell.specs.Slots.{Stands, begun, cell_value}

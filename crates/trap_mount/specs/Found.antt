@@ -1,7 +1,8 @@
 -- What mounting hands over.
-use Rattle.std.specs.Prelude.{◌≡◌, false}
+use Rattle.std.specs.Prelude.{◌≡◌, length, false}
 use Rattle.trap_bank.specs.Disks.{View}
 use Rattle.trap_format.specs.HeadValue.{IsHead}
+use Rattle.trap_pool.specs.Pooled.{free_of}
 use Rattle.trap_mount.specs.Holding.{head_place}
 use Rattle.trap_mount.specs.Memory.{HaveBlocksOf}
 use Rattle.trap_mount.specs.Mounted.{Mounted}
@@ -17,6 +18,8 @@ array_of f = record {
   cell = f.cell;
   pending = f.stage.pending;
   index = f.index;
+  blocks = length f.buffers.pool.blocks;
+  free = free_of f.buffers.pool;
   is_stopped = false;
 }
 

@@ -9,9 +9,10 @@ use Rattle.trap_model.specs.declared.history.State.{State}
 use Rattle.trap_model.specs.declared.numbers.Geometry.{Geometry}
 use Rattle.trap_raid.specs.Members.{IsOut}
 use Rattle.trap_stage.specs.Slots.{SlotsAre}
-use Rattle.trap_mount.specs.Mounted.{Mounted, StandsFor, IsReady}
+use Rattle.trap_mount.specs.Mounted.{Mounted, StandsFor, HasExactSizes, IsReady}
 use Rattle.trap_mount.specs.Holding.{Holds, HoldsBy}
-use Rattle.trap_mount.specs.Mounting.{HasFound, Refuses, MountFails, SizesShow, MayPutHead, HasPutHead, is_refusal, names_member}
+use Rattle.trap_mount.specs.Mounting.{HasFound, Refuses, MountFails, SizesShow, MayPutHead}
+use Rattle.trap_mount.specs.Mounting.{HasPutHead, is_refusal, names_member}
 use Rattle.trap_mount.specs.Reading.{ReadsIndex}
 use Rattle.trap_mount.specs.declared.fault.MountFault.{MountFault}
 use Rattle.trap_mount.specs.declared.fault.MountFault.TheVariants.{LogFault, OutOfMemory}
@@ -25,12 +26,13 @@ pub record KnowsDisks (a : Mounted) (old : View) : Type 0 where
   pub index : ReadsIndex a.g a.head a.index old
 
 -- An array was mounted. Where the disks held a state, it stands for that state after every crash.
--- It isn't stopped.
+-- It isn't stopped. The disks that it needs have their exact sizes, over any bank.
 pub record MountsFor (a : Mounted) (old new : View) : Type 0 where
   pub stands : (g : Geometry) (s : State) → IsTrue old.tells → Holds g s old.now.disks → (a.g ≡ g)
       × Always new (StandsFor a s)
   pub ready : IsReady a new
   pub running : a.is_stopped ≡ false
+  pub exact : HasExactSizes a.g a.head.lost a.head.rebuilt old
   pub found : HasFound a old new
   pub knows : KnowsDisks a old
   pub head : Moves old new (MayPutHead old new) (HasPutHead old new a.head)

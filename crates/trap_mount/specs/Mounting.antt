@@ -12,8 +12,11 @@ use Rattle.trap_model.specs.declared.history.State.{State}
 use Rattle.trap_raid.specs.Members.{IsMember, IsOut}
 use Rattle.trap_mount.specs.Holding.{head_place, HoldsBy}
 use Rattle.trap_mount.specs.Mounted.{Mounted}
-pub use Rattle.trap_mount.specs.OnDisks.{HasHeader, HasHead, HasSlots, HasRecords, HasMembers, head_history}
-pub use Rattle.trap_mount.specs.Refusing.{AreOut, IsWrong, IsFailing, IsDamage, IsOtherVersion, RefusesAs, Refuses, is_refusal, names_member, AreAbsent, MountFails, SizesShow}
+pub use Rattle.trap_mount.specs.OnDisks.{HasHeader, HasHead, HasSlots, HasRecords, HasMembers}
+pub use Rattle.trap_mount.specs.OnDisks.{head_history}
+pub use Rattle.trap_mount.specs.Refusing.{AreOut, IsWrong, IsFailing, IsDamage, IsOtherVersion}
+pub use Rattle.trap_mount.specs.Refusing.{RefusesAs, Refuses, is_refusal, names_member, AreAbsent}
+pub use Rattle.trap_mount.specs.Refusing.{MountFails, SizesShow}
 
 -- nothing but the slot of the head's cell that isn't current changed, and the cell has the same
 -- value

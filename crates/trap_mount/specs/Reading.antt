@@ -2,7 +2,7 @@
 use Rattle.std.specs.Prelude.{◌≡◌, ℕ, ◌+◌, ◌-◌, ◌^◌, ◌<◌, ◌≤◌, List, [], ◌∷◌, ◌++◌, IsTrue}
 use Rattle.trap_bank.specs.Disks.{View}
 use Rattle.trap_format.specs.declared.head.Head.{Head}
-use Rattle.trap_index.specs.Indexed.{Indexed, nothing_indexed, last_seq, last_time}
+use Rattle.trap_index.specs.Indexed.{Indexed, nothing_indexed, last_seq, last_record_time}
 use Rattle.trap_model.specs.Image.{volume}
 use Rattle.trap_model.specs.LogRecord.{LogRecord}
 use Rattle.trap_model.specs.declared.log_record.LogRec.{LogRec}
@@ -55,7 +55,7 @@ pub record IsAtStart (r : RingPlace) (s : Scan) (index : Indexed) (v : View) : T
 pub record HasTaken (old new : Indexed) (seq time : ℕ) : Type 0 where
   pub same : new ≡ record old { recs = new.recs }
   pub end : last_seq new ≡ seq
-  pub time_ : last_time new ≡ time
+  pub time_ : last_record_time new ≡ time
 
 -- All records that are expected in the ring stand there, and were added to the index.
 pub record ReadsRecords (r : RingPlace) (e : Expected) (old new : Indexed) (v : View) : Type 0 where
@@ -81,7 +81,7 @@ pub record ReadsIndex (g : Geometry) (h : Head) (index : Indexed) (old : View) :
   pub base_time : index.base_time ≡ h.base_time
   pub offset : index.first_off ≡ h.first_off
   pub end : last_seq index ≡ h.last
-  pub time : last_time index ≡ h.last_time
+  pub time : last_record_time index ≡ h.last_time
   pub read : IsTrue old.tells → (bytes : List ℕ)
       → IsWindow (log_ring g) h.first_off h.end_off bytes old.now.disks
       → AreRecordsRead g.block index.recs bytes

@@ -1,5 +1,6 @@
 -- What each refusal of mounting says of the disks, and what failed.
-use Rattle.std.specs.Prelude.{◌≡◌, ◌≢◌, ◌⊎◌, ℕ, ◌+◌, ◌-◌, ◌<◌, List, slice_index, Some, None, Bool, true, false}
+use Rattle.std.specs.Prelude.{◌≡◌, ◌≢◌, ◌⊎◌, ℕ, ◌+◌, ◌-◌, ◌<◌, List, slice_index, Some, None, Bool}
+use Rattle.std.specs.Prelude.{true, false}
 use Rattle.trap_bank.specs.Faults.{Rose}
 use Rattle.trap_bank.specs.Disks.{Disks, View, size_of}
 use Rattle.trap_cell.specs.Slots.{cell_value}
@@ -15,9 +16,13 @@ use Rattle.trap_scan.specs.Window.{IsWindow}
 use Rattle.trap_stage.specs.Found.{IsDamagedSlot}
 use Rattle.trap_mount.specs.Holding.{head_place, log_ring}
 use Rattle.trap_mount.specs.Creating.{BeginsLog}
-use Rattle.trap_mount.specs.OnDisks.{HasHeader, HasHead, HasSlots, HasRecords, HasMembers, head_history}
+use Rattle.trap_mount.specs.OnDisks.{HasHeader, HasHead, HasSlots, HasRecords, HasMembers}
+use Rattle.trap_mount.specs.OnDisks.{head_history}
 use Rattle.trap_mount.specs.declared.fault.MountFault.{MountFault}
-use Rattle.trap_mount.specs.declared.fault.MountFault.TheVariants.{NotAnArray, BadVersion, WrongMember, TooManyLost, Damaged, LogFault, MemberFault, OutOfMemory}
+use Rattle.trap_mount.specs.declared.fault.MountFault.TheVariants.{NotAnArray, BadVersion}
+use Rattle.trap_mount.specs.declared.fault.MountFault.TheVariants.{WrongMember, TooManyLost}
+use Rattle.trap_mount.specs.declared.fault.MountFault.TheVariants.{Damaged, LogFault, MemberFault}
+use Rattle.trap_mount.specs.declared.fault.MountFault.TheVariants.{OutOfMemory}
 
 -- Below, `disks` are the contents that a bank tells on entry.
 

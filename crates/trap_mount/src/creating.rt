@@ -1,15 +1,19 @@
 //! Making an array: the members first, the log last, its gate last of all.
 
-ghost use Rattle.std.specs.Prelude.{◌≡◌, ◌≢◌, ◌↔◌, ◌≤◌, ◌<◌, ◌^◌, ℕ, ◌+◌, OnOk, OnErr, IsTrue, ◌⊎◌, IsErrOf, IsOk, IfErr, IfSome, IfNone, None, Some};
+ghost use Rattle.std.specs.Prelude.{◌≡◌, ◌≢◌, ◌↔◌, ◌≤◌, ◌<◌, ◌^◌, ℕ, ◌+◌, OnOk, OnErr, IsTrue, ◌⊎◌};
+ghost use Rattle.std.specs.Prelude.{IsErrOf, IsOk, IfErr, IfSome, IfNone, None, Some};
 ghost use Rattle.trap_bank.specs.Faults.{Rose};
 ghost use Rattle.trap_bank.specs.Steps.{Moves, OnlyReads};
 ghost use Rattle.trap_format.specs.LogDisk.{log_size};
 ghost use Rattle.trap_format.specs.MemberDisk.{member_size};
 ghost use Rattle.trap_mount.specs.CreateEnds.{IsMade, IsMaking, KeepsOrder, DisksBeyondStay};
-ghost use Rattle.trap_mount.specs.Creating.{CreateFails, IsLowest, NoneIsThere, AreSized, OnlyDisk, OnlyMembers, HasMember, HasNewMembers, ShutsLog, HasShutLog, MakesLog, HasNewLog};
+ghost use Rattle.trap_mount.specs.Creating.{CreateFails, IsLowest, NoneIsThere, AreSized, OnlyDisk};
+ghost use Rattle.trap_mount.specs.Creating.{OnlyMembers, HasMember, HasNewMembers, ShutsLog};
+ghost use Rattle.trap_mount.specs.Creating.{HasShutLog, MakesLog, HasNewLog};
 ghost use Rattle.trap_mount.specs.declared.fault.CreateFault.TheVariants as fault;
 
 use crate::CreateFault;
+use crate::layout::HEAD_VALUE_BYTES;
 use trap_bank::{Bank, DiskFault, write_through};
 use trap_cell::Cell;
 use trap_format::layout::{CELL_AT, OPEN_GATE};
@@ -122,7 +126,7 @@ fn shut_log<B: Bank>(bank: &mut B, g: &Geometry) -> Result<(), DiskFault>
     ensures cause { OnErr result (Rose ((B.view bank.old).faults 0) ((B.view bank.new).faults 0)) }
     ensures any_moment { Moves (B.view bank.old) (B.view bank.new) ShutsLog ShutsLog }
 {
-    let mut head = [0; 62];
+    let mut head = [0; HEAD_VALUE_BYTES];
     spell_head(&FRESH, &mut head);
     let mut header = [0; 64];
     spell_log(g, &mut header);

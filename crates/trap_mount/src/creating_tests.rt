@@ -5,7 +5,7 @@ ghost use Rattle.std.specs.Prelude.{◌≡◌, ◌<◌};
 use crate::{CreateFault, create};
 use std::test::Fail;
 use trap_bank::MemoryBank;
-use trap_format::layout::SLOTS_AT;
+use trap_format::layout::{OPEN_GATE, SLOTS_AT};
 use trap_model::Geometry;
 
 /// Three members of four rows.
@@ -47,7 +47,7 @@ fn disk(bank: &MemoryBank, d: u8) -> &[u8]
 /// Whether disk 0 is long enough for a log, and begins as one.
 fn begins_log(bank: &MemoryBank) -> bool {
     let log = disk(bank, 0);
-    log.len() as u64 >= SLOTS_AT && log.starts_with(&[0xa5, 0x54, 0x52, 0x50, 0x4c])
+    log.len() as u64 >= SLOTS_AT && log.starts_with(&[OPEN_GATE, 0x54, 0x52, 0x50, 0x4c])
 }
 
 fn is_member(bank: &MemoryBank, member: u8) -> bool

@@ -8,6 +8,7 @@ mod creating_tests;
 mod fault;
 mod found;
 pub mod laws;
+mod layout;
 mod mounting;
 
 pub use buffers::Buffers;

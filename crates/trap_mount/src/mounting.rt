@@ -1,6 +1,7 @@
 //! Mounting: the state is found again, whatever a crash left.
 
-ghost use Rattle.std.specs.Prelude.{◌≡◌, ◌≢◌, ◌↔◌, ◌≤◌, ◌<◌, ℕ, ◌+◌, IsTrue, IsErrOf, IfOk, IfErr, OnOk, OnErr};
+ghost use Rattle.std.specs.Prelude.{◌≡◌, ◌≢◌, ◌↔◌, ◌≤◌, ◌<◌, ℕ, ◌+◌, IsTrue, IsErrOf, IfOk, IfErr};
+ghost use Rattle.std.specs.Prelude.{OnOk, OnErr};
 ghost use Rattle.std.specs.Option.{ForSome};
 ghost use Rattle.trap_bank.specs.Disks.{Quiet};
 ghost use Rattle.trap_bank.specs.Faults.{Rose};
@@ -19,6 +20,7 @@ mod records;
 #[cfg(test)]
 mod tests;
 
+use crate::layout::HEAD_VALUE_BYTES;
 use crate::mounting::history::find_log;
 use crate::mounting::members::find_members;
 use crate::{Found, MountFault};
@@ -50,7 +52,7 @@ fn put_changed<B: Bank>(
     if *head == *found {
         return Ok(());
     }
-    let mut value = [0; 62];
+    let mut value = [0; HEAD_VALUE_BYTES];
     spell_head(head, &mut value);
     // The member that is out, or whose rows no longer count, is recorded before a call relies on
     // it.

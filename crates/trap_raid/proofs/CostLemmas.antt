@@ -1,5 +1,6 @@
 -- How often reads call the bank.
-use Rattle.std.proofs.Common.{◌≡◌, ◌≢◌, ℕ, ◌+◌, ◌≤◌, List, Option, Some, None, Result, Ok, Err, OnOk, sym, subst, ap, ◌∙◌, arith}
+use Rattle.std.proofs.Common.{◌≡◌, ◌≢◌, ℕ, ◌+◌, ◌≤◌, List, Option, Some, None, Result, Ok, Err, OnOk, inl, inr, sym, subst, ap, ◌∙◌, arith}
+use Rattle.std.specs.Prelude.{IfErr}
 use Rattle.std.proofs.lemmas.Result.{on_ok_weaker}
 use Rattle.trap_model.specs.declared.numbers.Geometry.{Geometry}
 use Rattle.trap_bank.specs.Disks.{View}
@@ -9,8 +10,10 @@ use Rattle.trap_bank.proofs.Called.{called_once, not_called, called_then, called
 use Rattle.trap_map.specs.declared.places.Place.{Place}
 use Rattle.trap_map.specs.Layout.{parity_member, block_place}
 use Rattle.trap_stage.specs.Staged.{Staged, newest_at}
-use Rattle.trap_raid.specs.Standing.{calls_for, bare_others, reads_of, plan_reads}
-use Rattle.trap_raid.proofs.StandingLemmas.{reads_pending, reads_own, reads_others, bare_more, bare_same, bare_grows}
+use Rattle.trap_raid.specs.declared.reads.MemberFailed.{MemberFailed}
+use Rattle.trap_raid.specs.Reads.{IsReadFor, StopsPlanAt}
+use Rattle.trap_raid.specs.Standing.{calls_for, bare_others, reads_of, reads_until, plan_reads}
+use Rattle.trap_raid.proofs.StandingLemmas.{reads_pending, reads_own, reads_others, until_own, until_others, bare_more, bare_same, bare_grows}
 
 -- ---- in general
 -- the same number by another name
@@ -69,6 +72,15 @@ module _ (g : Geometry) (writes : List Staged) (row one n : ℕ) (x y : View) (c
       takes_failed (bare_others g writes row one (n + 1)) (bare_others g writes row one members) part result why x z (omega arith) is
       (takes_always (bare_others g writes row one (n + 1)) part x z (others_next z other more))
 
+  -- a member failed, and nothing was read after it
+  pub others_stopped : {U : Type 0} (result : Result U MemberFailed) (failed : MemberFailed) (z : View) → Err failed ≡ result → failed.member ≡ n → newest_at g writes row n ≡ None
+      → CalledTimes (calls_for (newest_at g writes row n)) y z → IfErr result (λ f. CalledTimes (bare_others g writes row one f.member + 1) x z)
+  others_stopped {U} result failed z is at none more =
+      subst (λ (r : Result U MemberFailed). IfErr r (λ f. CalledTimes (bare_others g writes row one f.member + 1) x z)) is
+      (called_are (bare_others g writes row one n + calls_for (newest_at g writes row n)) (bare_others g writes row one failed.member + 1) x z
+      (ap (λ (o : Option (List ℕ)). bare_others g writes row one n + calls_for o) none ∙ ap (λ (k : ℕ). bare_others g writes row one k + 1) (sym at))
+      (called_then (bare_others g writes row one n) (calls_for (newest_at g writes row n)) x y z called more))
+
   pub others_done : {T E : Type 0} (result : Result T E) (members : ℕ) → n ≡ members → TakesCalls (bare_others g writes row one members) result x y
   others_done result members e =
       takes_always (bare_others g writes row one members) result x y
@@ -95,6 +107,20 @@ pub others_calls : {T E : Type 0} (g : Geometry) (lost : Option ℕ) (writes : L
 others_calls g lost writes row member result old new none gone takes =
     takes_are (bare_others g writes row member g.members) (reads_of g lost writes row member) result old new (sym (reads_others g lost writes row member none gone)) takes
 
+-- ---- a read of a place that failed
+pub own_stopped : {T : Type 0} (g : Geometry) (lost : Option ℕ) (writes : List Staged) (row member : ℕ) (result : Result T MemberFailed) (old new : View) → lost ≢ Some member
+    → CalledTimes 1 old new → IfErr result (λ f. CalledTimes (reads_until g lost writes row member f.member) old new)
+own_stopped g lost writes row member (Ok v) old new apart called = tt
+own_stopped g lost writes row member (Err f) old new apart called =
+    called_are 1 (reads_until g lost writes row member f.member) old new (sym (until_own g lost writes row member f.member apart)) called
+
+pub lost_stopped : {T : Type 0} (g : Geometry) (lost : Option ℕ) (writes : List Staged) (row member : ℕ) (result : Result T MemberFailed) (old new : View) → lost ≡ Some member
+    → IfErr result (λ f. CalledTimes (bare_others g writes row member f.member + 1) old new)
+    → IfErr result (λ f. CalledTimes (reads_until g lost writes row member f.member) old new)
+lost_stopped g lost writes row member (Ok v) old new gone called = tt
+lost_stopped g lost writes row member (Err f) old new gone called =
+    called_are (bare_others g writes row member f.member + 1) (reads_until g lost writes row member f.member) old new (sym (until_others g lost writes row member f.member gone)) called
+
 -- ---- the two reads of a plan
 reads_are : (g : Geometry) (lost : Option ℕ) (writes : List Staged) (block : ℕ) (place : Place) (member : ℕ) → place ≡ block_place g block
     → member ≡ parity_member g place.row → reads_of g lost writes place.row place.member + reads_of g lost writes place.row member ≡ plan_reads g lost writes block
@@ -110,6 +136,25 @@ module _ (g : Geometry) (lost : Option ℕ) (writes : List Staged) (block : ℕ)
   plan_failed_first first result why x y is one =
       let sum = reads_are g lost writes block place member is_place is_member in
       takes_failed (reads_of g lost writes place.row place.member) (plan_reads g lost writes block) first result why x y (omega arith) is one
+
+  pub plan_stopped_first : {U : Type 0} (result : Result U MemberFailed) (failed : MemberFailed) (x y : View) → Err failed ≡ result
+      → IsReadFor g lost writes place.row place.member failed.member → CalledTimes (reads_until g lost writes place.row place.member failed.member) x y
+      → IfErr result (λ f. StopsPlanAt g lost writes block x y f.member)
+  plan_stopped_first {U} result failed x y is read called =
+      subst (λ (r : Result U MemberFailed). IfErr r (λ f. StopsPlanAt g lost writes block x y f.member)) is
+      (inl (subst (λ (p : Place). IsReadFor g lost writes p.row p.member failed.member × CalledTimes (reads_until g lost writes p.row p.member failed.member) x y) is_place (read, called)))
+
+  pub plan_stopped_second : {U : Type 0} (result : Result U MemberFailed) (failed : MemberFailed) (x y z : View) → Err failed ≡ result
+      → IsReadFor g lost writes place.row member failed.member → CalledTimes (reads_of g lost writes place.row place.member) x y
+      → CalledTimes (reads_until g lost writes place.row member failed.member) y z → IfErr result (λ f. StopsPlanAt g lost writes block x z f.member)
+  plan_stopped_second {U} result failed x y z is read first second =
+      let P : ℕ → ℕ → ℕ → Type 0 = λ row own other. IsReadFor g lost writes row other failed.member
+      × CalledTimes (reads_of g lost writes row own + reads_until g lost writes row other failed.member) x z in
+      subst (λ (r : Result U MemberFailed). IfErr r (λ f. StopsPlanAt g lost writes block x z f.member)) is
+      (inr (subst (λ (p : Place). P p.row p.member (parity_member g p.row)) is_place (subst (λ (m : ℕ). P place.row place.member m) is_member (
+        read,
+        called_then (reads_of g lost writes place.row place.member) (reads_until g lost writes place.row member failed.member) x y z first second,
+      ))))
 
   -- so did the second, or neither did
   pub plan_both : {T E : Type 0} (second : Result T E) (x y z : View) → CalledTimes (reads_of g lost writes place.row place.member) x y

@@ -1,14 +1,14 @@
 -- What a drain's writes do to the members' places.
-use Rattle.std.proofs.Common.{◌≡◌, ℕ, ◌+◌, ◌-◌, ◌*◌, ◌/◌, ◌<◌, ◌≤◌, List, [], ◌∷◌, ◌++◌, Option, Some, None, inl, inr, refl, sym, ap, subst, ◌∙◌, arith}
+use Rattle.std.proofs.Common.{◌≡◌, ℕ, ◌+◌, ◌-◌, ◌*◌, ◌<◌, ◌≤◌, List, [], ◌∷◌, ◌++◌, Option, Some, None, inl, inr, refl, sym, ap, subst, ◌∙◌, arith}
 use Rattle.std.specs.Option.{option_or}
 use Rattle.std.proofs.lemmas.Bool.{cases_eq}
 use Rattle.trap_model.specs.Image.{volume}
 use Rattle.trap_model.specs.declared.numbers.Geometry.{Geometry}
 use Rattle.trap_bank.specs.Disks.{Disks, Differs}
 use Rattle.trap_bank.proofs.Regions.{region_apart, differs_mono, differs_again}
+use Rattle.trap_map.proofs.TableLemmas.{parity_member-lt}
 use Rattle.trap_format.specs.MemberDisk.{row_at}
 use Rattle.trap_map.specs.Layout.{parity_member, block_place}
-use Rattle.trap_map.proofs.LeftLemmas.{parity_in-lt}
 use Rattle.trap_map.proofs.PlaceLemmas.{member_within, row_of-within, block_is_not_parity}
 use Rattle.trap_stage.proofs.Overlays.{staged_at_block, staged_at_parity, staged_at_other, staged_at_row, newest_at-append}
 use Rattle.trap_stage.specs.Staged.{Staged, staged_at, newest_at}
@@ -115,9 +115,6 @@ drains_none g lost rebuilt x = record {
 }
 
 -- ---- one write's two places
-parity_member-lt : (g : Geometry) (row : ℕ) → parity_member g row < g.members
-parity_member-lt g row = parity_in-lt g.members (row / g.chunk) (omega arith)
-
 -- its block's place is covered
 pub block_covered : (g : Geometry) (staged : Staged) (e i : ℕ) → staged.block < volume g → place_area g (block_place g staged.block).row
     (block_place g staged.block).member e i → Covered g (staged ∷ []) e i

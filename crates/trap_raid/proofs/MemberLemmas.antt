@@ -3,6 +3,7 @@ use Rattle.std.proofs.Common.{◌≡◌, ◌≢◌, ℕ, ◌+◌, ◌<◌, List,
 use Rattle.std.specs.Prelude.{slice_set}
 use Rattle.std.specs.Option.{unwrap_or}
 use Rattle.std.proofs.lemmas.Bool.{cases_eq}
+use Rattle.std.proofs.lemmas.Option.{same_Some}
 use Rattle.trap_model.specs.Image.{volume, IsImage}
 use Rattle.trap_model.specs.declared.numbers.Geometry.{Geometry}
 use Rattle.trap_bank.specs.Disks.{Disks, Contents, View, Area, Differs, region, size_of}
@@ -152,9 +153,6 @@ stand_for g lost rebuilt writes before image x holds is_image are after there =
 abbrev pub NoneOutBut : Geometry → Option ℕ → Disks → ℕ → Type 0
 NoneOutBut g lost x m = (k : ℕ) → k < g.members → IsOut lost x k → k ≡ m
 
-some_same : (a b : ℕ) → Some a ≡ Some b → a ≡ b
-some_same a b e = cc
-
 -- a member is recorded lost, with nothing rebuilt
 pub lost_members : (g : Geometry) (lost : Option ℕ) (rebuilt : ℕ) (writes : List Staged) (image : List (List ℕ)) (x : Disks) (m : ℕ)
     → MembersHold g lost rebuilt writes image x → NoneOutBut g lost x m → MembersHold g (Some m) 0 writes image x
@@ -169,7 +167,7 @@ lost_members g lost rebuilt writes image x m holds none = record {
 }
   where
     only_it : (k : ℕ) → k < g.members → IsOut (Some m) x k → k ≡ m
-    only_it k inside out = ⊎_elim (λ same. sym (some_same m k same)) (λ absent. none k inside (inr absent)) out
+    only_it k inside out = ⊎_elim (λ same. sym (same_Some m k same)) (λ absent. none k inside (inr absent)) out
 
     no_row : (row : ℕ) → row < 0 → ⊥
     no_row row h = omega arith

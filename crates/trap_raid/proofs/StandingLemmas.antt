@@ -10,7 +10,7 @@ use Rattle.trap_map.specs.Layout.{parity_member, block_place}
 use Rattle.trap_stage.specs.Staged.{Staged, newest_at, laid_over}
 use Rattle.trap_raid.specs.Members.{member_place}
 use Rattle.trap_raid.specs.Plan.{IsPlanFrom}
-use Rattle.trap_raid.specs.Standing.{is_lost, standing_at, calls_for, bare_others, reads_of}
+use Rattle.trap_raid.specs.Standing.{is_lost, standing_at, calls_for, bare_others, reads_of, reads_until}
 
 -- ---- whether the member is lost
 lost_is : (lost : Option ℕ) (member : ℕ) → lost ≡ Some member → is_lost lost member ≡ true
@@ -86,6 +86,16 @@ reads_others g lost writes row member none gone =
     let many = if is_lost lost member then bare_others g writes row member g.members else 1 in
     ap (λ (o : Option (List ℕ)). calls_for o * many) none ∙ one_times many
     ∙ ap (λ (b : Bool). if b then bare_others g writes row member g.members else 1) (lost_is lost member gone)
+
+-- ---- how many up to a failure
+pub until_own : (g : Geometry) (lost : Option ℕ) (writes : List Staged) (row member failed : ℕ) → lost ≢ Some member → reads_until g lost writes row member failed ≡ 1
+until_own g lost writes row member failed apart =
+    ap (λ (b : Bool). if b then bare_others g writes row member failed + 1 else 1) (apart_is lost member apart)
+
+pub until_others : (g : Geometry) (lost : Option ℕ) (writes : List Staged) (row member failed : ℕ) → lost ≡ Some member
+    → reads_until g lost writes row member failed ≡ bare_others g writes row member failed + 1
+until_others g lost writes row member failed gone =
+    ap (λ (b : Bool). if b then bare_others g writes row member failed + 1 else 1) (lost_is lost member gone)
 
 -- ---- the others of a row
 bare_here : (g : Geometry) (writes : List Staged) (row one n : ℕ) → n ≡ one → bare_others g writes row one (suc n) ≡ bare_others g writes row one n + 0

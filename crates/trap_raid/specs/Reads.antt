@@ -2,10 +2,12 @@
 use Rattle.std.specs.Prelude.{◌≡◌, ◌≢◌, ◌⊎◌, ℕ, ◌+◌, ◌<◌, List, Option, Some, None}
 use Rattle.trap_model.specs.declared.numbers.Geometry.{Geometry}
 use Rattle.trap_bank.specs.Disks.{View}
+use Rattle.trap_bank.specs.Called.{CalledTimes}
 use Rattle.trap_bank.specs.Faults.{Rose}
 pub use Rattle.trap_bank.specs.Steps.{OnlyReads}
 use Rattle.trap_map.specs.Layout.{parity_member, block_place}
 use Rattle.trap_stage.specs.Staged.{Staged, newest_at}
+use Rattle.trap_raid.specs.Standing.{reads_of, reads_until}
 
 -- the member is one of the array and not the lost one, and the count of its disk rose
 pub record FailedMember (g : Geometry) (lost : Option ℕ) (old new : View) (member : ℕ)
@@ -31,3 +33,15 @@ IsReadForBlock g lost writes block m =
     let place = block_place g block in
     IsReadFor g lost writes place.row place.member m
     ⊎ IsReadFor g lost writes place.row (parity_member g place.row) m
+
+-- The calls of a plan in which the member failed: those for the block's place up to it, or all of
+-- those and then the ones for the parity of its row up to it.
+abbrev pub StopsPlanAt : Geometry → Option ℕ → List Staged → ℕ → View → View → ℕ → Type 0
+StopsPlanAt g lost writes block old new failed =
+    let place = block_place g block in
+    let parity = parity_member g place.row in
+    (IsReadFor g lost writes place.row place.member failed
+    × CalledTimes (reads_until g lost writes place.row place.member failed) old new)
+    ⊎ (IsReadFor g lost writes place.row parity failed
+    × CalledTimes (reads_of g lost writes place.row place.member
+    + reads_until g lost writes place.row parity failed) old new)

@@ -1,5 +1,6 @@
 -- What stands at a place, and how many places are read for it.
-use Rattle.std.specs.Prelude.{ℕ, ◌+◌, ◌*◌, zero, suc, List, Option, Some, None, Bool, false, unwrap_or, ◌==◌, if◌then◌else◌}
+use Rattle.std.specs.Prelude.{ℕ, ◌+◌, ◌*◌, zero, suc, List, Option, Some, None, Bool, false}
+use Rattle.std.specs.Prelude.{unwrap_or, ◌==◌, if◌then◌else◌}
 use Rattle.trap_model.specs.declared.numbers.Geometry.{Geometry}
 use Rattle.trap_block.specs.Xor.{xor_but}
 use Rattle.trap_map.specs.Layout.{parity_member, block_place}
@@ -34,6 +35,12 @@ bare_others g writes row one (suc m) =
 abbrev pub reads_of : Geometry → Option ℕ → List Staged → ℕ → ℕ → ℕ
 reads_of g lost writes row member = calls_for (newest_at g writes row member)
     * (if is_lost lost member then bare_others g writes row member g.members else 1)
+
+-- How many are read for one where a member failed: itself alone, or where its member is lost, the
+-- failed one and those below it.
+abbrev pub reads_until : Geometry → Option ℕ → List Staged → ℕ → ℕ → ℕ → ℕ
+reads_until g lost writes row member failed =
+    if is_lost lost member then bare_others g writes row member failed + 1 else 1
 
 -- how many are read for a block's place and for the parity of its row
 abbrev pub plan_reads : Geometry → Option ℕ → List Staged → ℕ → ℕ

@@ -1,19 +1,22 @@
 //! The members of an array, of which one may be lost.
 
-ghost use Rattle.std.specs.Prelude.{◌≡◌, ◌<◌, ◌≤◌, ℕ, List, [], ◌∷◌, Option, Some, None, IsTrue, OnOk, IfErr};
+ghost use Rattle.std.specs.Prelude.{◌≡◌, ◌<◌, ◌≤◌, ℕ, List, [], ◌∷◌, Option, Some, None, IsTrue};
+ghost use Rattle.std.specs.Prelude.{OnOk, IfErr};
 ghost use Rattle.std.specs.Option.{ForSome};
 ghost use Rattle.trap_model.specs.Image.{volume};
 ghost use Rattle.trap_map.specs.Table.{table};
-ghost use Rattle.trap_bank.specs.Called.{TakesCalls};
+ghost use Rattle.trap_bank.specs.Called.{CalledTimes, TakesCalls};
 ghost use Rattle.trap_bank.specs.Disks.{Differs, Torn};
 ghost use Rattle.trap_bank.specs.Steps.{Moves};
 ghost use Rattle.trap_model.specs.Image.{IsImage};
 ghost use Rattle.trap_pool.specs.Frames.{AreLeases, Only};
 ghost use Rattle.trap_pool.specs.Pooled.{pool_block};
-ghost use Rattle.trap_raid.specs.Members.{Counts, IsPlace, PlaceFits, BlockFits, DrainFits, HoldImage, member_place};
+ghost use Rattle.trap_raid.specs.Members.{Counts, IsPlace, PlaceFits, BlockFits, DrainFits};
+ghost use Rattle.trap_raid.specs.Members.{HoldImage, member_place};
 ghost use Rattle.trap_raid.specs.Draining.{writes_to, Drains, InDrained, IsDrainedTo, drain_calls};
 ghost use Rattle.trap_raid.specs.Reads.{OnlyReads, FailedMember, IsReadFor, IsReadForBlock};
-ghost use Rattle.trap_raid.specs.Standing.{standing_at, reads_of, plan_reads};
+ghost use Rattle.trap_raid.specs.Reads.{StopsPlanAt};
+ghost use Rattle.trap_raid.specs.Standing.{standing_at, reads_of, reads_until, plan_reads};
 ghost use Rattle.trap_raid.specs.Plan.{IsPlan, IsPlanFrom};
 
 use crate::MemberFailed;
@@ -120,6 +123,11 @@ impl Raid {
             (reads_of self.now.g self.now.lost stage.now.pending place.row place.member)
             result (B.view bank.old) (B.view bank.new) }
 
+        // Nothing is read after a failure.
+        ensures failed_calls { IfErr result (λ failed. CalledTimes
+            (reads_until self.now.g self.now.lost stage.now.pending place.row place.member
+            failed.member) (B.view bank.old) (B.view bank.new)) }
+
         // Stopped at any moment, the disks are as they were.
         ensures any_moment { OnlyReads (B.view bank.old) (B.view bank.new) }
     {
@@ -176,6 +184,11 @@ impl Raid {
             IsReadForBlock self.now.g self.now.lost stage.now.pending block failed.member) }
         ensures calls { TakesCalls (plan_reads self.now.g self.now.lost stage.now.pending block)
             result (B.view bank.old) (B.view bank.new) }
+
+        // Nothing is read after a failure.
+        ensures failed_calls { IfErr result (λ failed.
+            StopsPlanAt self.now.g self.now.lost stage.now.pending block
+            (B.view bank.old) (B.view bank.new) failed.member) }
 
         // Stopped at any moment, the disks are as they were.
         ensures any_moment { OnlyReads (B.view bank.old) (B.view bank.new) }

@@ -1,6 +1,7 @@
 //! What stands at a place, from the pending writes and the members' disks.
 
-ghost use Rattle.std.specs.Prelude.{◌≡◌, ◌≢◌, ℕ, ◌<◌, [], ◌∷◌, Option, Some, None, length, IsTrue, OnOk, IfErr};
+ghost use Rattle.std.specs.Prelude.{◌≡◌, ◌≢◌, ℕ, ◌+◌, ◌<◌, [], ◌∷◌, Option, Some, None, length};
+ghost use Rattle.std.specs.Prelude.{IsTrue, OnOk, IfErr};
 ghost use Rattle.trap_bank.specs.Called.{CalledTimes, TakesCalls};
 ghost use Rattle.trap_block.specs.Xor.{xor_but};
 ghost use Rattle.trap_pool.specs.Frames.{AreLeases, Only};
@@ -114,6 +115,9 @@ pub(crate) fn read_others<B: Bank>(
     ensures calls { TakesCalls
         (bare_others g.now stage.now.pending place.row place.member g.now.members)
         result (B.view bank.old) (B.view bank.new) }
+    ensures failed_calls { IfErr result (λ failed. CalledTimes
+        (bare_others g.now stage.now.pending place.row place.member failed.member + 1)
+        (B.view bank.old) (B.view bank.new)) }
     ensures any_moment { OnlyReads (B.view bank.old) (B.view bank.new) }
 {
     pool.bytes_mut(into).fill(0);

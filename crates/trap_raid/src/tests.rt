@@ -1,4 +1,7 @@
-ghost use Rattle.std.specs.Prelude.{◌≡◌, ◌≢◌, ◌+◌, ◌*◌, ◌<◌, ◌≤◌, [], ◌∷◌, Some, length, IsTrue, IfOk};
+//! Reads, plans and drains over a bank in memory, each member lost in turn.
+
+ghost use Rattle.std.specs.Prelude.{◌≡◌, ◌≢◌, ◌+◌, ◌*◌, ◌<◌, ◌≤◌, [], ◌∷◌, Some, length, IsTrue};
+ghost use Rattle.std.specs.Prelude.{IfOk};
 ghost use Rattle.trap_format.specs.LogDisk.{ring_at};
 ghost use Rattle.std.specs.Option.{ForSome};
 ghost use Rattle.trap_bank.specs.Calls.{Fits};
@@ -12,6 +15,7 @@ use std::alloc::Global;
 use std::process::Abort;
 use std::test::Fail;
 use trap_bank::{Bank, Failed, MemoryBank};
+use trap_format::layout::{SLOT_NUMBERS_BYTES, SLOTS_AT};
 use trap_map::Place;
 use trap_model::Geometry;
 use trap_pool::Pool;
@@ -135,7 +139,7 @@ fn make_member<B: Bank>(
 pub(crate) fn ring_start(g: &Geometry) -> u64
     ensures { result ≡ ring_at g.now }
 {
-    192 + u64::from(g.slots) * (12 + 2 * u64::from(g.block))
+    SLOTS_AT + u64::from(g.slots) * (SLOT_NUMBERS_BYTES + 2 * u64::from(g.block))
 }
 
 /// Mounts the slots of numbers that are all drained: nothing is pending.

@@ -1,12 +1,14 @@
 //! Writes of the members' places.
 
-ghost use Rattle.std.specs.Prelude.{◌≡◌, ◌↔◌, ◌<◌, ℕ, List, [], ◌∷◌, None, length, IsTrue, OnOk, IfErr};
+ghost use Rattle.std.specs.Prelude.{◌≡◌, ◌↔◌, ◌<◌, ℕ, List, [], ◌∷◌, None, length, IsTrue, OnOk};
+ghost use Rattle.std.specs.Prelude.{IfErr};
 ghost use Rattle.trap_bank.specs.Called.{TakesCalls};
 ghost use Rattle.trap_bank.specs.Disks.{Differs, Torn};
 ghost use Rattle.trap_bank.specs.Steps.{Moves};
 ghost use Rattle.trap_model.specs.Image.{volume};
 ghost use Rattle.trap_raid.specs.Members.{IsPlace, Counts, RowFits, DrainFits};
-ghost use Rattle.trap_raid.specs.Draining.{Drains, InDrained, InCounted, IsDrainedTo, PlaceWritten, place_calls, write_calls};
+ghost use Rattle.trap_raid.specs.Draining.{Drains, InDrained, InCounted, IsDrainedTo, PlaceWritten};
+ghost use Rattle.trap_raid.specs.Draining.{place_calls, write_calls};
 ghost use Rattle.trap_raid.specs.Reads.{FailedMember};
 
 use crate::MemberFailed;

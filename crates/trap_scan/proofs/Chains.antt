@@ -1,7 +1,7 @@
 -- Records one after the other: what is known once the first ones are taken.
 use Rattle.std.proofs.Common.{◌≡◌, ℕ, suc, ◌+◌, ◌-◌, ◌<◌, ◌≤◌, List, ◌++◌, length, IsTrue, refl, sym, ◌∙◌, ap, subst, inl, inr, arith, length-append}
 use Rattle.trap_bank.specs.Disks.{Disks, View}
-use Rattle.trap_bank.proofs.OnlyReads.{reads_none, reads_then}
+use Rattle.trap_bank.proofs.OnlyReads.{reads_none, reads_then, told_after, disks_same}
 use Rattle.trap_bank.specs.Steps.{OnlyReads}
 use Rattle.trap_model.specs.declared.log_record.LogRec.{LogRec}
 use Rattle.trap_ring.specs.Ring.{RingPlace, RingHas}
@@ -82,13 +82,6 @@ scanned_none place v s loaded = record {
   reaches = λ told bytes ahead. record { rest = bytes; ahead = ahead; leads = leads_none (history_of s.expected) s.seq s.time (s.expected.last - s.seq) bytes };
 }
 
--- the disks of a bank that was read at most
-looked_disks : (a b : View) → OnlyReads a b → IsTrue a.tells → b.now.disks ≡ a.now.disks
-looked_disks a b looks told = ap (λ c. c.disks) (looks.same told)
-
-told_then : (a b : View) → OnlyReads a b → IsTrue a.tells → IsTrue b.tells
-told_then a b looks told = subst IsTrue (sym looks.moves.tells) told
-
 -- one more record is taken
 pub scanned_next : (place : RingPlace) (a b c : View) (old mid new : Scan) (r : LogRec) → Scanned place a b old mid → mid.seq < mid.expected.last → OnlyReads b c
     → new.expected ≡ mid.expected → TakesNext mid new r → (IsTrue b.tells → IsLoaded place new.window b.now.disks) → (IsTrue b.tells → GivesNext place mid new b.now.disks r)
@@ -97,14 +90,14 @@ scanned_next place a b c old mid new r before more looks expected takes loaded g
   expected = expected ∙ before.expected;
   at = (let first = before.at in let second = takes.at in omega arith);
   looks = reads_then a b c before.looks looks;
-  loaded = λ told. subst (λ (d : Disks). IsLoaded place new.window d) (looked_disks a b before.looks told) (loaded (told_then a b before.looks told));
+  loaded = λ told. subst (λ (d : Disks). IsLoaded place new.window d) (disks_same a b before.looks told) (loaded (told_after a b before.looks told));
   reaches = λ told bytes ahead. reached told bytes (before.reaches told bytes ahead);
 }
   where
     reached : IsTrue a.tells → (bytes : List ℕ) → Reaches place a.now.disks old mid bytes → Reaches place a.now.disks old new bytes
     reached told bytes reaches =
-        let same = looked_disks a b before.looks told in
-        let next = gives (told_then a b before.looks told) reaches.rest (subst (λ (d : Disks). IsAhead place mid.window reaches.rest d) (sym same) reaches.ahead) in
+        let same = disks_same a b before.looks told in
+        let next = gives (told_after a b before.looks told) reaches.rest (subst (λ (d : Disks). IsAhead place mid.window reaches.rest d) (sym same) reaches.ahead) in
         let h = history_of old.expected in
         let last = ap (λ e. e.last) before.expected in
         let number = takes.number in
@@ -137,8 +130,8 @@ scanned_all place a b old new scanned done told bytes ahead =
 pub scanned_broken : (place : RingPlace) (a b : View) (old mid : Scan) (at : ℕ) → Scanned place a b old mid → mid.seq < mid.expected.last → IsTrue a.tells
     → (IsTrue b.tells → IsDamagedRecord place mid b.now.disks at) → (bytes : List ℕ) → IsAhead place old.window bytes a.now.disks → BreaksAhead old bytes at
 scanned_broken place a b old mid at scanned more told damaged bytes ahead =
-    let same = looked_disks a b scanned.looks told in
-    let is = damaged (told_then a b scanned.looks told) in
+    let same = disks_same a b scanned.looks told in
+    let is = damaged (told_after a b scanned.looks told) in
     let here = is.place_is in
     let reaches = scanned.reaches told bytes ahead in
     let short = reaches.leads.shorter in
@@ -158,7 +151,7 @@ scanned_broken place a b old mid at scanned more told damaged bytes ahead =
     subst (λ (n : ℕ). IsBroken h mid.seq mid.time n reaches.rest 0) count (inl (refl, none)) in
     let place_is : 0 + (length bytes - length reaches.rest) ≡ at - old.window.at = omega arith in
     record {
-      behind = omega arith;
+      least = omega arith;
       broken = subst (λ (n : ℕ). IsBroken h old.seq old.time (old.expected.last - old.seq) bytes n) place_is (reaches.leads.broken 0 broken);
     }
 
@@ -176,9 +169,9 @@ breaks_first place e s bytes disks at first window breaks =
     let end = ap (λ q. q.end_off) first.expected in
     let long = window.long in
     let is = breaks (record { long = omega arith; there = subst (λ (n : ℕ). RingHas place n bytes disks) (sym first.at) window.there }) in
-    let behind = is.behind in
+    let least = is.least in
     record {
-      behind = omega arith;
+      least = omega arith;
       broken =
           subst (λ (n : ℕ). IsBroken (history_of e) e.first e.base_time (e.last - e.first) bytes (at - n)) first.at
           (subst (λ (n : ℕ). IsBroken (history_of e) n e.base_time (e.last - n) bytes (at - s.window.at)) first.seq

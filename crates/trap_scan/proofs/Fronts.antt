@@ -1,6 +1,6 @@
 -- What stands at the front of bytes, from what stands at the front of the first of them.
 use Rattle.std.proofs.Common.{◌≡◌, ℕ, ◌+◌, ◌-◌, ◌^◌, ◌<◌, ◌≤◌, Bool, true, false, None, List, ◌++◌, length, take, drop, slice_range, vec_len, sym, ◌∙◌, ap, subst, inl, inr, ⊎_elim, min, arith, append-nil, length-append, length-take, length-drop, take-append-drop}
-use Rattle.std.proofs.lemmas.List.{ext_get_or, drop-take, drop-drop, get_or-take, length-take-le, take-append-le, drop-append-le, drop_all}
+use Rattle.std.proofs.lemmas.List.{ext_get_or, get_or-take, length-take-le, take-append-le, drop-append-le, drop_all}
 use Rattle.std.proofs.lemmas.Bool.{cases_lt}
 use Rattle.trap_bank.specs.Disks.{Disks}
 use Rattle.trap_model.specs.declared.log_record.LogRec.{LogRec}
@@ -12,7 +12,7 @@ use Rattle.trap_record.specs.Reading.{BeginsWith, record_len, parity_of, snapsho
 use Rattle.trap_record.proofs.Getting.{Reads-one, Reads-again}
 use Rattle.trap_ring.specs.Ring.{RingPlace, RingHas}
 use Rattle.trap_scan.specs.declared.window.Window.{Window}
-use Rattle.trap_scan.specs.Window.{pending, SamePlace, IsLoaded, HasRoom, IsAhead, IsFront, IsWholeRecord}
+use Rattle.trap_scan.specs.Window.{in_buffer, SamePlace, IsLoaded, HasBuffer, IsAhead, IsFront, IsWholeRecord}
 
 -- bytes of a ring from one offset on begin one another
 pub ring_front : (r : RingPlace) (at : ℕ) (front bytes : List ℕ) (disks : Disks) → RingHas r at front disks → RingHas r at bytes disks → length front ≤ length bytes
@@ -120,65 +120,57 @@ short_most size bytes long (inr (r, begins, few)) =
     let snapshot = snapshot_most size r.snap r.slen begins.ranges.snapshot in
     omega arith
 
-pub length_pending : (w : Window) → length (pending w) ≡ w.to - w.from
-length_pending w =
+pub length_in_buffer : (w : Window) → length (in_buffer w) ≡ w.to - w.from
+length_in_buffer w =
     let ordered = w.ordered in
     let within = w.within in
     let all = w.buf.ok.0 in
     length-take (w.to - w.from) (drop w.from w.buf.items) ∙ (let len = length-drop w.from w.buf.items in omega arith)
 
 -- the bytes in the buffer begin those ahead
-pub pending_front : (r : RingPlace) (w : Window) (bytes : List ℕ) (disks : Disks) → IsLoaded r w disks → IsAhead r w bytes disks
-    → bytes ≡ pending w ++ drop (length (pending w)) bytes
-pending_front r w bytes disks loaded ahead =
-    let len = length_pending w in
+pub buffer_front : (r : RingPlace) (w : Window) (bytes : List ℕ) (disks : Disks) → IsLoaded r w disks → IsAhead r w bytes disks
+    → bytes ≡ in_buffer w ++ drop (length (in_buffer w)) bytes
+buffer_front r w bytes disks loaded ahead =
+    let len = length_in_buffer w in
     let before = w.before_end in
     let long = ahead.long in
-    ring_front r w.at (pending w) bytes disks loaded ahead.there (omega arith)
+    ring_front r w.at (in_buffer w) bytes disks loaded ahead.there (omega arith)
 
 -- the record that begins the bytes in the buffer begins those ahead
-pub found_whole : (size : ℕ) (rec : LogRec) (used : ℕ) (r : RingPlace) (w : Window) (bytes : List ℕ) (disks : Disks) → IsWhole size rec used (pending w)
+pub found_whole : (size : ℕ) (rec : LogRec) (used : ℕ) (r : RingPlace) (w : Window) (bytes : List ℕ) (disks : Disks) → IsWhole size rec used (in_buffer w)
     → IsLoaded r w disks → IsAhead r w bytes disks → IsWhole size rec used bytes
 found_whole size rec used r w bytes disks whole loaded ahead =
-    subst (λ (l : List ℕ). IsWhole size rec used l) (sym (pending_front r w bytes disks loaded ahead))
-    (whole_more size rec used (pending w) (drop (length (pending w)) bytes) whole)
+    subst (λ (l : List ℕ). IsWhole size rec used l) (sym (buffer_front r w bytes disks loaded ahead))
+    (whole_more size rec used (in_buffer w) (drop (length (in_buffer w)) bytes) whole)
 
 -- where they are refused, no record begins those ahead
-pub found_bad : (size at : ℕ) (r : RingPlace) (w : Window) (bytes : List ℕ) (disks : Disks) → size ≤ 4096 → Reads size (pending w) (Bad at)
+pub found_bad : (size at : ℕ) (r : RingPlace) (w : Window) (bytes : List ℕ) (disks : Disks) → size ≤ 4096 → Reads size (in_buffer w) (Bad at)
     → IsLoaded r w disks → IsAhead r w bytes disks → IsFront size bytes None
 found_bad size at r w bytes disks small bad loaded ahead =
-    subst (λ (l : List ℕ). IsFront size l None) (sym (pending_front r w bytes disks loaded ahead))
-    (none_bad size at (pending w) (drop (length (pending w)) bytes) (omega arith) bad)
+    subst (λ (l : List ℕ). IsFront size l None) (sym (buffer_front r w bytes disks loaded ahead))
+    (none_bad size at (in_buffer w) (drop (length (in_buffer w)) bytes) (omega arith) bad)
 
 -- nor does one where they are too few and all that there are
-pub found_end : (size : ℕ) (r : RingPlace) (w : Window) (bytes : List ℕ) (disks : Disks) → size ≤ 4096 → IsShort size (pending w) → w.at + (w.to - w.from) ≡ w.end
+pub found_end : (size : ℕ) (r : RingPlace) (w : Window) (bytes : List ℕ) (disks : Disks) → size ≤ 4096 → IsShort size (in_buffer w) → w.at + (w.to - w.from) ≡ w.end
     → IsLoaded r w disks → IsAhead r w bytes disks → IsFront size bytes None
 found_end size r w bytes disks small short all loaded ahead =
-    let len = length_pending w in
+    let len = length_in_buffer w in
     let long = ahead.long in
-    let same : bytes ≡ pending w =
-    pending_front r w bytes disks loaded ahead ∙ ap (λ (l : List ℕ). pending w ++ l) (drop_all (length (pending w)) bytes (omega arith)) ∙ append-nil (pending w) in
-    subst (λ (l : List ℕ). IsFront size l None) (sym same) (none_short size (pending w) (omega arith) short)
+    let same : bytes ≡ in_buffer w =
+    buffer_front r w bytes disks loaded ahead ∙ ap (λ (l : List ℕ). in_buffer w ++ l) (drop_all (length (in_buffer w)) bytes (omega arith)) ∙ append-nil (in_buffer w) in
+    subst (λ (l : List ℕ). IsFront size l None) (sym same) (none_short size (in_buffer w) (omega arith) short)
 
 -- nor does one where they are too few though the buffer is full
-pub found_short : (size : ℕ) (r : RingPlace) (w : Window) (bytes : List ℕ) (disks : Disks) → size ≤ 4096 → HasRoom size w → IsShort size (pending w)
+pub found_short : (size : ℕ) (r : RingPlace) (w : Window) (bytes : List ℕ) (disks : Disks) → size ≤ 4096 → HasBuffer size w → IsShort size (in_buffer w)
     → w.to - w.from ≡ min (w.end - w.at) (vec_len w.buf) → IsLoaded r w disks → IsAhead r w bytes disks → IsFront size bytes None
 found_short size r w bytes disks small room short full loaded ahead =
-    let len = length_pending w in
+    let len = length_in_buffer w in
     let long = ahead.long in
     let before = w.before_end in
     ⊎_elim
-    (λ (part : w.at + (w.to - w.from) < w.end). absurd (short_most size (pending w) (omega arith) short))
+    (λ (part : w.at + (w.to - w.from) < w.end). absurd (short_most size (in_buffer w) (omega arith) short))
     (λ (all : w.end ≤ w.at + (w.to - w.from)). found_end size r w bytes disks small short (omega arith) loaded ahead)
     (cases_lt (w.at + (w.to - w.from)) w.end)
-
--- a range of a list that begins later
-pub window_drop : (xs : List ℕ) (at end count : ℕ) → count ≤ end - at
-    → take (end - (at + count)) (drop (at + count) xs) ≡ drop count (take (end - at) (drop at xs))
-window_drop xs at end count within =
-    let parts : count + (end - (at + count)) ≡ end - at = omega arith in
-    sym (ap (λ (n : ℕ). drop count (take n (drop at xs))) (sym parts) ∙ drop-take count (end - (at + count)) (drop at xs)
-    ∙ ap (take (end - (at + count))) (drop-drop count at xs))
 
 -- the same bytes are ahead of two windows of one place
 pub ahead_again : (r : RingPlace) (old new : Window) (bytes : List ℕ) (disks : Disks) → SamePlace old new → IsAhead r old bytes disks → IsAhead r new bytes disks
@@ -188,11 +180,11 @@ ahead_again r old new bytes disks same ahead = record {
 }
 
 -- and both have room
-pub room_again : (size : ℕ) (old new : Window) → SamePlace old new → HasRoom size old → HasRoom size new
+pub room_again : (size : ℕ) (old new : Window) → SamePlace old new → HasBuffer size old → HasBuffer size new
 room_again size old new same room = let at = same.at in let end = same.end in let len = same.room in omega arith
 
 -- a record that stands whole isn't too short
-pub held_not_short : (size : ℕ) (w : Window) → size ≤ 4096 → IsWholeRecord size w → IsShort size (pending w) → ⊥
+pub held_not_short : (size : ℕ) (w : Window) → size ≤ 4096 → IsWholeRecord size w → IsShort size (in_buffer w) → ⊥
 held_not_short size w small held short =
-    let other = Reads-one size (pending w) (Whole held.rec held.len) Short (omega arith) held.whole short in
+    let other = Reads-one size (in_buffer w) (Whole held.rec held.len) Short (omega arith) held.whole short in
     cc

@@ -2,6 +2,7 @@
 use Rattle.std.proofs.Common.{◌≡◌, ℕ, ◌+◌, ◌^◌, ◌<◌, ◌≤◌, List, [], ◌∷◌, length, refl, sym, ◌∙◌, arith}
 use Rattle.std.specs.Prelude.{All}
 use Rattle.std.proofs.lemmas.List.Elements.{All-head, All-tail}
+use Rattle.trap_model.proofs.Adding.{time_rises}
 use Rattle.trap_model.specs.declared.numbers.Geometry.{Geometry}
 use Rattle.trap_model.specs.declared.history.Entry.{Entry}
 use Rattle.trap_model.specs.declared.history.State.{State}
@@ -15,11 +16,6 @@ use Rattle.trap_scan.specs.Chain.{History, AreRecords}
 -- the history of an array's entries, whose last one has this time
 abbrev pub history_at : Geometry → ℕ → History
 history_at g time = record { size = g.block; volume = volume g; last_time = time }
-
--- times that never fall end at no earlier one
-time_rises : (before : ℕ) (entries : List Entry) → NeverFall before entries → before ≤ time_after before entries
-time_rises before [] rise = omega arith
-time_rises before (entry ∷ later) rise = let low = rise.0 in let high = time_rises entry.time later rise.1 in omega arith
 
 -- nothing stands after the last record, and its time is the last one
 ends_here : (image : List (List ℕ)) (q time : ℕ) (later : List Entry) → length later ≡ 0 → (records_from image q later ≡ []) × (time ≡ time_after time later)

@@ -10,7 +10,7 @@ use Rattle.trap_ring.specs.Ring.{RingPlace, RingHas, ring_byte}
 use Rattle.trap_scan.specs.declared.scan.Scan.{Scan}
 use Rattle.trap_scan.specs.declared.window.Front.{Front}
 use Rattle.trap_scan.specs.declared.window.Window.{Window}
-use Rattle.trap_scan.specs.Window.{pending, SamePlace, PassesOver, IsLoaded, IsAhead}
+use Rattle.trap_scan.specs.Window.{in_buffer, SamePlace, PassesOver, IsLoaded, IsAhead}
 use Rattle.trap_scan.specs.Scan.{MayFollow, ComesNext}
 
 -- a test that failed
@@ -31,8 +31,8 @@ ring_after r at len bytes disks has k below =
 -- what is loaded stays so
 pub loaded_after : (r : RingPlace) (len : ℕ) (old new : Window) (disks : Disks) → IsLoaded r old disks → PassesOver len old new → IsLoaded r new disks
 loaded_after r len old new disks loaded over =
-    subst (λ (n : ℕ). RingHas r n (pending new) disks) (sym over.at)
-    (subst (λ (l : List ℕ). RingHas r (old.at + len) l disks) (sym over.pending) (ring_after r old.at len (pending old) disks loaded))
+    subst (λ (n : ℕ). RingHas r n (in_buffer new) disks) (sym over.at)
+    (subst (λ (l : List ℕ). RingHas r (old.at + len) l disks) (sym over.in_buffer) (ring_after r old.at len (in_buffer old) disks loaded))
 
 -- and the rest of what was ahead is ahead
 pub ahead_after : (r : RingPlace) (len : ℕ) (old mid new : Window) (bytes : List ℕ) (disks : Disks) → SamePlace old mid → PassesOver len mid new → len ≤ length bytes

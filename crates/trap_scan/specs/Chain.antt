@@ -32,10 +32,10 @@ AreRecords history seq time (suc more) bytes =
     (r : LogRec) × (rest : List ℕ) × Follows history seq time more bytes r rest
     × AreRecords history r.seq r.time more rest
 
--- that many records are to stand there, and the first that doesn't begins that many bytes after
+-- that many records are expected, and the first that isn't right begins that many bytes on
 abbrev pub IsBroken : History → ℕ → ℕ → ℕ → List ℕ → ℕ → Type 0
 IsBroken history seq time zero bytes at = ⊥
 IsBroken history seq time (suc more) bytes at =
     ((at ≡ 0) × ((r : LogRec) (rest : List ℕ) → Follows history seq time more bytes r rest → ⊥))
-    ⊎ ((r : LogRec) × (rest : List ℕ) × (behind : ℕ) × Follows history seq time more bytes r rest
-    × (at + length rest ≡ behind + length bytes) × IsBroken history r.seq r.time more rest behind)
+    ⊎ ((r : LogRec) × (rest : List ℕ) × (after : ℕ) × Follows history seq time more bytes r rest
+    × (at + length rest ≡ after + length bytes) × IsBroken history r.seq r.time more rest after)

@@ -8,7 +8,7 @@ use Rattle.trap_scan.specs.declared.expected.Expected.{Expected}
 use Rattle.trap_scan.specs.declared.scan.Scan.{Scan}
 use Rattle.trap_scan.specs.declared.window.Front.{Front}
 use Rattle.trap_scan.specs.Chain.{History, Follows, AreRecords, IsBroken}
-use Rattle.trap_scan.specs.Window.{pending, IsAhead, PassesOver}
+use Rattle.trap_scan.specs.Window.{in_buffer, IsAhead, PassesOver}
 
 -- what the records are of
 abbrev pub history_of : Expected → History
@@ -20,7 +20,7 @@ AreExpected e bytes = AreRecords (history_of e) e.first e.base_time (e.last - e.
 
 -- the first of them that isn't one begins at this offset
 pub record BreaksAt (e : Expected) (bytes : List ℕ) (at : ℕ) : Type 0 where
-  pub behind : e.first_off ≤ at
+  pub least : e.first_off ≤ at
   pub broken : IsBroken (history_of e) e.first e.base_time (e.last - e.first) bytes
       (at - e.first_off)
 
@@ -30,7 +30,7 @@ pub record IsAtFirst (e : Expected) (s : Scan) : Type 0 where
   pub seq : s.seq ≡ e.first
   pub time : s.time ≡ e.base_time
   pub at : s.window.at ≡ e.first_off
-  pub none : pending s.window ≡ []
+  pub none : in_buffer s.window ≡ []
 
 -- how many records are to follow the next one
 abbrev pub more_of : Scan → ℕ
@@ -47,7 +47,7 @@ AreAhead s bytes = AreRecords (history_of s.expected) s.seq s.time (s.expected.l
 
 -- the first of them that isn't one begins at this offset
 pub record BreaksAhead (s : Scan) (bytes : List ℕ) (at : ℕ) : Type 0 where
-  pub behind : s.window.at ≤ at
+  pub least : s.window.at ≤ at
   pub broken : IsBroken (history_of s.expected) s.seq s.time (s.expected.last - s.seq) bytes
       (at - s.window.at)
 
@@ -65,8 +65,17 @@ pub record TakesRecord (front : Front) (old new : Scan) : Type 0 where
   pub time : new.time ≡ front.rec.time
   pub over : PassesOver front.len old.window new.window
 
--- this record was taken, and is the next one
+-- the record is one that may follow, by its numbers
+pub record IsChecked (s : Scan) (r : LogRec) : Type 0 where
+  pub ranges : IsRecordInRange s.expected.size r
+  pub block : r.block < s.expected.volume
+  pub later : s.time ≤ r.time
+  pub last : more_of s ≡ 0 → r.time ≡ s.expected.last_time
+
+-- this record was taken, is one that may follow by its numbers, and is the next one
 pub record TakesNext (old new : Scan) (r : LogRec) : Type 0 where
+  pub expected : new.expected ≡ old.expected
+  pub checked : IsChecked old r
   pub number : r.seq ≡ old.seq + 1
   pub seq : new.seq ≡ r.seq
   pub time : new.time ≡ r.time
@@ -74,17 +83,11 @@ pub record TakesNext (old new : Scan) (r : LogRec) : Type 0 where
 
 -- no record was taken, and the same bytes are ahead
 pub record TakesNoRecord (old new : Scan) : Type 0 where
+  pub expected : new.expected ≡ old.expected
   pub seq : new.seq ≡ old.seq
   pub time : new.time ≡ old.time
   pub at : new.window.at ≡ old.window.at
   pub end : new.window.end ≡ old.window.end
-
--- the record is one that may follow, by its numbers
-pub record IsChecked (s : Scan) (r : LogRec) : Type 0 where
-  pub ranges : IsRecordInRange s.expected.size r
-  pub block : r.block < s.expected.volume
-  pub later : s.time ≤ r.time
-  pub last : more_of s ≡ 0 → r.time ≡ s.expected.last_time
 
 -- the next record begins the bytes, and the rest stands after it
 abbrev pub ComesNext : Scan → List ℕ → LogRec → List ℕ → Type 0

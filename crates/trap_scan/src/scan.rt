@@ -1,7 +1,7 @@
 //! A scan: the records of a ring, one after the other.
 
 ghost use Rattle.std.specs.Prelude.{◌≡◌, ◌≤◌};
-ghost use Rattle.trap_scan.specs.Window.{HasRoom};
+ghost use Rattle.trap_scan.specs.Window.{HasBuffer};
 
 mod taking;
 
@@ -19,5 +19,5 @@ pub struct Scan {
     ghost sized: { expected.size ≤ 4096 },
     ghost numbered: { seq ≤ expected.last },
     ghost placed: { window.end ≡ expected.end_off },
-    ghost buffered: { HasRoom expected.size window },
+    ghost buffered: { HasBuffer expected.size window },
 }

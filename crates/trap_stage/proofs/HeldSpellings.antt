@@ -8,7 +8,7 @@ use Rattle.std.proofs.lemmas.Nat.{from_be_bytes-to_be_bytes_4}
 use Rattle.trap_block.specs.Fields.{put_over}
 use Rattle.trap_format.specs.LogDisk.{slot_len}
 use Rattle.trap_format.proofs.BigEndian.{same_of_4}
-use Rattle.trap_format.proofs.Cuts.{piece, front}
+use Rattle.trap_block.proofs.Cuts.{piece, front}
 use Rattle.trap_format.proofs.Written.{written_none, written_more, written_all}
 use Rattle.trap_model.specs.Image.{volume}
 use Rattle.trap_model.specs.declared.numbers.Geometry.{Geometry}

@@ -1,11 +1,11 @@
 -- Reading the slots one after the other.
-use Rattle.std.proofs.Common.{◌≡◌, ℕ, zero, suc, ◌+◌, ◌-◌, ◌<◌, ◌≤◌, List, length, IsTrue, refl, ap, sym, ◌∙◌, subst, ⊎_elim, arith}
+use Rattle.std.proofs.Common.{◌≡◌, ℕ, zero, suc, ◌+◌, ◌-◌, ◌<◌, ◌≤◌, List, length, IsTrue, ap, sym, ◌∙◌, subst, ⊎_elim, arith}
 use Rattle.std.proofs.lemmas.Bool.{cases_eq}
 use Rattle.trap_bank.specs.Disks.{Disks, Contents, View, region}
-use Rattle.trap_bank.specs.Steps.{Moves, Same}
+use Rattle.trap_bank.specs.Steps.{OnlyReads}
 use Rattle.trap_bank.specs.Called.{CalledTimes, CalledAtMost}
 use Rattle.trap_bank.proofs.Called.{not_called, called_then, called_at_most}
-use Rattle.trap_bank.proofs.Moves.{same_then, no_moves}
+use Rattle.trap_bank.proofs.OnlyReads.{reads_none, reads_then}
 use Rattle.trap_format.specs.LogDisk.{slot_len}
 use Rattle.trap_model.specs.Image.{volume}
 use Rattle.trap_model.specs.declared.numbers.Geometry.{Geometry}
@@ -23,20 +23,16 @@ pub record ReadsTo (g : Geometry) (drained upto : ℕ) (old new : View) (slots :
   pub spelled : AllSpell g slots drained upto
   pub blocks : (q : ℕ) → drained < q → q ≤ upto → (staged_held g slots q).block < volume g
   pub read : IsTrue old.tells → AreSlotsRead g slots drained upto old.now.disks
-  pub contents : IsTrue old.tells → new.now ≡ old.now
-  pub sizes : (e : ℕ) → new.sizes e ≡ old.sizes e
-  pub moves : Moves old new Same Same
+  pub reads : OnlyReads old new
   pub order : drained ≤ upto
   pub calls : CalledTimes (upto - drained) old new
 
-pub reads_none : (g : Geometry) (drained : ℕ) (v : View) (slots : List ℕ) → ReadsTo g drained drained v v slots
-reads_none g drained v slots = record {
+pub no_slot_read : (g : Geometry) (drained : ℕ) (v : View) (slots : List ℕ) → ReadsTo g drained drained v v slots
+no_slot_read g drained v slots = record {
   spelled = λ q low high. absurd (omega arith);
   blocks = λ q low high. absurd (omega arith);
   read = λ told q low high. absurd (omega arith);
-  contents = λ told. refl;
-  sizes = λ e. refl;
-  moves = no_moves v Same Same (λ x was. refl);
+  reads = reads_none v;
   order = omega arith;
   calls = subst (λ (n : ℕ). CalledTimes n v v) (omega arith) (not_called v);
 }
@@ -47,9 +43,7 @@ pub record ReadsOne (g : Geometry) (q : ℕ) (old new : View) (before after : Li
   pub block : (staged_held g after q).block < volume g
   pub read : IsTrue old.tells → slot_held g after q ≡ region old.now.disks 0 (slot_start g q) (slot_len g)
   pub others : OthersStay g q before after
-  pub contents : IsTrue old.tells → new.now ≡ old.now
-  pub sizes : (e : ℕ) → new.sizes e ≡ old.sizes e
-  pub moves : Moves old new Same Same
+  pub reads : OnlyReads old new
   pub calls : CalledTimes 1 old new
 
 -- each number before the next one, or that one itself
@@ -67,17 +61,15 @@ reads_more g drained upto a b c before after round to one = record {
   blocks = λ q low high. next_or (λ p. (staged_held g after p).block < volume g) drained upto q one.block
       (λ p low high. subst (λ (l : List ℕ). (staged_from g l).block < volume g) (sym (same p low high)) (to.blocks p low high)) low high;
   read = λ told q low high. next_or (λ p. slot_held g after p ≡ region a.now.disks 0 (slot_start g p) (slot_len g)) drained upto q
-      (one.read (below told) ∙ ap (λ (x : Contents). region x.disks 0 (slot_start g (upto + 1)) (slot_len g)) (to.contents told))
+      (one.read (below told) ∙ ap (λ (x : Contents). region x.disks 0 (slot_start g (upto + 1)) (slot_len g)) (to.reads.same told))
       (λ p low high. same p low high ∙ to.read told p low high) low high;
-  contents = λ told. one.contents (below told) ∙ to.contents told;
-  sizes = λ e. one.sizes e ∙ to.sizes e;
-  moves = same_then a b c to.moves one.moves;
+  reads = reads_then a b c to.reads one.reads;
   order = (let order = to.order in omega arith);
   calls = subst (λ (n : ℕ). CalledTimes n a c) (let order = to.order in omega arith) (called_then (upto - drained) 1 a b c to.calls one.calls);
 }
   where
     below : IsTrue a.tells → IsTrue b.tells
-    below told = subst IsTrue (sym to.moves.tells) told
+    below told = subst IsTrue (sym to.reads.moves.tells) told
 
     same : (p : ℕ) → drained < p → p ≤ upto → slot_held g after p ≡ slot_held g before p
     same p low high =
@@ -98,13 +90,13 @@ read_is_slot g q slots disks spelled read = (spelled.0, spelled.1, sym read ∙ 
 pub damaged_next : (g : Geometry) (drained upto last : ℕ) (a b : View) (slots : List ℕ) (offset : ℕ) → drained ≤ upto → upto + 1 ≤ last → ReadsTo g drained upto a b slots
     → IsTrue a.tells → (IsTrue b.tells → (IsSlot g (upto + 1) b.now.disks → ⊥) × (offset ≡ slot_start g (upto + 1))) → IsDamagedSlot g drained last a.now.disks offset
 damaged_next g drained upto last a b slots offset low high to told why =
-    let damaged = why (subst IsTrue (sym to.moves.tells) told) in
+    let damaged = why (subst IsTrue (sym to.reads.moves.tells) told) in
     record {
       number = upto + 1;
       low = omega arith;
       high = high;
       sound = λ q above before. read_is_slot g q slots a.now.disks (to.spelled q above (omega arith)) (to.read told q above (omega arith));
-      broken = λ is. damaged.0 (subst (λ (x : Contents). IsSlot g (upto + 1) x.disks) (sym (to.contents told)) is);
+      broken = λ is. damaged.0 (subst (λ (x : Contents). IsSlot g (upto + 1) x.disks) (sym (to.reads.same told)) is);
       place = damaged.1;
     }
 

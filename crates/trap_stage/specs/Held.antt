@@ -1,5 +1,6 @@
 -- The slots in memory: one after the other, as on disk 0.
-use Rattle.std.specs.Prelude.{◌≡◌, ℕ, zero, suc, ◌+◌, ◌*◌, ◌%◌, ◌^◌, ◌<◌, ◌≤◌, List, [], ◌∷◌, length, take, drop}
+use Rattle.std.specs.Prelude.{◌≡◌, ℕ, zero, suc, ◌+◌, ◌*◌, ◌%◌, ◌^◌, ◌<◌, ◌≤◌, List, [], ◌∷◌}
+use Rattle.std.specs.Prelude.{length, take, drop}
 use Rattle.std.specs.Int.{w32, from_be_bytes}
 use Rattle.trap_format.specs.LogDisk.{slot_len}
 use Rattle.trap_model.specs.Image.{volume}

@@ -1,5 +1,6 @@
 -- Pending writes, which stand for the members' places that they cover.
-use Rattle.std.specs.Prelude.{◌≡◌, ℕ, ◌<◌, List, [], ◌∷◌, length, slice_set, Option, Some, None, MatchOption, unwrap_or, ◌==◌, if◌then◌else◌}
+use Rattle.std.specs.Prelude.{◌≡◌, ℕ, ◌<◌, List, [], ◌∷◌, length, slice_set, Option, Some, None}
+use Rattle.std.specs.Prelude.{MatchOption, unwrap_or, ◌==◌, if◌then◌else◌}
 use Rattle.std.specs.Option.{option_or}
 use Rattle.trap_model.specs.Image.{volume}
 use Rattle.trap_model.specs.declared.numbers.Geometry.{Geometry}

@@ -6,7 +6,7 @@ ghost use Rattle.trap_bank.specs.Faults.{Rose};
 ghost use Rattle.trap_bank.specs.Called.{CalledTimes, TakesCalls};
 ghost use Rattle.trap_bank.specs.Calls.{Fits};
 ghost use Rattle.trap_bank.specs.Disks.{Differs, Torn, region};
-ghost use Rattle.trap_bank.specs.Steps.{Moves, Same};
+ghost use Rattle.trap_bank.specs.Steps.{Moves, OnlyReads};
 ghost use Rattle.trap_format.specs.LogDisk.{slot_len, ring_at};
 ghost use Rattle.trap_model.specs.Image.{volume};
 ghost use Rattle.trap_stage.specs.Slots.{slot_start, slot_area, slot_bytes, SlotHas};
@@ -39,13 +39,10 @@ fn read_slot<B: Bank>(
         → IsTrue (B.view bank.old).tells
         → (IsSlot g.now seq (B.view bank.old).now.disks → ⊥)
         × (offset ≡ slot_start g.now seq) }
-    ensures contents { IsTrue (B.view bank.old).tells
-        → (B.view bank.new).now ≡ (B.view bank.old).now }
-    ensures sizes { (e : ℕ) → (B.view bank.new).sizes e ≡ (B.view bank.old).sizes e }
     ensures cause { IsErrOf result StageFault.DiskFault
         → Rose ((B.view bank.old).faults 0) ((B.view bank.new).faults 0) }
     ensures calls { CalledTimes 1 (B.view bank.old) (B.view bank.new) }
-    ensures any_moment { Moves (B.view bank.old) (B.view bank.new) Same Same }
+    ensures reads { OnlyReads (B.view bank.old) (B.view bank.new) }
 {
     let at = slot_offset(g, seq);
     let offset = SLOTS_AT + at as u64;
@@ -76,13 +73,10 @@ pub(crate) fn read_slots<B: Bank>(
     ensures damaged { (offset : ℕ) → IsErrOf result (StageFault.Damaged offset)
         → IsTrue (B.view bank.old).tells
         → IsDamagedSlot g.now drained last (B.view bank.old).now.disks offset }
-    ensures contents { IsTrue (B.view bank.old).tells
-        → (B.view bank.new).now ≡ (B.view bank.old).now }
-    ensures sizes { (e : ℕ) → (B.view bank.new).sizes e ≡ (B.view bank.old).sizes e }
     ensures cause { IsErrOf result StageFault.DiskFault
         → Rose ((B.view bank.old).faults 0) ((B.view bank.new).faults 0) }
     ensures calls { TakesCalls (last - drained) result (B.view bank.old) (B.view bank.new) }
-    ensures any_moment { Moves (B.view bank.old) (B.view bank.new) Same Same }
+    ensures reads { OnlyReads (B.view bank.old) (B.view bank.new) }
 {
     for older in drained..last {
         read_slot(bank, g, older + 1, slots)?;

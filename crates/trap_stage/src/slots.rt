@@ -20,7 +20,7 @@ const BLOCK_AT: usize = 8;
 /// Where a slot's contents are: the block's bytes, and then the parity of its row.
 const CONTENTS_AT: usize = SLOT_NUMBERS_BYTES as usize;
 
-/// The bytes of a slot.
+/// How many bytes a slot has.
 pub(crate) fn slot_len(g: &Geometry) -> usize
     ensures len { result ≡ slot_len g.now }
     ensures most { result ≤ 8204 }
@@ -28,7 +28,7 @@ pub(crate) fn slot_len(g: &Geometry) -> usize
     CONTENTS_AT + 2 * g.block as usize
 }
 
-/// The bytes of all slots.
+/// How many bytes all slots have.
 pub(crate) fn slots_len(g: &Geometry) -> usize
     ensures { result ≡ g.now.slots * slot_len g.now }
 {

@@ -1,6 +1,7 @@
 //! The head, the pending writes and the records, read at mounting.
 
-ghost use Rattle.std.specs.Prelude.{◌≡◌, ◌≤◌, ◌+◌, ◌-◌, length, Some, IsTrue, OnOk, OnErr, IfOk, IfErr, IsErrOf, false};
+ghost use Rattle.std.specs.Prelude.{◌≡◌, ◌≤◌, ◌+◌, ◌-◌, length, Some, IsTrue, OnOk, OnErr, IfOk};
+ghost use Rattle.std.specs.Prelude.{IfErr, IsErrOf, false};
 ghost use Rattle.trap_bank.specs.Calls.{Fits};
 ghost use Rattle.trap_bank.specs.Steps.{OnlyReads};
 ghost use Rattle.trap_cell.specs.Steps.{IsMounted};
@@ -10,10 +11,12 @@ ghost use Rattle.trap_index.specs.Indexed.{nothing_indexed};
 ghost use Rattle.trap_model.specs.declared.numbers.Geometry.{Geometry};
 ghost use Rattle.trap_mount.specs.Holding.{head_place};
 ghost use Rattle.trap_mount.specs.Memory.{HaveBlocksOf};
-ghost use Rattle.trap_mount.specs.Mounting.{IsNoLog, Refuses, MountFails, HasHeader, HasHead, HasSlots, names_member};
+ghost use Rattle.trap_mount.specs.Mounting.{IsNoLog, Refuses, MountFails, HasHeader, HasHead};
+ghost use Rattle.trap_mount.specs.Mounting.{HasSlots, names_member};
 ghost use Rattle.trap_mount.specs.MountSteps.{IsStable, ReadsHead, ReadsStage, ReadsLog};
 ghost use Rattle.trap_mount.specs.Reading.{ReadsIndex, ReadsHistory};
 
+use crate::layout::HEAD_VALUE_BYTES;
 use crate::mounting::header::read_header;
 use crate::mounting::records::read_records;
 use crate::{Buffers, Found, MountFault};
@@ -32,7 +35,7 @@ use trap_stage::{Stage, StageFault};
 const VERSION: u8 = 1;
 
 /// Mounts the head's cell, and fills `value` with its value.
-fn mount_cell<B: Bank>(bank: &mut B, value: &mut [u8; 62]) -> Result<Cell, MountFault>
+fn mount_cell<B: Bank>(bank: &mut B, value: &mut [u8; HEAD_VALUE_BYTES]) -> Result<Cell, MountFault>
     requires there { Fits (B.view bank.old) 0 slots_at }
     requires stable { IsStable (B.view bank.old) 0 }
     ensures mounted { IfOk result
@@ -62,7 +65,7 @@ fn find_head<B: Bank>(bank: &mut B, g: &Geometry) -> Result<(Head, Cell), MountF
     ensures cause { IfErr result (λ why. MountFails why (B.view bank.old) (B.view bank.new)) }
     ensures log { IfErr result (λ why. names_member why ≡ false) }
 {
-    let mut value = [0; 62];
+    let mut value = [0; HEAD_VALUE_BYTES];
     let cell = mount_cell(bank, &mut value)?;
     let version = value[0];
     if version != VERSION {

@@ -1,6 +1,7 @@
 //! The members' disks, looked at when an array is mounted.
 
-ghost use Rattle.std.specs.Prelude.{◌≡◌, ◌≢◌, ◌≤◌, ◌<◌, ◌+◌, ◌↔◌, ℕ, Some, None, IsTrue, OnOk, OnErr, IfOk, IfErr, IfSome, IfNone};
+ghost use Rattle.std.specs.Prelude.{◌≡◌, ◌≢◌, ◌≤◌, ◌<◌, ◌+◌, ◌↔◌, ℕ, Some, None, IsTrue, OnOk};
+ghost use Rattle.std.specs.Prelude.{OnErr, IfOk, IfErr, IfSome, IfNone};
 ghost use Rattle.std.specs.Option.{ForSome};
 ghost use Rattle.trap_bank.specs.Faults.{Rose};
 ghost use Rattle.trap_bank.specs.Steps.{OnlyReads};
@@ -9,7 +10,9 @@ ghost use Rattle.trap_format.specs.HeadValue.{IsHead};
 ghost use Rattle.trap_format.specs.declared.head.Head.{Head};
 ghost use Rattle.trap_raid.specs.Members.{IsMember};
 ghost use Rattle.trap_mount.specs.Mounting.{Refuses, MountFails, SizesShow, HasRecords, HasMembers};
-ghost use Rattle.trap_mount.specs.MountSteps.{IsStable, IsOnlyOut, IsFirstOut, FindsLost, ReadsMember, ReadsMembers, IsNextMember, KeepsRows, FindsMembers};
+ghost use Rattle.trap_mount.specs.MountSteps.{IsStable, IsOnlyOut, IsFirstOut, FindsLost};
+ghost use Rattle.trap_mount.specs.MountSteps.{ReadsMember, ReadsMembers, IsNextMember, KeepsRows};
+ghost use Rattle.trap_mount.specs.MountSteps.{FindsMembers};
 
 use crate::MountFault;
 use crate::mounting::header::settle;

@@ -4,7 +4,7 @@ ghost use Rattle.std.specs.Prelude.{◌≡◌, ℕ, ◌+◌, ◌-◌, ◌<◌, �
 ghost use Rattle.trap_bank.specs.Calls.{Fits};
 ghost use Rattle.trap_bank.specs.Faults.{Rose};
 ghost use Rattle.trap_bank.specs.Steps.{OnlyReads};
-ghost use Rattle.trap_index.specs.Indexed.{last_seq, last_time};
+ghost use Rattle.trap_index.specs.Indexed.{last_seq, last_record_time};
 ghost use Rattle.trap_scan.specs.Window.{IsWindow, IsAhead};
 ghost use Rattle.trap_scan.specs.Scan.{BreaksAt, BreaksAhead};
 ghost use Rattle.trap_mount.specs.Reading.{Awaits, MayExpect, IsAtStart, ReadsRecords, ReadsAhead};

@@ -5,13 +5,14 @@ ghost use Rattle.std.specs.Prelude.{◌≡◌, ◌≤◌, ◌+◌, IsTrue};
 ghost use Rattle.std.specs.Option.{ForSome};
 ghost use Rattle.trap_bank.specs.Calls.{Fits};
 
+use crate::layout::HEAD_VALUE_BYTES;
 use crate::{MountFault, mount};
 use std::alloc::Global;
 use std::process::Abort;
 use std::test::Fail;
 use trap_bank::{Bank, MemoryBank};
 use trap_cell::Cell;
-use trap_format::layout::SLOTS_AT;
+use trap_format::layout::{CELL_AT, SLOTS_AT};
 use trap_format::{Head, log_len, member_len, spell_head, spell_log, spell_member};
 use trap_model::Geometry;
 
@@ -66,14 +67,14 @@ fn make_log<B: Bank>(rt: &impl Abort, bank: &mut B, head: &Head) -> Result<(), F
 {
     let g = three();
     let mut header = [0; 64];
-    let mut value = [0; 62];
+    let mut value = [0; HEAD_VALUE_BYTES];
     spell_log(&g, &mut header);
     spell_head(head, &mut value);
     bank.make(0, log_len(&g))?;
     assert!(rt; is_long(bank, 0, SLOTS_AT));
     bank.write(0, 0, &header)?;
     assert!(rt; is_long(bank, 0, SLOTS_AT));
-    Cell::first(bank, 0, 64, &value)?;
+    Cell::first(bank, 0, CELL_AT, &value)?;
     Ok(())
 }
 

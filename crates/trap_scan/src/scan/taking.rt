@@ -1,12 +1,14 @@
 //! How a scan takes records.
 
-ghost use Rattle.std.specs.Prelude.{◌≡◌, ℕ, ◌+◌, ◌-◌, ◌<◌, ◌≤◌, ◌↔◌, List, IfOk, IsErrOf, IsTrue, OnErr};
+ghost use Rattle.std.specs.Prelude.{◌≡◌, ℕ, ◌+◌, ◌-◌, ◌<◌, ◌≤◌, ◌↔◌, List, IfOk, IsErrOf, IsTrue};
+ghost use Rattle.std.specs.Prelude.{OnErr};
 ghost use Rattle.trap_bank.specs.Faults.{Rose};
 ghost use Rattle.trap_bank.specs.Calls.{Fits};
 ghost use Rattle.trap_bank.specs.Steps.{OnlyReads};
 ghost use Rattle.trap_model.specs.Limits.{greatest_record};
 ghost use Rattle.trap_scan.specs.Window.{IsLoaded, IsWholeRecord};
-ghost use Rattle.trap_scan.specs.Scan.{IsAtFirst, IsLast, MayFollow, TakesRecord, TakesNext, TakesNoRecord, IsChecked, GivesNext, IsDamagedRecord};
+ghost use Rattle.trap_scan.specs.Scan.{IsAtFirst, IsLast, MayFollow, TakesRecord, TakesNext};
+ghost use Rattle.trap_scan.specs.Scan.{TakesNoRecord, GivesNext, IsDamagedRecord};
 
 use super::Scan;
 use crate::window::{Front, Window};
@@ -119,9 +121,7 @@ impl Scan {
         requires there { Fits (B.view bank.old) ring.now.disk (ring.now.at + ring.now.len) }
         requires loaded { IsTrue (B.view bank.old).tells
             → IsLoaded ring.now self.old.window (B.view bank.old).now.disks }
-        ensures expected { self.new.expected ≡ self.old.expected }
         ensures next { IfOk result (TakesNext self.old self.new) }
-        ensures checked { IfOk result (IsChecked self.old) }
         ensures right { IsTrue (B.view bank.old).tells
             → IfOk result (GivesNext ring.now self.old self.new (B.view bank.old).now.disks) }
         ensures err { OnErr result (TakesNoRecord self.old self.new) }

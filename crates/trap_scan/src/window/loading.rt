@@ -1,12 +1,15 @@
 //! How a window of a ring is loaded, and what stands at its front.
 
-ghost use Rattle.std.specs.Prelude.{◌≡◌, ℕ, ◌+◌, ◌-◌, ◌≤◌, ◌↔◌, List, min, length, take, vec_len, OnErr, OnOk, IfOk, IsTrue};
+ghost use Rattle.std.specs.Prelude.{◌≡◌, ℕ, ◌+◌, ◌-◌, ◌≤◌, ◌↔◌, List, min, length, take, vec_len};
+ghost use Rattle.std.specs.Prelude.{OnErr, OnOk, IfOk, IsTrue};
 ghost use Rattle.trap_bank.specs.Faults.{Rose};
 ghost use Rattle.trap_bank.specs.Calls.{Fits};
 ghost use Rattle.trap_bank.specs.Steps.{OnlyReads};
 ghost use Rattle.trap_record.specs.Reading.{Reads};
 ghost use Rattle.trap_ring.specs.Ring.{RingHas};
-ghost use Rattle.trap_scan.specs.Window.{pending, IsBegun, SamePlace, PassesOver, IsLoaded, HasRoom, IsAhead, IsFront, IsPending, HasRanges, IsWholeRecord};
+ghost use Rattle.trap_scan.specs.Window.{in_buffer, IsBegun, SamePlace, PassesOver, IsLoaded};
+ghost use Rattle.trap_scan.specs.Window.{HasBuffer, IsAhead, IsFront, IsInBuffer, HasRanges};
+ghost use Rattle.trap_scan.specs.Window.{IsWholeRecord};
 
 use super::{Front, Window};
 use std::alloc::{AllocError as OutOfMemory, Global};
@@ -75,7 +78,7 @@ impl Window {
     /// What stands at the front of the bytes in the buffer.
     fn front_read(&self, size: u16) -> ReadRec
         requires { size ≤ 4096 }
-        ensures { Reads size (pending self.now) result }
+        ensures { Reads size (in_buffer self.now) result }
     {
         read(&self.buf[self.from..self.to], usize::from(size))
     }
@@ -121,7 +124,7 @@ impl Window {
         size: u16,
     ) -> Result<Option<Front>, DiskFault>
         requires size { size ≤ 4096 }
-        requires buffer { HasRoom size self.old }
+        requires buffer { HasBuffer size self.old }
         requires room { self.old.end ≤ self.old.at + ring.now.len }
         requires there { Fits (B.view bank.old) ring.now.disk (ring.now.at + ring.now.len) }
         requires loaded { IsTrue (B.view bank.old).tells
@@ -130,7 +133,7 @@ impl Window {
         ensures found { IsTrue (B.view bank.old).tells → IfOk result (λ found. (bytes : List ℕ)
             → IsAhead ring.now self.old bytes (B.view bank.old).now.disks
             → IsFront size bytes found) }
-        ensures pending { IfOk result (IsPending self.new) }
+        ensures in_buffer { IfOk result (IsInBuffer self.new) }
         ensures ranges { IfOk result (HasRanges size) }
 
         // No call of the bank for a record that stands in the buffer.

@@ -3,10 +3,11 @@ use Rattle.trap_mount.specs.Mounting.{Refuses}
 use Rattle.trap_mount.specs.MountEnds.{MountEnds}
 use Rattle.trap_mount.specs.declared.fault.MountFault.TheVariants.{LogFault}
 use Rattle.trap_bank.proofs.OnlyReads.{reads_then}
-use Rattle.trap_mount.proofs.MountReads.{cause_before, rose_later, sizes_before, false_true}
+use Rattle.trap_bank.proofs.Rising.{rose_since}
+use Rattle.trap_mount.proofs.MountReads.{cause_before, sizes_before, false_true}
 use Rattle.trap_mount.proofs.MountHistory.{exit}
 use Rattle.trap_mount.proofs.MountRefusals.{never_refused}
-use Rattle.trap_mount.proofs.MountPuts.{complete, members_refused, put_failed, put_room, stage_put, index_put, stands_still, mount_ready, mount_stands, mount_found, mount_knows, mount_head, head_read}
+use Rattle.trap_mount.proofs.MountPuts.{complete, members_refused, put_failed, put_room, stage_put, index_put, stands_still, mount_ready, mount_exact, mount_stands, mount_found, mount_knows, mount_head, head_read}
 use Rattle.trap_mount.proofs.MountPuts.{writes_head, keeps_read, read_others, keeps_put, put_others}
 use Rattle.trap_mount.proofs.mounting.mount.Goals as goal
 
@@ -74,7 +75,7 @@ returns-in_default-clause-ended g c =
       nothing_written = λ is. absurd (is refl);
       cause = put_failed old mid new LogFault reads c.in_default.ensures.cause refl;
       shown = λ is. absurd (cc is);
-      complete = λ numbers h s told by log members. absurd (log (rose_later _ _ _ (reads.moves.faults 0) c.in_default.ensures.cause));
+      complete = λ numbers h s told by log members. absurd (log (rose_since _ _ _ (reads.moves.faults 0) c.in_default.ensures.cause));
     }
 
 -- ---- the array is mounted
@@ -99,24 +100,34 @@ returns-clause-mounted g c =
       stands = mount_stands c.in_ok-found.found.g c.in_ok-found.found.head c.in_ok-head.head c.in_ok-found.found.cell c.in_ok-found.found.stage
           (g.B.Bank.view c.args.bank.now) (g.B.Bank.view c.find_log.new.bank) (g.B.Bank.view c.find_members.new.bank) c.find_log.ensures.reads c.find_members.ensures.reads
           (g.met.B.Bank.lawful c.find_log.new.bank) c.in_ok-found.ensures.ok c.in_ok-head.ensures.ok
-          (g.B.Bank.view c.put_changed.new.bank) c.put_changed.new.cell c.in_ok-found.found.index c.in_ok-found.ensures.index c.in-Ok.ensures.ok c.put_changed.ensures.sizes;
+          (g.B.Bank.view c.put_changed.new.bank) c.put_changed.new.cell c.in_ok-found.found.index
+          c.in_ok-found.found.buffers c.in_ok-found.ensures.index c.in-Ok.ensures.ok c.put_changed.ensures.sizes;
       ready = mount_ready c.in_ok-found.found.g c.in_ok-found.found.head c.in_ok-head.head c.in_ok-found.found.cell c.in_ok-found.found.stage
           (g.B.Bank.view c.args.bank.now) (g.B.Bank.view c.find_log.new.bank) (g.B.Bank.view c.find_members.new.bank) c.find_log.ensures.reads c.find_members.ensures.reads
           (g.met.B.Bank.lawful c.find_log.new.bank) c.in_ok-found.ensures.ok c.in_ok-head.ensures.ok
-          (g.B.Bank.view c.put_changed.new.bank) c.put_changed.new.cell c.in_ok-found.found.index c.in_ok-found.ensures.index c.in-Ok.ensures.ok c.put_changed.ensures.sizes;
+          (g.B.Bank.view c.put_changed.new.bank) c.put_changed.new.cell c.in_ok-found.found.index
+          c.in_ok-found.found.buffers c.in_ok-found.ensures.index c.in-Ok.ensures.ok c.put_changed.ensures.sizes c.in_ok-found.ensures.buffers;
       running = refl;
+      exact = mount_exact c.in_ok-found.found.g c.in_ok-found.found.head c.in_ok-head.head c.in_ok-found.found.cell c.in_ok-found.found.stage
+          (g.B.Bank.view c.args.bank.now) (g.B.Bank.view c.find_log.new.bank) (g.B.Bank.view c.find_members.new.bank) c.find_log.ensures.reads c.find_members.ensures.reads
+          (g.met.B.Bank.lawful c.find_log.new.bank) c.in_ok-found.ensures.ok c.in_ok-head.ensures.ok
+          (g.B.Bank.view c.put_changed.new.bank) c.put_changed.new.cell c.in_ok-found.found.index
+          c.in_ok-found.found.buffers c.in_ok-found.ensures.index c.in-Ok.ensures.ok c.put_changed.ensures.sizes;
       found = mount_found c.in_ok-found.found.g c.in_ok-found.found.head c.in_ok-head.head c.in_ok-found.found.cell c.in_ok-found.found.stage
           (g.B.Bank.view c.args.bank.now) (g.B.Bank.view c.find_log.new.bank) (g.B.Bank.view c.find_members.new.bank) c.find_log.ensures.reads c.find_members.ensures.reads
           (g.met.B.Bank.lawful c.find_log.new.bank) c.in_ok-found.ensures.ok c.in_ok-head.ensures.ok
-          (g.B.Bank.view c.put_changed.new.bank) c.put_changed.new.cell c.in_ok-found.found.index c.in_ok-found.ensures.index c.in-Ok.ensures.ok c.put_changed.ensures.sizes;
+          (g.B.Bank.view c.put_changed.new.bank) c.put_changed.new.cell c.in_ok-found.found.index
+          c.in_ok-found.found.buffers c.in_ok-found.ensures.index c.in-Ok.ensures.ok c.put_changed.ensures.sizes;
       knows = mount_knows c.in_ok-found.found.g c.in_ok-found.found.head c.in_ok-head.head c.in_ok-found.found.cell c.in_ok-found.found.stage
           (g.B.Bank.view c.args.bank.now) (g.B.Bank.view c.find_log.new.bank) (g.B.Bank.view c.find_members.new.bank) c.find_log.ensures.reads c.find_members.ensures.reads
           (g.met.B.Bank.lawful c.find_log.new.bank) c.in_ok-found.ensures.ok c.in_ok-head.ensures.ok
-          (g.B.Bank.view c.put_changed.new.bank) c.put_changed.new.cell c.in_ok-found.found.index c.in_ok-found.ensures.index c.in-Ok.ensures.ok c.put_changed.ensures.sizes;
+          (g.B.Bank.view c.put_changed.new.bank) c.put_changed.new.cell c.in_ok-found.found.index
+          c.in_ok-found.found.buffers c.in_ok-found.ensures.index c.in-Ok.ensures.ok c.put_changed.ensures.sizes;
       head = mount_head c.in_ok-found.found.g c.in_ok-found.found.head c.in_ok-head.head c.in_ok-found.found.cell c.in_ok-found.found.stage
           (g.B.Bank.view c.args.bank.now) (g.B.Bank.view c.find_log.new.bank) (g.B.Bank.view c.find_members.new.bank) c.find_log.ensures.reads c.find_members.ensures.reads
           (g.met.B.Bank.lawful c.find_log.new.bank) c.in_ok-found.ensures.ok c.in_ok-head.ensures.ok
-          (g.B.Bank.view c.put_changed.new.bank) c.put_changed.new.cell c.in_ok-found.found.index c.in_ok-found.ensures.index c.in-Ok.ensures.ok c.put_changed.ensures.sizes;
+          (g.B.Bank.view c.put_changed.new.bank) c.put_changed.new.cell c.in_ok-found.found.index
+          c.in_ok-found.found.buffers c.in_ok-found.ensures.index c.in-Ok.ensures.ok c.put_changed.ensures.sizes;
     }
 
 pub returns-clause-sizes : goal.returns-clause-sizes

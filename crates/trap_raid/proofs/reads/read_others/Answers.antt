@@ -8,7 +8,7 @@ use Rattle.trap_raid.specs.Standing.{bare_others}
 use Rattle.trap_pool.proofs.Leases.{leases_changed}
 use Rattle.trap_raid.proofs.PoolLemmas.{only_then, only_joined, joined}
 use Rattle.trap_raid.proofs.ReadLemmas.{row_fits_along, others_more, others_but}
-use Rattle.trap_raid.proofs.CostLemmas.{others_next, others_skip, others_failed, others_done}
+use Rattle.trap_raid.proofs.CostLemmas.{others_next, others_skip, others_failed, others_stopped, others_done}
 use Rattle.trap_raid.proofs.reads.read_others.Goals as goal
 use Rattle.trap_raid.proofs.reads.read_others.Goals.{then-member-place+in_ok-read_standing, else-member-place}
 
@@ -68,6 +68,14 @@ returns-in_err-read_standing-clause-calls g c =
     (g.B.Bank.view c.args.bank.now) (g.B.Bank.view c.loop-member.bank) c.loop-member.invariant.calls
     c.read_standing.result c.from_residual.result c.in_err-read_standing.field-0.0 c.args.g.now.members (g.B.Bank.view c.read_standing.new.bank)
     (omega arith) c.if-member-place.true is c.read_standing.ensures.calls
+
+pub returns-in_err-read_standing-clause-failed_calls : goal.returns-in_err-read_standing-clause-failed_calls
+returns-in_err-read_standing-clause-failed_calls g c =
+    let is : Err c.in_err-read_standing.field-0.0 ≡ c.from_residual.result = search rules in
+    others_stopped c.args.g.now c.args.stage.now.pending c.args.place.row c.args.place.member c.loop-member.member
+    (g.B.Bank.view c.args.bank.now) (g.B.Bank.view c.loop-member.bank) c.loop-member.invariant.calls
+    c.from_residual.result c.in_err-read_standing.field-0.0 (g.B.Bank.view c.read_standing.new.bank) is
+    c.in_err-read_standing.ensures.cause.0 c.in_err-read_standing.ensures.bare c.read_standing.ensures.calls
 
 pub returns-clause-calls : goal.returns-clause-calls
 returns-clause-calls g c =

@@ -1,5 +1,5 @@
 use Rattle.std.proofs.Common.{◌+◌, ◌-◌, arith}
-use Rattle.trap_bank.proofs.Moves.{read_steps}
+use Rattle.trap_bank.proofs.OnlyReads.{reads_once}
 use Rattle.trap_stage.proofs.HeldSlots.{IsOver, held_beside}
 use Rattle.trap_stage.proofs.disk.read_slot.Goals as goal
 
@@ -15,8 +15,8 @@ returns-then-not-is_spelled-clause-others g c q other =
     record { size = c.requires.size; place = c.slot_offset-at.ensures.at; count = omega arith; len = (let same = c.read.auto.buf in omega arith) } in
     held_beside c.args.g.now c.args.slots.now c.read.new.buf _ _ c.args.seq q over other
 
-pub returns-then-not-is_spelled-clause-any_moment : goal.returns-then-not-is_spelled-clause-any_moment
-returns-then-not-is_spelled-clause-any_moment g c = read_steps c.read.result _ _ _ _ _ _ c.read.ensures.call
+pub returns-then-not-is_spelled-clause-reads : goal.returns-then-not-is_spelled-clause-reads
+returns-then-not-is_spelled-clause-reads g c = reads_once c.read.result _ _ _ _ _ _ c.read.ensures.call
 
 pub returns-clause-others : goal.returns-clause-others
 returns-clause-others g c q other =
@@ -24,5 +24,5 @@ returns-clause-others g c q other =
     record { size = c.requires.size; place = c.slot_offset-at.ensures.at; count = omega arith; len = (let same = c.read.auto.buf in omega arith) } in
     held_beside c.args.g.now c.args.slots.now c.read.new.buf _ _ c.args.seq q over other
 
-pub returns-clause-any_moment : goal.returns-clause-any_moment
-returns-clause-any_moment g c = read_steps c.read.result _ _ _ _ _ _ c.read.ensures.call
+pub returns-clause-reads : goal.returns-clause-reads
+returns-clause-reads g c = reads_once c.read.result _ _ _ _ _ _ c.read.ensures.call

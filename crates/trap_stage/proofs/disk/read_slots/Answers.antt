@@ -1,7 +1,7 @@
 use Rattle.std.proofs.Common.{◌≡◌, ◌+◌, ◌≤◌, subst, arith}
 use Rattle.std.specs.Prelude.{IsErrOf}
 use Rattle.std.proofs.lemmas.Result.{err_from_is_err_and}
-use Rattle.trap_bank.proofs.Moves.{same_then}
+use Rattle.trap_bank.proofs.OnlyReads.{reads_then}
 use Rattle.trap_stage.specs.declared.fault.StageFault.TheVariants.{Damaged}
 use Rattle.trap_stage.specs.Held.{AllSpell}
 use Rattle.trap_stage.proofs.Mounts.{ReadsOne, reads_more, damaged_next}
@@ -18,8 +18,8 @@ returns-in_err-read_slot-clause-damaged g c offset is told =
     let same : IsErrOf c.read_slot.result (Damaged offset) = cc in
     damaged_next c.args.g.now c.args.drained c.loop-older.older c.args.last _ _ _ offset above below c.loop-older.invariant told (c.read_slot.ensures.damaged offset same)
 
-pub returns-in_err-read_slot-clause-any_moment : goal.returns-in_err-read_slot-clause-any_moment
-returns-in_err-read_slot-clause-any_moment g c = same_then _ _ _ c.loop-older.invariant.moves c.read_slot.ensures.any_moment
+pub returns-in_err-read_slot-clause-reads : goal.returns-in_err-read_slot-clause-reads
+returns-in_err-read_slot-clause-reads g c = reads_then _ _ _ c.loop-older.invariant.reads c.read_slot.ensures.reads
 
 pub loop-older-preserved : goal.loop-older-preserved
 loop-older-preserved g c =
@@ -29,9 +29,7 @@ loop-older-preserved g c =
       block = c.in_ok-read_slot.ensures.block;
       read = c.in_ok-read_slot.ensures.read;
       others = c.read_slot.ensures.others;
-      contents = c.read_slot.ensures.contents;
-      sizes = c.read_slot.ensures.sizes;
-      moves = c.read_slot.ensures.any_moment;
+      reads = c.read_slot.ensures.reads;
       calls = c.read_slot.ensures.calls;
     } in
     reads_more c.args.g.now c.args.drained c.loop-older.older _ _ _ _ _ (omega arith) c.loop-older.invariant one

@@ -15,7 +15,7 @@ add-requires g c =
     let view = g.B.Bank.view in
     let more : c.records.scan.seq < c.records.scan.expected.last = c.is_more.ensures.0 c.records-test.true in
     let may = taken_may c.args.ring.now (view c.args.bank.now) (view c.records.bank) c.args.scan.now c.records.scan c.next.new.self c.args.index.now c.records.index c.in_ok-rec.rec
-    c.requires.start.awaits c.records.invariant more c.in_ok-rec.ensures.next c.in_ok-rec.ensures.checked in
+    c.requires.start.awaits c.records.invariant more c.in_ok-rec.ensures.next c.in_ok-rec.ensures.next.checked in
     record { few = may.few; number = may.number; time = may.time; block = may.block; ranges = may.ranges }
 
 pub records-preserved : goal.records-preserved
@@ -24,7 +24,7 @@ records-preserved g c =
     let more : c.records.scan.seq < c.records.scan.expected.last = c.is_more.ensures.0 c.records-test.true in
     taken_next c.args.ring.now (view c.args.bank.now) (view c.records.bank)
     (view c.next.new.bank) c.args.scan.now c.records.scan c.next.new.self c.args.index.now c.records.index c.add.new.self c.in_ok-rec.rec
-    c.requires.start.awaits c.records.invariant more c.next.ensures.looks c.next.ensures.expected c.in_ok-rec.ensures.next c.in_ok-rec.ensures.checked c.next.ensures.loaded
+    c.requires.start.awaits c.records.invariant more c.next.ensures.looks c.in_ok-rec.ensures.next.expected c.in_ok-rec.ensures.next c.in_ok-rec.ensures.next.checked c.next.ensures.loaded
     c.in_ok-rec.ensures.right c.add.ensures
 
 pub returns-clause-ok : goal.returns-clause-ok

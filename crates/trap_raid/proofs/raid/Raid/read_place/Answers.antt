@@ -1,15 +1,20 @@
 use Rattle.std.proofs.Common.{◌≡◌, ◌≢◌, ℕ, false, Option, None, Some, OnOk, length, eqb, eq-eqb, refl, ap, sym, subst, ◌∙◌, rules}
 use Rattle.std.specs.Option.{option_eq}
+use Rattle.std.specs.Prelude.{IfErr}
+use Rattle.trap_bank.specs.Called.{CalledTimes}
 use Rattle.std.proofs.lemmas.Bool.{false≢true}
 use Rattle.std.proofs.lemmas.Result.{on_ok_weaker}
 use Rattle.trap_model.specs.Image.{IsImage}
 use Rattle.trap_map.specs.Table.{table}
 use Rattle.trap_pool.specs.Pooled.{pool_block}
 use Rattle.trap_raid.specs.Condition.{Condition}
+use Rattle.trap_raid.specs.Standing.{reads_until}
 use Rattle.trap_raid.specs.Members.{IsPlace, HoldImage, PlaceFits, member_place}
 use Rattle.trap_stage.specs.Staged.{newest_at}
 use Rattle.trap_raid.proofs.PoolLemmas.{lent_here}
 use Rattle.trap_raid.proofs.TableLemmas.{others_stand, member_stands}
+use Rattle.trap_raid.proofs.CostLemmas.{own_stopped}
+use Rattle.trap_raid.proofs.CostLemmas.{lost_stopped}
 use Rattle.trap_raid.proofs.raid.Raid.read_place.Goals as goal
 
 pub read_others-requires-clause-disks : goal.read_others-requires-clause-disks
@@ -55,3 +60,21 @@ returns-else-eq-clause-table g c = λ told image is_image stands.
     (λ e. lent_here pool c.args.into.now bytes fits c.requires.leases.0 ∙ e ∙ ap (λ k. member_place k disks place.row place.member) is_g
     ∙ member_stands h c.args.self.now.lost writes (member_place h disks) image stands place.row place.member c.requires.place.row c.requires.place.member none (λ f. not_gone (is_lost ∙ f)))
     (c.read_member.ensures.bytes told)
+
+-- ---- nothing is read after a failure of another member
+pub returns-then-eq-clause-failed_calls : goal.returns-then-eq-clause-failed_calls
+returns-then-eq-clause-failed_calls g c =
+    let writes = c.args.stage.now.pending in
+    let P : Condition → Type 0 =
+    λ k. IfErr c.read_others.result
+    (λ f. CalledTimes (reads_until k.g k.lost writes c.args.place.row c.args.place.member f.member) (g.B.Bank.view c.args.bank.now) (g.B.Bank.view c.read_others.new.bank)) in
+    subst P c.self.view_is (lost_stopped c.self.inside.g c.self.inside.lost writes c.args.place.row c.args.place.member c.read_others.result
+    (g.B.Bank.view c.args.bank.now) (g.B.Bank.view c.read_others.new.bank) (search rules) c.read_others.ensures.failed_calls)
+
+-- ---- nor after one of its own
+pub returns-else-eq-clause-failed_calls : goal.returns-else-eq-clause-failed_calls
+returns-else-eq-clause-failed_calls g c =
+    let is_lost : c.self.inside.lost ≡ c.args.self.now.lost = ap (λ (k : Condition). k.lost) c.self.view_is in
+    let not_gone = isnt_lost c.self.inside.lost c.args.place.member (sym c.eq.ensures ∙ c.if-eq.false) in
+    own_stopped c.args.self.now.g c.args.self.now.lost c.args.stage.now.pending c.args.place.row c.args.place.member c.read_member.result
+    (g.B.Bank.view c.args.bank.now) (g.B.Bank.view c.read_member.new.bank) (λ f. not_gone (is_lost ∙ f)) c.read_member.ensures.calls

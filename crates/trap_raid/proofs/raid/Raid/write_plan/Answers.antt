@@ -14,7 +14,7 @@ use Rattle.trap_raid.proofs.TableLemmas.{stand_along, plan_from_reads}
 use Rattle.trap_bank.proofs.OnlyReads.{reads_then}
 use Rattle.trap_raid.specs.Standing.{plan_reads}
 use Rattle.trap_raid.proofs.StandingLemmas.{plan_by_reads}
-use Rattle.trap_raid.proofs.CostLemmas.{takes_failed, plan_failed_first, plan_both, plan_done}
+use Rattle.trap_raid.proofs.CostLemmas.{takes_failed, plan_failed_first, plan_stopped_first, plan_stopped_second, plan_both, plan_done}
 use Rattle.trap_raid.proofs.raid.Raid.write_plan.Goals as goal
 
 -- the row's parity is read where the block's place was found
@@ -97,6 +97,27 @@ returns-in_err-read_place-2-clause-calls g c =
     (plan_both c.args.self.now.g c.args.self.now.lost c.args.stage.now.pending c.args.block c.place_of-place.result c.parity_of.result is_place is_member
     c.read_place-2.result (g.B.Bank.view c.args.bank.now) (g.B.Bank.view c.read_place.new.bank) (g.B.Bank.view c.read_place-2.new.bank)
     c.in_ok-read_place.ensures.calls.ok c.read_place-2.ensures.calls)
+
+-- nothing is read after a failure
+pub returns-in_err-read_place-clause-failed_calls : goal.returns-in_err-read_place-clause-failed_calls
+returns-in_err-read_place-clause-failed_calls g c =
+    let is_g : c.self.inside.g ≡ c.args.self.now.g = ap (λ (k : Condition). k.g) c.self.view_is in
+    let is_place : c.place_of-place.result ≡ block_place c.args.self.now.g c.args.block = c.place_of-place.ensures.place ∙ ap (λ h. block_place h c.args.block) is_g in
+    let is : Err c.in_err-read_place.field-0.0 ≡ c.from_residual.result = search rules in
+    plan_stopped_first c.args.self.now.g c.args.self.now.lost c.args.stage.now.pending c.args.block c.place_of-place.result (parity_member c.args.self.now.g c.place_of-place.result.row) is_place refl
+    c.from_residual.result c.in_err-read_place.field-0.0 (g.B.Bank.view c.args.bank.now) (g.B.Bank.view c.read_place.new.bank) is
+    c.in_err-read_place.ensures.read c.in_err-read_place.ensures.failed_calls
+
+pub returns-in_err-read_place-2-clause-failed_calls : goal.returns-in_err-read_place-2-clause-failed_calls
+returns-in_err-read_place-2-clause-failed_calls g c =
+    let is_g : c.self.inside.g ≡ c.args.self.now.g = ap (λ (k : Condition). k.g) c.self.view_is in
+    let is_place : c.place_of-place.result ≡ block_place c.args.self.now.g c.args.block = c.place_of-place.ensures.place ∙ ap (λ h. block_place h c.args.block) is_g in
+    let is_member : c.parity_of.result ≡ parity_member c.args.self.now.g c.place_of-place.result.row =
+    c.parity_of.ensures.parity ∙ ap (λ h. parity_member h c.place_of-place.result.row) is_g in
+    let is : Err c.in_err-read_place-2.field-0.0 ≡ c.from_residual-in_err-read_place-2.result = search rules in
+    plan_stopped_second c.args.self.now.g c.args.self.now.lost c.args.stage.now.pending c.args.block c.place_of-place.result c.parity_of.result is_place is_member
+    c.from_residual-in_err-read_place-2.result c.in_err-read_place-2.field-0.0 (g.B.Bank.view c.args.bank.now) (g.B.Bank.view c.read_place.new.bank) (g.B.Bank.view c.read_place-2.new.bank) is
+    c.in_err-read_place-2.ensures.read c.in_ok-read_place.ensures.calls.ok c.in_err-read_place-2.ensures.failed_calls
 
 pub returns-clause-calls : goal.returns-clause-calls
 returns-clause-calls g c =

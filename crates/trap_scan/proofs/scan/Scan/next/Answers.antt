@@ -1,4 +1,4 @@
-use Rattle.std.proofs.Common.{drop, refl, subst}
+use Rattle.std.proofs.Common.{drop, refl, subst, arith}
 use Rattle.trap_record.specs.Reading.{IsWhole}
 use Rattle.trap_scan.specs.Window.{IsFront, HasRanges}
 use Rattle.trap_scan.proofs.Taking.{is_not, loaded_after, ahead_after, comes_next, none_next}
@@ -32,12 +32,21 @@ returns-then-not-may_follow-clause-damaged g c = λ told at is.
           (subst (λ f. IsFront size bytes f) c.in-Some.is (c.in_ok-front.ensures.found told bytes ahead)) ahead;
     }
 
-pub returns-clause-checked : goal.returns-clause-checked
-returns-clause-checked g c =
+pub returns-clause-next : goal.returns-clause-next
+returns-clause-next g c =
     let may = c.may_follow.ensures.0 c.if-not-may_follow.false in
+    let place = c.front.ensures.place in
+    let over = c.take.ensures.over in
     record {
-      ranges = subst (λ f. HasRanges c.args.self.now.expected.size f) c.in-Some.is c.in_ok-front.ensures.ranges;
-      block = may.block;
-      later = may.later;
-      last = λ none. (may.ends none).time;
+      expected = c.take.ensures.expected;
+      checked = record {
+        ranges = subst (λ f. HasRanges c.args.self.now.expected.size f) c.in-Some.is c.in_ok-front.ensures.ranges;
+        block = may.block;
+        later = may.later;
+        last = λ none. (may.ends none).time;
+      };
+      number = may.number;
+      seq = c.take.ensures.seq;
+      time = c.take.ensures.time;
+      at = omega (arith, place.at, over.at);
     }
