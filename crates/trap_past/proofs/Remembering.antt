@@ -10,7 +10,7 @@ use Rattle.trap_model.specs.State.{image_at, IsEntry}
 use Rattle.trap_model.proofs.Validity.{image_after_is_image}
 use Rattle.trap_index.specs.Indexed.{no_rec, last_seq}
 use Rattle.trap_past.specs.declared.memory.Kept.{Kept}
-use Rattle.trap_past.specs.Memory.{PastInMemory, kept_entry, rec_of, state_of, index_of, past_of, IsPastInMemory}
+use Rattle.trap_past.specs.Memory.{PastInMemory, kept_entry, kept_rec, past_state, index_of, past_of, IsPastInMemory}
 use Rattle.trap_past.specs.Past.{IsOf}
 
 -- what stands for an entry where there is none
@@ -20,14 +20,14 @@ nothing = record { rec = no_rec; contents = [] }
 pub entry_in : (m : PastInMemory) (k : ℕ) → k < length m.entries → get_or (map kept_entry m.entries) k no_entry ≡ kept_entry (get_or m.entries k nothing)
 entry_in m k inside = get_or-map kept_entry m.entries k nothing no_entry inside
 
-rec_in : (m : PastInMemory) (k : ℕ) → k < length m.entries → get_or (map rec_of m.entries) k no_rec ≡ rec_of (get_or m.entries k nothing)
-rec_in m k inside = get_or-map rec_of m.entries k nothing no_rec inside
+rec_in : (m : PastInMemory) (k : ℕ) → k < length m.entries → get_or (map kept_rec m.entries) k no_rec ≡ kept_rec (get_or m.entries k nothing)
+rec_in m k inside = get_or-map kept_rec m.entries k nothing no_rec inside
 
 -- the past can stand for its state
-pub stands_for : (m : PastInMemory) → IsPastInMemory m → IsOf (past_of m).has (state_of m)
+pub stands_for : (m : PastInMemory) → IsPastInMemory m → IsOf (past_of m).has (past_state m)
 stands_for m is =
     let entries = length-map m.entries kept_entry in
-    let recs = length-map m.entries rec_of in
+    let recs = length-map m.entries kept_rec in
     record {
       blocks = is.image.long;
       sized = is.image.sized;
@@ -57,13 +57,13 @@ sized_now m block is inside = (image_after_is_image m.g m.base (map kept_entry m
 
 -- the entry with a number
 pub record IsEntryAt (m : PastInMemory) (q : ℕ) (kept : Kept) : Type 0 where
-  pub is : kept_entry kept ≡ entry_at (state_of m) q
+  pub is : kept_entry kept ≡ entry_at (past_state m) q
   pub block : kept.rec.block < volume m.g
   pub size : length kept.contents ≡ m.g.block
 
 pub entry_kept : (m : PastInMemory) (q at : ℕ) (kept : Kept) → IsPastInMemory m → m.first < q → q ≤ last_seq (index_of m) → at ≡ q - m.first - 1 → kept ≡ get_or m.entries at kept → IsEntryAt m q kept
 entry_kept m q at kept is low high place read =
-    let recs = length-map m.entries rec_of in
+    let recs = length-map m.entries kept_rec in
     let entries = length-map m.entries kept_entry in
     let k = q - (m.first + 1) in
     let same : at ≡ k = omega arith in
@@ -81,8 +81,8 @@ entry_kept m q at kept is low high place read =
 
 -- the block of an entry before it
 pub before_is : (m : PastInMemory) (q count block : ℕ) (base : List (List ℕ)) (entries : List Kept) (found : List ℕ) → base ≡ m.base → entries ≡ m.entries
-    → count ≡ q - m.first - 1 → block ≡ (entry_at (state_of m) q).block → found ≡ block_of (image_after base (map kept_entry (take count entries))) block
-    → found ≡ block_of (image_at (state_of m) (q - 1)) (entry_at (state_of m) q).block
+    → count ≡ q - m.first - 1 → block ≡ (entry_at (past_state m) q).block → found ≡ block_of (image_after base (map kept_entry (take count entries))) block
+    → found ≡ block_of (image_at (past_state m) (q - 1)) (entry_at (past_state m) q).block
 before_is m q count block base entries found base_is entries_is place writes is =
     let same : count ≡ q - 1 - m.first = omega arith in
     is
@@ -90,4 +90,4 @@ before_is m q count block base entries found base_is entries_is place writes is 
     ∙ ap (λ (l : List Kept). block_of (image_after m.base (map kept_entry (take count l))) block) entries_is
     ∙ ap (λ (l : List Entry). block_of (image_after m.base l) block) (sym (take-map kept_entry count m.entries))
     ∙ ap (λ (n : ℕ). block_of (image_after m.base (take n (map kept_entry m.entries))) block) same
-    ∙ ap (λ (b : ℕ). block_of (image_at (state_of m) (q - 1)) b) writes
+    ∙ ap (λ (b : ℕ). block_of (image_at (past_state m) (q - 1)) b) writes

@@ -48,7 +48,7 @@ of_described i s v is valid index blocks size =
 
 -- as many records as entries write a block, where they write the same ones
 same_count : (block : ℕ) (recs : List LogRec) (entries : List Entry) → length recs ≡ length entries
-    → ((k : ℕ) → k < length recs → (get_or recs k no_rec).block ≡ (get_or entries k no_entry).block) → length (of_block block recs) ≡ length (model.of_block block entries)
+    → ((k : ℕ) → k < length recs → (get_or recs k no_rec).block ≡ (get_or entries k no_entry).block) → length (of_block block recs) ≡ length (model.entries_of_block block entries)
 same_count block [] [] long same = refl
 same_count block [] (entry ∷ entries) long same = cc
 same_count block (rec ∷ recs) [] long same = cc
@@ -59,14 +59,14 @@ same_count block (rec ∷ recs) (entry ∷ entries) long same =
     (λ (t : (entry.block == block) ≡ true).
     let s : (rec.block == block) ≡ true = ap (λ (b : ℕ). b == block) here ∙ t in
     let one : of_block block (rec ∷ recs) ≡ rec ∷ of_block block recs = rw s refl in
-    let other : model.of_block block (entry ∷ entries) ≡ entry ∷ model.of_block block entries = rw t refl in
+    let other : model.entries_of_block block (entry ∷ entries) ≡ entry ∷ model.entries_of_block block entries = rw t refl in
     let first = ap (λ (l : List LogRec). length l) one in
     let second = ap (λ (l : List Entry). length l) other in
     omega arith)
     (λ (f : (entry.block == block) ≡ false).
     let s : (rec.block == block) ≡ false = ap (λ (b : ℕ). b == block) here ∙ f in
     let one : of_block block (rec ∷ recs) ≡ of_block block recs = rw s refl in
-    let other : model.of_block block (entry ∷ entries) ≡ model.of_block block entries = rw f refl in
+    let other : model.entries_of_block block (entry ∷ entries) ≡ model.entries_of_block block entries = rw f refl in
     let first = ap (λ (l : List LogRec). length l) one in
     let second = ap (λ (l : List Entry). length l) other in
     omega arith)
@@ -88,4 +88,4 @@ path_same i s v block q of index =
     ap (λ (r : LogRec). r.block) (get_or-drop n i.recs k no_rec)
     ∙ same_block i v s of index (n + k) (omega arith)
     ∙ sym (ap (λ (e : Entry). e.block) (get_or-drop n s.entries k no_entry))) in
-    ap path_back (counts ∙ ap (λ (m : ℕ). length (model.of_block block (drop m s.entries))) same)
+    ap path_back (counts ∙ ap (λ (m : ℕ). length (model.entries_of_block block (drop m s.entries))) same)

@@ -1,5 +1,5 @@
 -- Going back over a block's entries, one parity at a time.
-use Rattle.std.proofs.Common.{◌≡◌, ℕ, ◌+◌, ◌-◌, ◌^◌, ◌<◌, ◌≤◌, List, length, take, ap, sym, ◌∙◌, subst, arith}
+use Rattle.std.proofs.Common.{◌≡◌, ℕ, ◌+◌, ◌-◌, ◌^◌, ◌<◌, ◌≤◌, List, length, take, refl, ap, sym, ◌∙◌, subst, arith}
 use Rattle.std.proofs.lemmas.List.{take_all}
 use Rattle.trap_block.specs.Xor.{xor}
 use Rattle.trap_model.specs.declared.history.State.{State}
@@ -10,9 +10,10 @@ use Rattle.trap_index.specs.Indexed.{Indexed, last_seq, newest, recs_above, of_b
 use Rattle.trap_index.specs.Keeping.{IsIndexed}
 use Rattle.trap_index.proofs.Chains.{of_block_more, of_block_parts, of_block_few}
 use Rattle.trap_index.proofs.Walking.{Walked, IsAbove, walk_at, walk_falls, walk_ends}
-use Rattle.trap_past.specs.Past.{Past, Retained, IsOf, IsIndexOf, GivesPresent, GivesParity, Undoes, UndoesAtMost}
+use Rattle.trap_past.specs.Asking.{nth_newest, Undoes, UndoesAtMost}
+use Rattle.trap_past.specs.Past.{Past, Retained, IsOf, IsIndexOf, GivesPresent, GivesParity}
 use Rattle.trap_past.specs.Undo.{parity_at}
-use Rattle.trap_past.proofs.Counts.{undoes_none, undoes_more, undoes_at_most}
+use Rattle.trap_past.proofs.Counts.{linked, undoes_none, undoes_more, undoes_at_most}
 use Rattle.trap_past.proofs.Standing.{writes_to, stays, taken_back, as_long}
 
 -- the source can stand for the states that it stands for
@@ -28,7 +29,8 @@ pub record Traced (i : Indexed) (old new : Past) (block seq number : ℕ) (into 
   pub reaches : seq - i.first ≤ before
   pub next : number ≡ newest block (take before i.recs)
   pub passed : turns + writes_to i block before ≡ length (of_block block i.recs)
-  pub calls : Undoes turns block old new
+  pub order : number ≡ nth_newest i block turns
+  pub calls : Undoes i turns block old new
   pub faults : old.faults ≤ new.faults
   pub told : (s : State) → old.stands s → into ≡ block_of (image_after s.base (take before s.entries)) block
 
@@ -48,7 +50,8 @@ trace_begins i old new block seq number into index lawful high is call faults to
       reaches = omega arith;
       next = is ∙ ap (newest block) (sym all);
       passed = (let counts : writes_to i block (length i.recs) ≡ length (of_block block i.recs) = ap (λ (l : List LogRec). length (of_block block l)) all in omega arith);
-      calls = undoes_none block old new call;
+      order = is;
+      calls = undoes_none i block old new call;
       faults = faults;
       told = λ s stands.
           let long = as_long i old.has s (lawful s stands) index in
@@ -107,13 +110,14 @@ module _ (i : Indexed) (old new : Past) (block seq number : ℕ) (into : List �
       let fewer = of_block_more block i.recs (seq - i.first) (number - (i.first + 1)) (omega arith) in
       omega arith
 
-  pub trace_faulty : (next : Past) → IsIndexOf i old.has → old.has.first ≤ seq → seq < number → GivesParity new next → UndoesAtMost (length (of_block block (recs_above i seq))) block old next
+  pub trace_faulty : (next : Past) → IsIndexOf i old.has → old.has.first ≤ seq → seq < number → GivesParity number new next → UndoesAtMost i (length (of_block block (recs_above i seq))) block old next
   trace_faulty next index low above call =
       let one = index.first in
-      undoes_at_most (was.turns + 1) (length (of_block block (recs_above i seq))) block old next (undoes_more was.turns block old new next was.calls call) (trace_few (omega arith) above)
+      undoes_at_most i (was.turns + 1) (length (of_block block (recs_above i seq))) block old next (undoes_more i was.turns block number old new next was.order was.calls call)
+      (trace_few (omega arith) above)
 
   pub trace_goes_on : (next : Past) (older : ℕ) (parity after : List ℕ) → IsIndexOf i old.has → IsLawful old → block < old.has.volume → seq < number
-      → older ≡ (item_at i number).prev → GivesParity new next → new.faults ≤ next.faults → ((s : State) → new.stands s → parity ≡ parity_at s number) → after ≡ xor into parity
+      → older ≡ (item_at i number).prev → GivesParity number new next → new.faults ≤ next.faults → ((s : State) → new.stands s → parity ≡ parity_at s number) → after ≡ xor into parity
       → Traced i old next block seq older after
   trace_goes_on next older parity after index lawful inside above prev call faults gives xored =
       let at = above_is above in
@@ -131,7 +135,8 @@ module _ (i : Indexed) (old new : Past) (block seq number : ℕ) (into : List �
         reaches = omega arith;
         next = prev ∙ ap (λ (b : ℕ). newest b (take (number - (i.first + 1)) i.recs)) at.writes;
         passed = omega arith;
-        calls = undoes_more was.turns block old new next was.calls call;
+        order = prev ∙ ap (λ (n : ℕ). (item_at i n).prev) was.order ∙ linked i block was.turns (was.turns + 1) refl;
+        calls = undoes_more i was.turns block number old new next was.order was.calls call;
         faults = omega arith;
         told = λ s stands.
             let of = lawful s stands in
@@ -150,16 +155,16 @@ module _ (i : Indexed) (old new : Past) (block seq number : ℕ) (into : List �
   trace_all : i.first ≤ seq → number ≤ seq → was.turns ≡ length (of_block block (recs_above i seq))
   trace_all low met = walk_ends i block seq was.turns number is walked low met
 
-  pub trace_turns : IsIndexOf i old.has → old.has.first ≤ seq → number ≤ seq → Undoes (length (of_block block (recs_above i seq))) block old new
+  pub trace_turns : IsIndexOf i old.has → old.has.first ≤ seq → number ≤ seq → Undoes i (length (of_block block (recs_above i seq))) block old new
   trace_turns index low met =
       let one = index.first in
-      subst (λ (n : ℕ). Undoes n block old new) (trace_all (omega arith) met) was.calls
+      subst (λ (n : ℕ). Undoes i n block old new) (trace_all (omega arith) met) was.calls
 
-  pub trace_at_most : IsIndexOf i old.has → old.has.first ≤ seq → number ≤ seq → UndoesAtMost (length (of_block block (recs_above i seq))) block old new
+  pub trace_at_most : IsIndexOf i old.has → old.has.first ≤ seq → number ≤ seq → UndoesAtMost i (length (of_block block (recs_above i seq))) block old new
   trace_at_most index low met =
       let one = index.first in
       let all = trace_all (omega arith) met in
-      undoes_at_most was.turns (length (of_block block (recs_above i seq))) block old new was.calls (omega arith)
+      undoes_at_most i was.turns (length (of_block block (recs_above i seq))) block old new was.calls (omega arith)
 
   pub trace_ends : IsIndexOf i old.has → IsLawful old → old.has.first ≤ seq → number ≤ seq → (s : State) → old.stands s → into ≡ block_of (image_at s seq) block
   trace_ends index lawful low met s stands =

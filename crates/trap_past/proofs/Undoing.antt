@@ -10,7 +10,7 @@ use Rattle.trap_model.specs.declared.history.Entry.{Entry}
 use Rattle.trap_model.specs.declared.history.State.{State}
 use Rattle.trap_model.specs.declared.numbers.Geometry.{Geometry}
 use Rattle.trap_model.specs.Image.{volume, IsImage, block_of, written, image_after}
-use Rattle.trap_model.specs.Path.{of_block}
+use Rattle.trap_model.specs.Path.{entries_of_block}
 use Rattle.trap_model.specs.State.{image, image_at, above, IsEntry, IsValid}
 use Rattle.trap_model.proofs.Images.{block_written_same, block_written_other}
 use Rattle.trap_model.proofs.Dropping.{image_after-append}
@@ -65,7 +65,7 @@ undone_at g s block q valid inside =
     ∙ ap (λ (im : List (List ℕ)). contents_before (block_of im block) (parities_above s block q)) whole
 
 -- there is one parity for each write of the block
-pub length-parities_over : (block : ℕ) (base : List (List ℕ)) (entries : List Entry) → length (parities_over block base entries) ≡ length (of_block block entries)
+pub length-parities_over : (block : ℕ) (base : List (List ℕ)) (entries : List Entry) → length (parities_over block base entries) ≡ length (entries_of_block block entries)
 length-parities_over block base [] = refl
 length-parities_over block base (entry ∷ later) =
     let rest = length-parities_over block (written base entry) later in
@@ -73,12 +73,12 @@ length-parities_over block base (entry ∷ later) =
     (λ (t : (entry.block == block) ≡ true).
     let sum = length-append (parities_over block (written base entry) later) (write_parity base entry ∷ []) in
     let split : parities_over block base (entry ∷ later) ≡ parities_over block (written base entry) later ++ write_parity base entry ∷ [] = rw t refl in
-    let one : of_block block (entry ∷ later) ≡ entry ∷ of_block block later = rw t refl in
+    let one : entries_of_block block (entry ∷ later) ≡ entry ∷ entries_of_block block later = rw t refl in
     let long = ap (λ (l : List (List ℕ)). length l) split in
     let counts = ap (λ (l : List Entry). length l) one in
     omega arith)
     (λ (f : (entry.block == block) ≡ false).
     let split : parities_over block base (entry ∷ later) ≡ parities_over block (written base entry) later = rw f (append-nil (parities_over block (written base entry) later)) in
-    let none : of_block block (entry ∷ later) ≡ of_block block later = rw f refl in
+    let none : entries_of_block block (entry ∷ later) ≡ entries_of_block block later = rw f refl in
     ap (λ (l : List (List ℕ)). length l) split ∙ rest ∙ sym (ap (λ (l : List Entry). length l) none))
     (cases_Bool (entry.block == block))

@@ -1,4 +1,5 @@
 pub mod Undo
 pub mod Past
+pub mod Asking
 pub mod Memory
 pub mod MemoryFields

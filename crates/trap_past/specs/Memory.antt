@@ -1,5 +1,6 @@
 -- A past in memory: entries over a base, each with its record's header.
-use Rattle.std.specs.Prelude.{◌≡◌, ◌↔◌, ◌≤◌, ℕ, List, [], ◌∷◌, ◌++◌, All, map, Result, IsErr, MatchResult}
+use Rattle.std.specs.Prelude.{◌≡◌, ◌↔◌, ◌≤◌, ℕ, List, [], ◌∷◌, ◌++◌, All, map, Result, IsErr}
+use Rattle.std.specs.Prelude.{MatchResult}
 use Rattle.trap_bank.specs.declared.disks.Failed.{Failed}
 use Rattle.trap_bank.specs.Faults.{Rose}
 use Rattle.trap_bank.specs.Counts.{one_more}
@@ -30,6 +31,8 @@ pub record PastInMemory : Type 0 where
   pub snapshots : ℕ
   -- the block whose present contents were asked for last
   pub asked : ℕ
+  -- the number of the entry that was asked for last
+  pub looked : ℕ
   -- how many calls there were, up to the greatest number of 64 bits, and the number of the one that
   -- is to fail
   pub calls : ℕ
@@ -46,12 +49,12 @@ kept_entry kept = record {
   snap = kept.rec.snap;
 }
 
-abbrev pub rec_of : Kept → LogRec
-rec_of kept = kept.rec
+abbrev pub kept_rec : Kept → LogRec
+kept_rec kept = kept.rec
 
 -- the state that it stands for, and the index of its entries
-abbrev pub state_of : PastInMemory → State
-state_of m = record {
+abbrev pub past_state : PastInMemory → State
+past_state m = record {
   first = m.first;
   base_time = m.base_time;
   base = m.base;
@@ -64,7 +67,7 @@ index_of m = record {
   first = m.first;
   base_time = m.base_time;
   first_off = m.first_off;
-  recs = map rec_of m.entries;
+  recs = map kept_rec m.entries;
 }
 
 -- it stands for its state alone
@@ -77,22 +80,27 @@ past_of m = record {
     last = last_seq (index_of m);
     item = item_at (index_of m);
   };
-  stands = λ s. s ≡ state_of m;
+  stands = λ s. s ≡ past_state m;
   presents = m.presents;
   parities = m.parities;
   snapshots = m.snapshots;
   asked = m.asked;
+  looked = m.looked;
   faults = m.faults;
 }
 
 -- what calls may do: it stands for the same state, and no count of faults falls
 pub record Stays (old new : PastInMemory) : Type 0 where
-  pub state : state_of new ≡ state_of old
+  pub state : past_state new ≡ past_state old
   pub faults : old.faults ≤ new.faults
 
 -- what it says of a fault: a call has failed
 abbrev pub CallFailed : PastInMemory → PastInMemory → Failed → Type 0
 CallFailed old new fault = Rose old.faults new.faults
+
+-- right after it: the last call was the chosen one
+abbrev pub WasChosen : PastInMemory → Failed → Type 0
+WasChosen m fault = m.calls ≡ m.failing
 
 -- the base is an image, and each entry writes a block
 pub record IsPastInMemory (m : PastInMemory) : Type 0 where
@@ -112,6 +120,7 @@ zero_past g first base_time first_off = record {
   parities = 0;
   snapshots = 0;
   asked = 0;
+  looked = 0;
   calls = 0;
   failing = 0;
   faults = 0;

@@ -14,6 +14,7 @@ past_memory_of past = record {
   parities = past.parities;
   snapshots = past.snapshots;
   asked = past.asked;
+  looked = past.looked;
   calls = past.calls;
   failing = past.failing;
   faults = past.faults;

@@ -1,5 +1,5 @@
 -- What a source of the past means, and what its methods do.
-use Rattle.std.specs.Prelude.{◌≡◌, ◌↔◌, ◌⊎◌, ℕ, ◌+◌, ◌^◌, ◌<◌, ◌≤◌, length, Result, IfErr}
+use Rattle.std.specs.Prelude.{◌≡◌, ◌↔◌, ℕ, ◌+◌, ◌^◌, ◌<◌, ◌≤◌, length, Result, IfErr}
 use Rattle.trap_bank.specs.Faults.{HasCause}
 use Rattle.trap_model.specs.declared.history.Entry.{Entry}
 use Rattle.trap_model.specs.declared.history.State.{State}
@@ -30,6 +30,8 @@ pub record Past : Type 1 where
   pub snapshots : ℕ
   -- the block whose present contents were asked for last
   pub asked : ℕ
+  -- the number of the entry whose record was asked for last
+  pub looked : ℕ
   -- how many faults there were
   pub faults : ℕ
 
@@ -74,13 +76,14 @@ pub record HasFewCalls (v : Past) : Type 0 where
   pub parities : v.parities ≤ 2 ^ 62
   pub snapshots : v.snapshots ≤ 2 ^ 62
 
--- A call fails only where the count of faults rose, and with a fault that has its cause. No count
--- falls.
-pub record HasBlame {S T F : Type 0} (view : S → Past) (causes : S → S → F → Type 0)
-    (result : Result T F) (old new : S)
+-- A call fails only where the count of faults rose, and with a fault that has its reasons. Right
+-- after it what the source says of such a fault is so. No count falls.
+pub record HasBlame {S T F : Type 0} (view : S → Past) (reasons : S → S → F → Type 0)
+    (after_fault : S → F → Type 0) (result : Result T F) (old new : S)
     : Type 0 where
   pub cause : HasCause (view old).faults (view new).faults result
-  pub caused : IfErr result (λ fault. causes old new fault)
+  pub reason : IfErr result (λ fault. reasons old new fault)
+  pub after : IfErr result (λ fault. after_fault new fault)
 
 -- no call changes what a source has, nor the states that it stands for
 pub record Remains (old new : Past) : Type 0 where
@@ -94,34 +97,20 @@ pub record GivesPresent (block : ℕ) (old new : Past) : Type 0 where
   pub asked : new.asked ≡ block
   pub parities : new.parities ≡ old.parities
   pub snapshots : new.snapshots ≡ old.snapshots
+  pub looked : new.looked ≡ old.looked
 
-pub record GivesParity (old new : Past) : Type 0 where
+pub record GivesParity (seq : ℕ) (old new : Past) : Type 0 where
   pub remains : Remains old new
   pub presents : new.presents ≡ old.presents
   pub asked : new.asked ≡ old.asked
   pub parities : new.parities ≡ old.parities + 1
   pub snapshots : new.snapshots ≡ old.snapshots
+  pub looked : new.looked ≡ seq
 
-pub record GivesSnapshot (old new : Past) : Type 0 where
+pub record GivesSnapshot (seq : ℕ) (old new : Past) : Type 0 where
   pub remains : Remains old new
   pub presents : new.presents ≡ old.presents
   pub asked : new.asked ≡ old.asked
   pub parities : new.parities ≡ old.parities
   pub snapshots : new.snapshots ≡ old.snapshots + 1
-
--- the present was asked for once, of this block, parities `turns` times, and no snapshot was
-pub record Undoes (turns block : ℕ) (old new : Past) : Type 0 where
-  pub remains : Remains old new
-  pub presents : new.presents ≡ old.presents + 1
-  pub asked : new.asked ≡ block
-  pub parities : new.parities ≡ old.parities + turns
-  pub snapshots : new.snapshots ≡ old.snapshots
-
--- the present was asked for at most once, and then of this block, parities at most `turns` times,
--- and no snapshot was
-pub record UndoesAtMost (turns block : ℕ) (old new : Past) : Type 0 where
-  pub remains : Remains old new
-  pub present : (new.presents ≡ old.presents)
-      ⊎ ((new.presents ≡ old.presents + 1) × (new.asked ≡ block))
-  pub parities : new.parities ≤ old.parities + turns
-  pub snapshots : new.snapshots ≡ old.snapshots
+  pub looked : new.looked ≡ seq

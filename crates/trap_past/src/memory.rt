@@ -1,15 +1,19 @@
 //! A past in memory.
 
 ghost use Rattle.std.proofs.Common.{rules, ◌∙◌};
-ghost use Rattle.std.specs.Prelude.{◌≡◌, ◌↔◌, ◌^◌, ◌+◌, ◌-◌, ◌<◌, ◌≤◌, ◌∷◌, [], length, map, IfOk, IsErr, IsTrue, OnErr, OnOk};
+ghost use Rattle.std.specs.Prelude.{◌≡◌, ◌↔◌, ◌^◌, ◌+◌, ◌-◌, ◌<◌, ◌≤◌, ◌∷◌, [], length, map, IfOk};
+ghost use Rattle.std.specs.Prelude.{IsErr, IsTrue, OnErr, OnOk};
 ghost use Rattle.trap_bank.specs.Counts.{one_more};
 ghost use Rattle.trap_index.specs.Indexed.{last_seq, item_at};
 ghost use Rattle.trap_model.specs.Image.{volume, block_of, image_after, zero_image};
 ghost use Rattle.trap_model.specs.Records.{entry_at};
 ghost use Rattle.trap_model.specs.State.{image, image_at};
 ghost use Rattle.trap_model.specs.declared.history.State.{State};
-ghost use Rattle.trap_past.specs.Memory.{kept_entry, state_of, index_of, past_of, zero_past, with_entry, Stays, CallFailed, PastFailsAsChosen};
-ghost use Rattle.trap_past.specs.Past.{IsOf, IsRetained, HasBlame, GivesPresent, GivesParity, GivesSnapshot};
+ghost use Rattle.trap_past.specs.Memory.{kept_entry, past_state, index_of, past_of, zero_past};
+ghost use Rattle.trap_past.specs.Memory.{with_entry, Stays, CallFailed, WasChosen};
+ghost use Rattle.trap_past.specs.Memory.{PastFailsAsChosen};
+ghost use Rattle.trap_past.specs.Past.{IsOf, IsRetained, HasBlame, GivesPresent, GivesParity};
+ghost use Rattle.trap_past.specs.Past.{GivesSnapshot};
 ghost use Rattle.trap_past.specs.Undo.{parity_at};
 ghost use Rattle.trap_pool.specs.Frames.{AreLeases, Only};
 ghost use Rattle.trap_pool.specs.Pooled.{pool_block, IsLive};
@@ -44,6 +48,7 @@ pub struct MemoryPast {
     parities: u64,
     snapshots: u64,
     asked: u32,
+    looked: u64,
     calls: u64,
     failing: u64,
     faults: u64,
@@ -84,6 +89,7 @@ impl MemoryPast {
             parities: 0,
             snapshots: 0,
             asked: 0,
+            looked: 0,
             calls: 0,
             failing: 0,
             faults: 0,
@@ -134,7 +140,7 @@ impl MemoryPast {
     fn kept(&self, seq: u64) -> &Kept
         requires low { self.now.first < seq }
         requires high { seq ≤ last_seq (index_of self.now) }
-        ensures is { kept_entry result.now ≡ entry_at (state_of self.now) seq }
+        ensures is { kept_entry result.now ≡ entry_at (past_state self.now) seq }
         ensures block { result.now.rec.block < volume self.now.g }
         ensures size { length result.now.contents ≡ self.now.g.block }
     {
@@ -145,8 +151,8 @@ impl MemoryPast {
     fn before(&self, seq: u64) -> &Block
         requires low { self.now.first < seq }
         requires high { seq ≤ last_seq (index_of self.now) }
-        ensures is { result.now ≡ block_of (image_at (state_of self.now) (seq - 1))
-            (entry_at (state_of self.now) seq).block }
+        ensures is { result.now ≡ block_of (image_at (past_state self.now) (seq - 1))
+            (entry_at (past_state self.now) seq).block }
         ensures size { length result.now ≡ self.now.g.block }
     {
         let block = self.kept(seq).rec.block as usize;
@@ -160,9 +166,11 @@ impl Present for MemoryPast {
 
     ghost view = { past_of };
 
-    ghost goes = { Stays };
+    ghost acts = { Stays };
 
-    ghost causes = { CallFailed };
+    ghost reasons = { CallFailed };
+
+    ghost after_fault = { WasChosen };
 
     fn present(
         &mut self,
@@ -179,8 +187,8 @@ impl Present for MemoryPast {
             → OnOk result (pool_block pool.new into.now ≡ block_of (image s) block) }
         ensures rest { Only (into.now ∷ _scratch.now ∷ []) pool.old pool.new }
         ensures call { GivesPresent block (past_of self.old) (past_of self.new) }
-        ensures goes { Stays self.old self.new }
-        ensures blame { HasBlame past_of CallFailed result self.old self.new }
+        ensures acts { Stays self.old self.new }
+        ensures blame { HasBlame past_of CallFailed WasChosen result self.old self.new }
         ensures told { (s : State) → (past_of self.old).stands s → IsOf (past_of self.old).has s }
         ensures struck { PastFailsAsChosen result self.old self.new }
     {
@@ -192,12 +200,12 @@ impl Present for MemoryPast {
         Ok(())
     }
 
-    ghost goes_then = { λ a b c ab bc.
+    ghost acts_then = { λ a b c ab bc.
         record { state = bc.state ∙ ab.state; faults = Prim.search rules } };
 
-    ghost causes_since = { λ a b c fault ab bc. let before = ab.faults in Prim.search rules };
+    ghost reasons_since = { λ a b c fault ab bc. let before = ab.faults in Prim.search rules };
 
-    ghost causes_still = { λ a b c fault ab bc. let after = bc.faults in Prim.search rules };
+    ghost reasons_still = { λ a b c fault ab bc. let after = bc.faults in Prim.search rules };
 }
 
 impl Parities for MemoryPast {
@@ -209,12 +217,13 @@ impl Parities for MemoryPast {
         ensures parity { (s : State) → (past_of self.old).stands s
             → OnOk result (pool_block pool.new into.now ≡ parity_at s seq) }
         ensures rest { Only (into.now ∷ []) pool.old pool.new }
-        ensures call { GivesParity (past_of self.old) (past_of self.new) }
-        ensures goes { Stays self.old self.new }
-        ensures blame { HasBlame past_of CallFailed result self.old self.new }
+        ensures call { GivesParity seq (past_of self.old) (past_of self.new) }
+        ensures acts { Stays self.old self.new }
+        ensures blame { HasBlame past_of CallFailed WasChosen result self.old self.new }
         ensures struck { PastFailsAsChosen result self.old self.new }
     {
         self.parities += 1;
+        self.looked = seq;
         self.strike()?;
         let kept = self.kept(seq);
         pool.bytes_mut(into)
@@ -232,12 +241,13 @@ impl Parities for MemoryPast {
         ensures snapshot { (s : State) → (past_of self.old).stands s
             → OnOk result (pool_block pool.new into.now ≡ (entry_at s seq).bytes) }
         ensures rest { Only (into.now ∷ []) pool.old pool.new }
-        ensures call { GivesSnapshot (past_of self.old) (past_of self.new) }
-        ensures goes { Stays self.old self.new }
-        ensures blame { HasBlame past_of CallFailed result self.old self.new }
+        ensures call { GivesSnapshot seq (past_of self.old) (past_of self.new) }
+        ensures acts { Stays self.old self.new }
+        ensures blame { HasBlame past_of CallFailed WasChosen result self.old self.new }
         ensures struck { PastFailsAsChosen result self.old self.new }
     {
         self.snapshots += 1;
+        self.looked = seq;
         self.strike()?;
         pool.bytes_mut(into)
             .copy_from_slice(self.kept(seq).contents.as_slice());

@@ -5,7 +5,8 @@ ghost use Rattle.trap_model.specs.Image.{block_of};
 ghost use Rattle.trap_model.specs.Records.{entry_at};
 ghost use Rattle.trap_model.specs.State.{image};
 ghost use Rattle.trap_model.specs.declared.history.State.{State};
-ghost use Rattle.trap_past.specs.Past.{Past, IsOf, IsRetained, HasBlame, GivesPresent, GivesParity, GivesSnapshot};
+ghost use Rattle.trap_past.specs.Past.{Past, IsOf, IsRetained, HasBlame, GivesPresent, GivesParity};
+ghost use Rattle.trap_past.specs.Past.{GivesSnapshot};
 ghost use Rattle.trap_past.specs.Undo.{parity_at};
 ghost use Rattle.trap_pool.specs.Frames.{AreLeases, Only};
 ghost use Rattle.trap_pool.specs.Pooled.{pool_block, IsLive};
@@ -22,10 +23,13 @@ pub trait Present {
 
     // What calls may do to a source beside what `view` tells, from before the first of them to
     // after the last.
-    ghost goes: { Self → Self → Type 0 };
+    ghost acts: { Self → Self → Type 0 };
 
     // Why such calls ended with a fault.
-    ghost causes: { Self → Self → Self.Fault → Type 0 };
+    ghost reasons: { Self → Self → Self.Fault → Type 0 };
+
+    // What is so right after a call that failed: a later call may change it.
+    ghost after_fault: { Self → Self.Fault → Type 0 };
 
     /// Gives the block's present contents. It may use `scratch`, which then holds any bytes.
     fn present(
@@ -43,21 +47,21 @@ pub trait Present {
             → OnOk result (pool_block pool.new into.now ≡ block_of (image s) block) }
         ensures rest { Only (into.now ∷ scratch.now ∷ []) pool.old pool.new }
         ensures call { GivesPresent block (view self.old) (view self.new) }
-        ensures goes { goes self.old self.new }
-        ensures blame { HasBlame view causes result self.old self.new }
+        ensures acts { acts self.old self.new }
+        ensures blame { HasBlame view reasons after_fault result self.old self.new }
 
         // The states that a source stands for are such that its numbers and items describe.
         ensures told { (s : State) → (view self.old).stands s → IsOf (view self.old).has s };
 
     // Calls one after the other are calls.
-    ghost goes_then: { (a b c : Self) → goes a b → goes b c → goes a c };
+    ghost acts_then: { (a b c : Self) → acts a b → acts b c → acts a c };
 
-    // A fault of the last of some calls is one of them all, and what caused it stays true.
-    ghost causes_since: { (a b c : Self) (fault : Self.Fault)
-        → goes a b → causes b c fault → causes a c fault };
+    // A fault of the last of some calls is one of them all, and its reasons stay true.
+    ghost reasons_since: { (a b c : Self) (fault : Self.Fault)
+        → acts a b → reasons b c fault → reasons a c fault };
 
-    ghost causes_still: { (a b c : Self) (fault : Self.Fault)
-        → causes a b fault → goes b c → causes a c fault };
+    ghost reasons_still: { (a b c : Self) (fault : Self.Fault)
+        → reasons a b fault → acts b c → reasons a c fault };
 }
 
 /// A source of the retained entries too.
@@ -71,9 +75,10 @@ pub trait Parities: Present {
         ensures parity { (s : State) → (Self.view self.old).stands s
             → OnOk result (pool_block pool.new into.now ≡ parity_at s seq) }
         ensures rest { Only (into.now ∷ []) pool.old pool.new }
-        ensures call { GivesParity (Self.view self.old) (Self.view self.new) }
-        ensures goes { Self.goes self.old self.new }
-        ensures blame { HasBlame Self.view Self.causes result self.old self.new };
+        ensures call { GivesParity seq (Self.view self.old) (Self.view self.new) }
+        ensures acts { Self.acts self.old self.new }
+        ensures blame { HasBlame Self.view Self.reasons Self.after_fault result self.old
+            self.new };
 
     /// Gives the contents that a marked entry writes.
     fn snapshot(&mut self, pool: &mut Pool, seq: u64, into: &Lease) -> Result<(), Self::Fault>
@@ -85,7 +90,8 @@ pub trait Parities: Present {
         ensures snapshot { (s : State) → (Self.view self.old).stands s
             → OnOk result (pool_block pool.new into.now ≡ (entry_at s seq).bytes) }
         ensures rest { Only (into.now ∷ []) pool.old pool.new }
-        ensures call { GivesSnapshot (Self.view self.old) (Self.view self.new) }
-        ensures goes { Self.goes self.old self.new }
-        ensures blame { HasBlame Self.view Self.causes result self.old self.new };
+        ensures call { GivesSnapshot seq (Self.view self.old) (Self.view self.new) }
+        ensures acts { Self.acts self.old self.new }
+        ensures blame { HasBlame Self.view Self.reasons Self.after_fault result self.old
+            self.new };
 }

@@ -1,11 +1,12 @@
 //! Undoing a block's writes, the newest first.
 
-ghost use Rattle.std.specs.Prelude.{◌≡◌, ◌<◌, ◌≤◌, ◌∷◌, [], OnOk};
+ghost use Rattle.std.specs.Prelude.{◌≡◌, ℕ, ◌<◌, ◌≤◌, ◌∷◌, [], OnOk};
 ghost use Rattle.trap_index.specs.Indexed.{last_seq, item_at, path_to};
 ghost use Rattle.trap_model.specs.Image.{block_of};
 ghost use Rattle.trap_model.specs.State.{image_at};
 ghost use Rattle.trap_model.specs.declared.history.State.{State};
-ghost use Rattle.trap_past.specs.Past.{IsIndexOf, IsInstant, HasFewCalls, HasBlame, Undoes, UndoesAtMost};
+ghost use Rattle.trap_past.specs.Asking.{IsLater, nth_newest, Undoes, UndoesAtMost};
+ghost use Rattle.trap_past.specs.Past.{IsIndexOf, IsInstant, HasFewCalls, HasBlame};
 ghost use Rattle.trap_pool.specs.Frames.{AreLeases, Only};
 ghost use Rattle.trap_pool.specs.Pooled.{pool_block};
 
@@ -34,17 +35,22 @@ pub fn block_at<P: Parities>(
         → OnOk result (pool_block pool.new into.now ≡ block_of (image_at s seq) block) }
     ensures rest { Only (into.now ∷ scratch.now ∷ []) pool.old pool.new }
 
-    // It asks for the present and the path's parities, and for no more whatever it answers.
+    // It asks for the present and the path's parities, the newest first, and for no more, whatever
+    // it answers.
     ensures turns { OnOk result
-        (Undoes (path_to index.now block seq).turns block (P.view source.old)
+        (Undoes index.now (path_to index.now block seq).turns block (P.view source.old)
         (P.view source.new)) }
-    ensures at_most { UndoesAtMost (path_to index.now block seq).turns block
+    ensures at_most { UndoesAtMost index.now (path_to index.now block seq).turns block
         (P.view source.old) (P.view source.new) }
-    ensures goes { P.goes source.old source.new }
-    ensures blame { HasBlame P.view P.causes result source.old source.new }
+
+    // The entries that it asks for are the block's later ones.
+    ensures later { (k : ℕ) → k < (path_to index.now block seq).turns
+        → IsLater index.now block seq (nth_newest index.now block k) }
+    ensures acts { P.acts source.old source.new }
+    ensures blame { HasBlame P.view P.reasons P.after_fault result source.old source.new }
 {
-    source.present(pool, block, into, scratch)?;
     let mut number = index.newest(block);
+    source.present(pool, block, into, scratch)?;
     while seq < number {
         source.parity(pool, number, scratch)?;
         pool.xor(into, scratch);

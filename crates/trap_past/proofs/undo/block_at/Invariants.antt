@@ -7,7 +7,7 @@ use Rattle.trap_past.proofs.undo.block_at.Given as goal
 abbrev pub invariant-loop-number : goal.invariant-loop-number
 invariant-loop-number g l =
     Traced l.index (g.P.Present.view l.fn.source) (g.P.Present.view l.source) l.block l.seq l.number (pool_block l.pool l.into)
-    × g.P.Present.goes l.fn.source l.source
+    × g.P.Present.acts l.fn.source l.source
     × Only (l.into ∷ l.scratch ∷ []) l.fn.pool l.pool
 
 abbrev pub decreases-loop-number : goal.decreases-loop-number

@@ -2,7 +2,7 @@ use Rattle.std.proofs.Common.{◌≡◌, ℕ, List, ◌<◌, length, map, ap, sy
 use Rattle.trap_model.specs.declared.numbers.Geometry.{Geometry}
 use Rattle.trap_model.specs.Image.{volume, block_of, image_after}
 use Rattle.trap_past.specs.declared.memory.Kept.{Kept}
-use Rattle.trap_past.specs.Memory.{PastInMemory, kept_entry, state_of, past_of}
+use Rattle.trap_past.specs.Memory.{PastInMemory, kept_entry, past_state, past_of}
 use Rattle.trap_past.specs.MemoryFields.{past_memory_of}
 use Rattle.trap_past.specs.Past.{IsOf}
 use Rattle.trap_past.proofs.Remembering.{stands_for, sized_now}
@@ -11,12 +11,12 @@ use Rattle.trap_past.proofs.memory.MemoryPastPresent.present.Goals as goal
 pub returns-in_err-strike-clause-told : goal.returns-in_err-strike-clause-told
 returns-in_err-strike-clause-told c s is =
     subst (IsOf (past_of c.args.self.now).has) (sym is)
-    (subst (λ (m : PastInMemory). IsOf (past_of m).has (state_of m)) c.self.view_is (stands_for (past_memory_of c.self.inside) c.self.invariant))
+    (subst (λ (m : PastInMemory). IsOf (past_of m).has (past_state m)) c.self.view_is (stands_for (past_memory_of c.self.inside) c.self.invariant))
 
 pub returns-clause-told : goal.returns-clause-told
 returns-clause-told c s is =
     subst (IsOf (past_of c.args.self.now).has) (sym is)
-    (subst (λ (m : PastInMemory). IsOf (past_of m).has (state_of m)) c.self.view_is (stands_for (past_memory_of c.self.inside) c.self.invariant))
+    (subst (λ (m : PastInMemory). IsOf (past_of m).has (past_state m)) c.self.view_is (stands_for (past_memory_of c.self.inside) c.self.invariant))
 
 pub copy_from_slice-requires : goal.copy_from_slice-requires
 copy_from_slice-requires c =
