@@ -97,19 +97,19 @@ member_of a v w first second fails = record {
 }
 
 module _ {T : Type 0} (a : Mounted) (block : ℕ) (own : Option Refusal) (result : Result T Denied) (v w : View) (inside : block < volume a.g) (running : a.is_stopped ≡ false)
-    (cause : IfErr result (DeniesInstant a v w)) where
+    (damages : ℕ → Type 0) (cause : IfErr result (DeniesInstant a damages v w)) where
   pub denied_reading : ((why : Refusal) → (result ≡ Err (Refused why)) ↔ (own ≡ Some why)) → (own ≡ Some Full → ⊥) → ((why : Refusal) → own ≡ Some why → Untouched v w)
       → DeniedBy a block (of_reading a own) result v w
   denied_reading refused not_full at_once = record {
-    no_block = ((λ is. absurd (error_meets (DeniesInstant a v w) result (Refused NoBlock) cause is refl)), (λ above. absurd (omega (arith, inside, above))));
-    stopped = ((λ is. absurd (error_meets (DeniesInstant a v w) result Stopped cause is)), (λ both. absurd (not_both both.1)));
+    no_block = ((λ is. absurd (error_meets (DeniesInstant a damages v w) result (Refused NoBlock) cause is refl)), (λ above. absurd (omega (arith, inside, above))));
+    stopped = ((λ is. absurd (error_meets (DeniesInstant a damages v w) result Stopped cause is)), (λ both. absurd (not_both both.1)));
     untouched = λ either. absurd (⊎_elim (λ above. omega (arith, inside, above)) (λ stopped. not_both stopped) either);
     at_once = at_once;
     refused = λ why other free. ((λ is. (inside, running, (refused why).0 is)), (λ all. (refused why).1 all.2));
     full = λ is. not_full ((refused Full).0 is);
-    log = λ is. error_meets (DeniesInstant a v w) result LogFault cause is;
-    member = λ first second is. member_of a v w first second (error_meets (DeniesInstant a v w) result (MemberFault first second) cause is);
-    used = λ first second is. (error_meets (DeniesInstant a v w) result (MemberFault first second) cause is).member.apart;
+    log = λ is. error_meets (DeniesInstant a damages v w) result LogFault cause is;
+    member = λ first second is. member_of a v w first second (error_meets (DeniesInstant a damages v w) result (MemberFault first second) cause is);
+    used = λ first second is. (error_meets (DeniesInstant a damages v w) result (MemberFault first second) cause is).member.apart;
   }
     where
       not_both : a.is_stopped ≡ true → ⊥

@@ -1,8 +1,8 @@
 -- A write from its refusals to its commit.
 use Rattle.std.proofs.Common.{◌≡◌, ◌≢◌, ◌⊎◌, ℕ, ◌+◌, ◌-◌, ◌<◌, ◌≤◌, ◌^◌, List, length, Option, Some, None, Bool, true, false, if◌then◌else◌, ◌==◌, nat_lt, Result, Err, IsTrue, inl, inr, ⊎_elim, refl, sym, ap, subst, ◌∙◌, arith}
 use Rattle.std.proofs.lemmas.Bool.{ltb-true, ltb-false, eqb-true, eqb-false, cases_lt}
-use Rattle.trap_bank.specs.Disks.{Disks, Contents, View}
-use Rattle.trap_bank.specs.Steps.{Moves, Same, OnlyReads}
+use Rattle.trap_bank.specs.Disks.{Contents, View}
+use Rattle.trap_bank.specs.Steps.{Moves, OnlyReads}
 use Rattle.trap_bank.proofs.Moves.{moves_weaken, read_is_left}
 use Rattle.trap_block.specs.Xor.{xor}
 use Rattle.trap_format.specs.HeadValue.{IsHead}
@@ -35,8 +35,9 @@ use Rattle.trap_array.proofs.Beside.{stays_same}
 use Rattle.trap_array.proofs.CommitSteps.{known_same}
 use Rattle.trap_array.proofs.NextHeads.{head_committed}
 use Rattle.trap_array.proofs.Sizes.{sizes_still}
-use Rattle.trap_array.proofs.Turns.{holds_still, same_keeps}
-use Rattle.trap_array.proofs.TurnSteps.{goes_still, turns_failed, turns_after, turns_same, turns_refused, none_moves, back_refused, worn_refused, full_refused, goes_on, planned_from}
+use Rattle.trap_array.proofs.Turns.{same_keeps, same_may}
+use Rattle.trap_bank.proofs.Moves.{unmoved}
+use Rattle.trap_array.proofs.TurnSteps.{goes_still, turns_failed, turns_after, turns_same, turns_refused, back_refused, worn_refused, full_refused, goes_on, planned_from}
 
 -- what a write of these is to do to a state, and what is replied
 abbrev pub next_of : Geometry → ℕ → ℕ → List ℕ → State → State
@@ -46,12 +47,6 @@ abbrev pub reply_of : Geometry → ℕ → ℕ → List ℕ → State → Reply
 reply_of g time block bytes s = (step g).reply s (Write time block bytes)
 
 -- ---- faults before the commit
-pub same_may : (a : Mounted) (v w : View) (next : State → State) → Moves v w Same Same → Moves v w (AtAnyMoment a v next) (AtAnyMoment a v next)
-same_may a v w next moves =
-    moves_weaken v w Same Same (AtAnyMoment a v next) (AtAnyMoment a v next) moves
-    (λ x y was same s always. inl (holds_still a s y.disks (subst (λ (d : Disks). StandsFor a s d) (sym same) (always x was))))
-    (λ x y was left same s always. inl (holds_still a s y.disks (subst (λ (d : Disks). StandsFor a s d) (sym same) (always x was))))
-
 pub kept_may : (a : Mounted) (v w : View) (next : State → State) → Moves v w (AtAnyMoment a v (λ s. s)) (AtAnyMoment a v (λ s. s)) → Moves v w (AtAnyMoment a v next) (AtAnyMoment a v next)
 kept_may a v w next moves =
     moves_weaken v w (AtAnyMoment a v (λ s. s)) (AtAnyMoment a v (λ s. s)) (AtAnyMoment a v next) (AtAnyMoment a v next) moves
@@ -92,10 +87,10 @@ pub early_turns : (a : IndexedLog) (v : View) (time block : ℕ) (bytes : List �
     → MovesLog a a (next_of a.g time block bytes) (reply_of a.g time block bytes) (Err (Refused why)) v v
 early_turns a v time block bytes why can inside is =
     ⊎_elim
-    (λ back. subst P (sym back.1) (turns_refused a next replies (TimeBack a.head.last_time) v v (λ e. cc) (none_moves v) (λ told. refl) (λ d. refl) can.in_step can.cell
+    (λ back. subst P (sym back.1) (turns_refused a next replies (TimeBack a.head.last_time) v v (λ e. cc) (unmoved v) (λ told. refl) (λ d. refl) can.in_step can.cell
     (λ s told stands. back_refused a.g s time block bytes v.now.disks a refl stands inside (ltb-true time a.head.last_time back.0))))
     (λ later. ⊎_elim
-    (λ worn. subst P (sym worn.1) (turns_refused a next replies Worn v v (λ e. cc) (none_moves v) (λ told. refl) (λ d. refl) can.in_step can.cell
+    (λ worn. subst P (sym worn.1) (turns_refused a next replies Worn v v (λ e. cc) (unmoved v) (λ told. refl) (λ d. refl) can.in_step can.cell
     (λ s told stands. worn_refused a.g s time block bytes v.now.disks a refl stands inside (ltb-false time a.head.last_time later.0) (eqb-true a.head.last (2 ^ 40) worn.0))))
     (λ none. absurd (nothing why none.1))
     (picked (a.head.last == 2 ^ 40) Worn why None later.1))

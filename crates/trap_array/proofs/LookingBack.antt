@@ -7,29 +7,32 @@ use Rattle.trap_bank.specs.Disks.{View}
 use Rattle.trap_bank.specs.Calls.{Fits}
 use Rattle.trap_format.specs.LogDisk.{log_size}
 use Rattle.trap_format.specs.MemberDisk.{member_size}
-use Rattle.trap_index.specs.Indexed.{Indexed, IsLastBy}
+use Rattle.trap_index.specs.Indexed.{Indexed, IsLastBy, path_to}
 use Rattle.trap_model.specs.declared.numbers.Geometry.{Geometry}
 use Rattle.trap_model.specs.Image.{volume}
 use Rattle.trap_model.specs.State.{IsValid}
+use Rattle.trap_past.specs.Asking.{IsLater, nth_newest, last_looked}
 use Rattle.trap_past.specs.Past.{IsIndexOf}
 use Rattle.trap_past.proofs.Telling.{of_described}
 use Rattle.trap_past.proofs.Tracing.{IsLawful}
 use Rattle.trap_raid.specs.Standing.{reads_of}
 use Rattle.trap_raid.proofs.StandingLemmas.{reads_with_all, reads_with_one_lost}
-use Rattle.trap_bank.specs.Called.{CalledAtMost, TakesCalls}
+use Rattle.trap_bank.specs.Called.{CalledTimes, CalledAtMost, TakesCalls}
 use Rattle.trap_bank.proofs.Called.{not_called, called_at_most}
 use Rattle.trap_map.specs.Layout.{block_place}
 use Rattle.trap_map.specs.declared.places.Place.{Place}
 use Rattle.trap_ring.specs.Ring.{RingPlace, ring_calls}
-use Rattle.trap_stage.specs.Staged.{Staged, newest_at}
+use Rattle.trap_stage.specs.Staged.{Staged}
 use Rattle.trap_model.specs.declared.history.State.{State}
+use Rattle.trap_array.specs.Calling.{CallsInRead, present_until}
 use Rattle.trap_array.specs.Calls.{Mounted, StandsFor, running}
-use Rattle.trap_array.specs.Instants.{CanLookBack}
+use Rattle.trap_array.specs.Instants.{CanLookBack, FailsLooking}
 use Rattle.trap_array.specs.Log.{IndexedLog}
-use Rattle.trap_array.specs.Sources.{CallCounts, is_long, IsFor, past_of_log, CallsAtMost, ReadsPresent, CallsBeside, record_reads, present_of, present_reads, OnlyLooked, LookFailed}
+use Rattle.trap_array.specs.Sources.{CallCounts, is_long, IsFor, past_of_log, CallsAtMost, ReadsPresent, CallsBeside, record_reads, present_of, present_reads, OnlyLooked, LookFailed, LooksDamaged}
+use Rattle.trap_array.proofs.Sources.{look_fails}
 use Rattle.trap_array.proofs.WriteSteps.{mounted}
 use Rattle.trap_array.specs.declared.fault.Denied.{Denied}
-use Rattle.trap_array.specs.declared.fault.Denied.TheVariants.{Damaged}
+use Rattle.trap_array.specs.declared.fault.Denied.TheVariants.{MemberFault, Damaged}
 
 -- ---- the disks are long enough
 long_of : (v : View) (d end : ℕ) → Fits v d end → IsTrue (is_long (v.sizes d) end)
@@ -118,27 +121,38 @@ present_calls {T = T} {E = E} result a block place old new is inside takes = rec
 }
 
 -- no call, where nothing is read
-pub reads_no_present : {T E : Type 0} (a : Mounted) (block : ℕ) (why : E) (v : View) → ReadsPresent {T = T} a block (Err why) v v
-reads_no_present a block why v = record {
+pub reads_no_present : {T : Type 0} (a : Mounted) (block : ℕ) (why : Denied) (v : View) → ((first second : ℕ) → why ≡ MemberFault first second → ⊥) → CallsInRead {T = T} a block (Err why) v v
+reads_no_present a block why v other = record {
   exact = record { ok = tt; most = called_at_most 0 (present_of a block) v v (omega arith) (not_called v) };
   most = none_called (present_reads a.g a.head.lost) v;
+  failed = λ first second is. absurd (other first second (cc is));
 }
 
 -- the same of an array, stopped or not, and with another name for a fault
-pub reads_mounted : {T E F : Type 0} (log : IndexedLog) (stopped : Bool) (block : ℕ) (value : T) (old new : View) → ReadsPresent {T = T} {E = E} (running log) block (Ok value) old new
-    → ReadsPresent {T = T} {E = F} (mounted log stopped) block (Ok value) old new
-reads_mounted log stopped block value old new reads = record { exact = record { ok = reads.exact.ok; most = reads.exact.most }; most = reads.most }
+pub reads_mounted : {T E : Type 0} (log : IndexedLog) (stopped : Bool) (block : ℕ) (value : T) (old new : View) → ReadsPresent {T = T} {E = E} (running log) block (Ok value) old new
+    → CallsInRead {T = T} (mounted log stopped) block (Ok value) old new
+reads_mounted log stopped block value old new reads = record {
+  exact = record { ok = reads.exact.ok; most = reads.exact.most };
+  most = reads.most;
+  failed = λ first second is. absurd (cc is);
+}
 
-pub reads_failed : {T E F : Type 0} (a : Mounted) (log : IndexedLog) (stopped : Bool) (block : ℕ) (why : E) (other : F) (old new : View) → mounted log stopped ≡ a
-    → ReadsPresent {T = T} {E = E} (running log) block (Err why) old new
-    → ReadsPresent {T = T} {E = F} a block (Err other) old new
-reads_failed {T = T} {F = F} a log stopped block why other old new is reads =
-    subst (λ (m : Mounted). ReadsPresent {T = T} {E = F} m block (Err other) old new) is (record { exact = record { ok = tt; most = reads.exact.most }; most = reads.most })
+pub reads_failed : {T E : Type 0} (log : IndexedLog) (stopped : Bool) (block member : ℕ) (why : E) (other : Denied) (old new : View) → other ≡ MemberFault member member
+    → ReadsPresent {T = T} {E = E} (running log) block (Err why) old new → CalledTimes (present_until (running log) block member) old new
+    → CallsInRead {T = T} (mounted log stopped) block (Err other) old new
+reads_failed log stopped block member why other old new is reads until = record {
+  exact = record { ok = tt; most = reads.exact.most };
+  most = reads.most;
+  failed = λ first second at.
+      let same : member ≡ second = cc (is, at) in
+      subst (λ (m : ℕ). CalledTimes (present_until (running log) block m) old new) same until;
+}
 
 -- as a call of the source
-pub present_goes : (log : IndexedLog) (p a b f t was block : ℕ) (old new : View) → OnlyReads old new → CalledAtMost (present_of (running log) block) old new
-    → OnlyLooked log (record { presents = p; parities = a; snapshots = b; faults = f; asked = was }) (record { presents = p + 1; parities = a; snapshots = b; faults = t; asked = block }) old new
-present_goes log p a b f t was block old new reads calls = record {
+pub present_goes : (log : IndexedLog) (p a b f t was block n : ℕ) (old new : View) → OnlyReads old new → CalledAtMost (present_of (running log) block) old new
+    → OnlyLooked log (record { presents = p; parities = a; snapshots = b; faults = f; asked = was; looked = n })
+    (record { presents = p + 1; parities = a; snapshots = b; faults = t; asked = block; looked = n }) old new
+present_goes log p a b f t was block n old new reads calls = record {
   reads = reads;
   presents = omega arith;
   by_one = calls.by_one;
@@ -164,23 +178,25 @@ record_goes log was now old new same asked more reads calls = record {
     other : (p : ℕ) → p ≡ p + 1 → ⊥
     other p is = omega (arith, is)
 
-pub parity_goes : (log : IndexedLog) (p a b f t asked : ℕ) (old new : View) → OnlyReads old new → CallsAtMost 2 old new
-    → OnlyLooked log (record { presents = p; parities = a; snapshots = b; faults = f; asked = asked }) (record { presents = p; parities = a + 1; snapshots = b; faults = t; asked = asked }) old new
-parity_goes log p a b f t asked old new reads calls = record_goes log _ _ old new refl refl (two a b) reads calls
+pub parity_goes : (log : IndexedLog) (p a b f t asked n k : ℕ) (old new : View) → OnlyReads old new → CallsAtMost 2 old new
+    → OnlyLooked log (record { presents = p; parities = a; snapshots = b; faults = f; asked = asked; looked = n })
+    (record { presents = p; parities = a + 1; snapshots = b; faults = t; asked = asked; looked = k }) old new
+parity_goes log p a b f t asked n k old new reads calls = record_goes log _ _ old new refl refl (two a b) reads calls
   where
     two : (a b : ℕ) → 2 * (a + 1) + 2 * b ≡ 2 * a + 2 * b + 2
     two a b = omega arith
 
-pub snapshot_goes : (log : IndexedLog) (p a b f t asked : ℕ) (old new : View) → OnlyReads old new → CallsAtMost 2 old new
-    → OnlyLooked log (record { presents = p; parities = a; snapshots = b; faults = f; asked = asked }) (record { presents = p; parities = a; snapshots = b + 1; faults = t; asked = asked }) old new
-snapshot_goes log p a b f t asked old new reads calls = record_goes log _ _ old new refl refl (two a b) reads calls
+pub snapshot_goes : (log : IndexedLog) (p a b f t asked n k : ℕ) (old new : View) → OnlyReads old new → CallsAtMost 2 old new
+    → OnlyLooked log (record { presents = p; parities = a; snapshots = b; faults = f; asked = asked; looked = n })
+    (record { presents = p; parities = a; snapshots = b + 1; faults = t; asked = asked; looked = k }) old new
+snapshot_goes log p a b f t asked n k old new reads calls = record_goes log _ _ old new refl refl (two a b) reads calls
   where
     two : (a b : ℕ) → 2 * a + 2 * (b + 1) ≡ 2 * a + 2 * b + 2
     two a b = omega arith
 
 -- no calls yet
 abbrev pub no_counts : ℕ → CallCounts
-no_counts asked = record { presents = 0; parities = 0; snapshots = 0; faults = 0; asked = asked }
+no_counts asked = record { presents = 0; parities = 0; snapshots = 0; faults = 0; asked = asked; looked = 0 }
 
 -- the present contents of one block at most, and that many parities
 pub look_calls : (log : IndexedLog) (first : ℕ) (n : CallCounts) (block turns : ℕ) (old new : View) → (n.presents ≡ 0) ⊎ ((n.presents ≡ 0 + 1) × (n.asked ≡ block)) → n.parities ≤ 0 + turns
@@ -198,6 +214,16 @@ pub look_damaged : (log same : IndexedLog) (was now : CallCounts) (old new : Vie
     → IfErr result (λ fault. (log ≡ same) × LookFailed log was now old new fault) → IsErrOf result (Damaged offset) → IsTrue old.tells → (s : State) → StandsFor (running log) s old.now.disks → ⊥
 look_damaged log same was now old new result offset caused is told s stands =
     (subst (λ (r : Result (Unit {0}) Denied). IfErr r (λ fault. (log ≡ same) × LookFailed log was now old new fault)) is caused).1.damaged offset refl told s stands
+
+-- a look back fails by a disk or by the record of a later write of the block
+pub undo_fails : (log same : IndexedLog) (block q taken looked : ℕ) (was now : CallCounts) (old new : View) (result : Result (Unit {0}) Denied)
+    → ((k : ℕ) → k < (path_to log.index block q).turns → IsLater log.index block q (nth_newest log.index block k))
+    → taken ≤ (path_to log.index block q).turns → looked ≡ last_looked log.index block taken 0 → log ≡ same → OnlyReads old new
+    → IfErr result (λ fault. (log ≡ same) × LookFailed log was now old new fault) → IfErr result (λ fault. LooksDamaged same looked new fault)
+    → IfErr result (FailsLooking (running log) block q old new)
+undo_fails log same block q taken looked was now old new (Ok value) later few is keeps reads failed after = tt
+undo_fails log same block q taken looked was now old new (Err e) later few is keeps reads failed after =
+    look_fails log block q taken looked old new e later few is reads failed.1.fails (subst (λ (l : IndexedLog). LooksDamaged l looked new e) (sym keeps) after)
 
 -- ---- there is one last number by a time
 none_later : (i : Indexed) (time p q : ℕ) → IsLastBy i time p → IsLastBy i time q → p < q → ⊥

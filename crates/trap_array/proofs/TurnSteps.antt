@@ -1,12 +1,11 @@
 -- The steps of a write, one after the other.
-use Rattle.std.proofs.Common.{◌≡◌, ◌≢◌, ◌⊎◌, ℕ, ◌+◌, ◌<◌, ◌≤◌, ◌^◌, List, length, Option, Some, None, Result, Ok, Err, IfErr, IsTrue, inl, inr, ⊎_elim, refl, sym, ap, subst, ◌∙◌, arith}
+use Rattle.std.proofs.Common.{◌≡◌, ◌≢◌, ◌⊎◌, ℕ, ◌+◌, ◌<◌, ◌≤◌, ◌^◌, List, length, Option, Some, None, Result, Ok, Err, IfErr, IsTrue, inl, inr, ⊎_elim, sym, ap, subst, ◌∙◌, arith}
 use Rattle.std.proofs.lemmas.Bool.{cases_lt}
 use Rattle.trap_bank.specs.Disks.{Disks, View}
 use Rattle.trap_bank.specs.Faults.{Rose}
 use Rattle.trap_bank.specs.Steps.{Moves, Same, Always}
-use Rattle.trap_bank.proofs.Moves.{moves_weaken, no_moves, read_is_left}
+use Rattle.trap_bank.proofs.Moves.{moves_weaken, read_is_left}
 use Rattle.trap_block.specs.Xor.{xor}
-use Rattle.trap_index.specs.Indexed.{Indexed}
 use Rattle.trap_map.specs.Layout.{block_place}
 use Rattle.trap_map.specs.Table.{row_parity}
 use Rattle.trap_model.specs.ArrayStep.{added, step, refusal, or_refused, accepted, after}
@@ -29,48 +28,27 @@ use Rattle.trap_model.proofs.Refusals.{is_block, write_back, write_worn, write_m
 use Rattle.trap_raid.specs.Members.{Counts}
 use Rattle.trap_raid.specs.Plan.{IsPlan}
 use Rattle.trap_array.specs.Beside.{StaysFrom}
-use Rattle.trap_array.specs.Calls.{Mounted, StandsFor, HoldsLike, SameArray, SameLog, AtAnyMoment, StandsAfterCall, MemberFails, WriteReplies, is_over, running}
-use Rattle.trap_format.specs.declared.head.Head.{Head}
-use Rattle.trap_array.specs.Growing.{IsLaterHead}
-use Rattle.trap_array.specs.Log.{Log, IndexedLog, with_index, AreInStep}
+use Rattle.trap_array.specs.Calls.{Mounted, StandsFor, HoldsLike, SameArray, AtAnyMoment, StandsAfterCall, MemberFails, WriteReplies, is_over, running}
+use Rattle.trap_array.specs.Log.{IndexedLog, AreInStep}
 use Rattle.trap_array.specs.NextHead.{entry_for, IsPlanned}
 use Rattle.trap_array.specs.Ready.{KnowsCell}
+use Rattle.trap_log.specs.Draining.{IsDrainFault}
+use Rattle.trap_log.specs.declared.fault.DrainFault.{DrainFault}
+use Rattle.trap_log.specs.declared.fault.DrainFault.TheVariants as drain
+use Rattle.trap_array.specs.Ending.{denied_by}
 use Rattle.trap_array.specs.Turning.{IsFaultOf, Denies, MovesLog, IsFull}
 use Rattle.trap_array.specs.declared.fault.Denied.{Denied}
 use Rattle.trap_array.specs.declared.fault.Denied.TheVariants.{Refused, LogFault, MemberFault, Damaged, Stopped}
+pub use Rattle.trap_log.proofs.GoingOn.{goes_still, goes_then, goes_same, goes_later, log_still, log_same, log_later, log_of, array_of}
 use Rattle.trap_array.proofs.Beside.{stays_same, both_stay}
-use Rattle.trap_array.proofs.Turns.{later_same, later_then, holds_still, turned_may, always_turned, keep_then_may, keep_then_has}
-
-pub goes_still : (a : Mounted) → SameArray a a
-goes_still a = record { g = refl; follows = later_same a.head }
-
-pub goes_then : (a b c : Mounted) → SameArray a b → SameArray b c → SameArray a c
-goes_then a b c first second = record { g = second.g ∙ first.g; follows = later_then a.head b.head c.head first.follows second.follows }
-
--- a call whose head is the same, or a later one
-pub goes_same : (a b : IndexedLog) → b.g ≡ a.g → b.head ≡ a.head → SameArray (running a) (running b)
-goes_same a b g head = record { g = g; follows = subst (λ (h : Head). IsLaterHead a.head h) (sym head) (later_same a.head) }
-
-pub goes_later : (a b : IndexedLog) → b.g ≡ a.g → IsLaterHead a.head b.head → SameArray (running a) (running b)
-goes_later a b g later = record { g = g; follows = later }
-
--- the same of a log alone
-pub log_still : (a : Log) → SameLog a a
-log_still a = record { g = refl; follows = later_same a.head }
-
-pub log_same : (a b : Log) → b.g ≡ a.g → b.head ≡ a.head → SameLog a b
-log_same a b g head = record { g = g; follows = subst (λ (h : Head). IsLaterHead a.head h) (sym head) (later_same a.head) }
-
-pub log_later : (a b : Log) → b.g ≡ a.g → IsLaterHead a.head b.head → SameLog a b
-log_later a b g later = record { g = g; follows = later }
-
-pub log_of : (a b : Log) (i j : Indexed) → SameArray (running (with_index a i)) (running (with_index b j)) → SameLog a b
-log_of a b i j on = record { g = on.g; follows = on.follows }
-
-pub array_of : (a b : Log) (i j : Indexed) → SameLog a b → SameArray (running (with_index a i)) (running (with_index b j))
-array_of a b i j on = record { g = on.g; follows = on.follows }
+use Rattle.trap_array.proofs.Turns.{holds_still, turned_may, always_turned, keep_then_may, keep_then_has}
 
 -- ---- faults
+-- that of a drain, as a call of the array answers it
+pub denied_fault : (a : Mounted) (v w : View) (e : DrainFault) → IsDrainFault a v w e → IsFaultOf a v w (denied_by e)
+denied_fault a v w drain.LogFault fault = fault
+denied_fault a v w (drain.MemberFault member) fault = fault
+
 fault_denies : (a : Mounted) (v w : View) (e : Denied) → IsFaultOf a v w e → Denies a v w e
 fault_denies a v w (Refused why) fault = absurd fault
 fault_denies a v w LogFault fault = fault
@@ -218,10 +196,6 @@ turns_refused a next replies why v w other moves same sizes in_step cell refused
         let P : Disks → Type 0 = λ (d : Disks). StandsFor (running a) s d in
         let Q : State → Type 0 = λ (t : State). StandsFor (running a) t y.disks in
         subst Q (sym (refused s was.told (always v.now (read_is_left v was.told))).0) (subst P (sym same) (always x was)))
-
--- a run without a call
-pub none_moves : (v : View) → Moves v v Same Same
-none_moves v = no_moves v Same Same (λ x was. refl)
 
 -- ---- what the model's step says
 module _ (g : Geometry) (s : State) (time block : ℕ) (bytes : List ℕ) where

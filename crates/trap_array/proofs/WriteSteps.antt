@@ -1,5 +1,5 @@
 -- A write of a mounted array, from what it does to the log.
-use Rattle.std.proofs.Common.{◌≡◌, ℕ, ◌+◌, ◌<◌, ◌≤◌, List, length, Option, Some, None, Bool, false, Result, Ok, Err, IfErr, OnOk, IsTrue, inl, inr, ⊎_elim, refl, sym, ap, subst, ◌∙◌, arith}
+use Rattle.std.proofs.Common.{◌≡◌, ℕ, ◌+◌, ◌<◌, ◌≤◌, List, length, Option, Some, None, Bool, false, ◌||◌, Result, Ok, Err, IfErr, IsTrue, inl, inr, ⊎_elim, refl, sym, ap, subst, ◌∙◌, arith}
 use Rattle.trap_bank.specs.Disks.{Disks, View}
 use Rattle.trap_bank.specs.Steps.{Moves, Same, OnlyReads}
 use Rattle.trap_bank.proofs.Moves.{moves_weaken, always_same}
@@ -17,24 +17,43 @@ use Rattle.trap_model.specs.declared.request.Reply.{Reply}
 use Rattle.trap_model.specs.declared.request.Request.TheVariants.{Write, Read}
 use Rattle.trap_model.specs.declared.request.Reply.TheVariants.{Is, No}
 use Rattle.trap_model.proofs.Refusals.{no_block, is_block}
-use Rattle.trap_array.specs.Calls.{Mounted, StandsFor, HoldsLike, TakesTo, HasSizes, IsReady, SameArray, SameLog, AtAnyMoment, StandsAfterCall, is_fault, is_over, running}
+use Rattle.trap_array.specs.Calls.{Mounted, StandsFor, HoldsLike, TakesTo, HasSizes, IsReady, SameArray, AtAnyMoment, StandsAfterCall, is_fault, is_over, running}
+use Rattle.trap_pool.specs.Pooled.{free_of}
 use Rattle.trap_stage.specs.Slots.{Stage}
-use Rattle.trap_array.specs.Growing.{IsLaterHead, HasRecordOf, IndexAfterFault, IndexAfter}
+use Rattle.trap_array.specs.Growing.{HasRecordOf, IndexAfterFault, IndexAfter}
 use Rattle.trap_array.specs.Holding.{head_place}
-use Rattle.trap_array.specs.Log.{Log, IndexedLog, with_index, StagesHead, AreInStep, IsArray, Buffers, HaveBlocksOf}
-use Rattle.trap_array.specs.Ready.{CanDrain, KnowsCell}
+use Rattle.trap_array.specs.Log.{Log, IndexedLog, with_index, AreInStep, IsArray, Buffers, HaveBlocksOf}
 use Rattle.trap_array.specs.Turning.{Denies, MovesLog}
 use Rattle.trap_array.specs.declared.fault.Denied.{Denied}
 use Rattle.trap_array.specs.declared.fault.Denied.TheVariants.{Refused, LogFault, MemberFault, Damaged, Stopped}
+pub use Rattle.trap_log.proofs.GoingOn.{sizes_on, can_drain_on, can_drain_after}
 use Rattle.trap_array.proofs.IndexSteps.{index_same}
 use Rattle.trap_array.proofs.KeepSteps.{next_of}
 use Rattle.trap_array.proofs.Sizes.{sizes_still}
-use Rattle.trap_array.proofs.TurnSteps.{none_moves}
+use Rattle.trap_bank.proofs.Moves.{unmoved}
 use Rattle.trap_array.proofs.Turns.{holds_still}
 
 -- the array with that log
 abbrev pub mounted : IndexedLog → Bool → Mounted
-mounted log is_stopped = record { g = log.g; head = log.head; cell = log.cell; pending = log.stage.pending; index = log.index; is_stopped = is_stopped }
+mounted log is_stopped = record { g = log.g; head = log.head; cell = log.cell; pending = log.stage.pending; index = log.index; blocks = 6; free = 6; is_stopped = is_stopped }
+
+-- an array is the one with its log: between two calls its region has six blocks, all of them free
+abbrev pub with_buffers : IndexedLog → Buffers → Bool → Mounted
+with_buffers log buffers is_stopped = record {
+  g = log.g;
+  head = log.head;
+  cell = log.cell;
+  pending = log.stage.pending;
+  index = log.index;
+  blocks = length buffers.pool.blocks;
+  free = free_of buffers.pool;
+  is_stopped = is_stopped;
+}
+
+pub buffers_are : (log : IndexedLog) (buffers : Buffers) (stopped : Bool) (block : ℕ) → HaveBlocksOf block buffers → mounted log stopped ≡ with_buffers log buffers stopped
+buffers_are log buffers stopped block have =
+    ap (λ (n : ℕ). record (mounted log stopped) { blocks = n }) (sym have.blocks)
+    ∙ ap (λ (n : ℕ). record (mounted log stopped) { blocks = length buffers.pool.blocks; free = n }) (sym have.free)
 
 -- whether it is stopped says nothing of the disks
 pub as_going : (log : IndexedLog) (stopped : Bool) (s : State) (x : Disks) → StandsFor (mounted log stopped) s x → StandsFor (running log) s x
@@ -48,7 +67,7 @@ module _ (a : IndexedLog) (stopped : Bool) (b : IndexedLog) (stopped_too : Bool)
   record_mounted seq more = record { number = more.number; size = more.size; least = more.least; added = more.added; long = more.long }
 
   fault_mounted : IndexAfterFault (running a) (running b) time block → IndexAfterFault (mounted a stopped) (mounted b stopped_too) time block
-  fault_mounted either = ⊎_elim inl (λ more. inr (record_mounted (a.head.last + 1) more)) either
+  fault_mounted either = ⊎_elim inl (λ more. inr (more.0, record_mounted (a.head.last + 1) more.1)) either
 
   pub index_mounted : (result : Result ℕ Denied) → IndexAfter (running a) (running b) time block result → IndexAfter (mounted a stopped) (mounted b stopped_too) time block result
   index_mounted (Ok seq) after = record_mounted seq after
@@ -80,7 +99,7 @@ module _ (a : Mounted) (v : View) (time block : ℕ) (bytes : List ℕ) (beyond 
 
   pub beyond_turned : Moves v v (AtAnyMoment a v (next_of a.g time block bytes)) (StandsAfterCall a a v (next_of a.g time block bytes))
   beyond_turned =
-      moves_weaken v v Same Same (AtAnyMoment a v (next_of a.g time block bytes)) (StandsAfterCall a a v (next_of a.g time block bytes)) (none_moves v)
+      moves_weaken v v Same Same (AtAnyMoment a v (next_of a.g time block bytes)) (StandsAfterCall a a v (next_of a.g time block bytes)) (unmoved v)
       (λ x y was same s always. inl (holds_still a s y.disks (subst (λ (d : Disks). StandsFor a s d) (sym same) (always x was))))
       (λ x y was left same s always.
       let P : Disks → Type 0 = λ (d : Disks). StandsFor a s d in
@@ -89,7 +108,7 @@ module _ (a : Mounted) (v : View) (time block : ℕ) (bytes : List ℕ) (beyond 
 
   pub beyond_any : Moves v v (AtAnyMoment a v (next_of a.g time block bytes)) (AtAnyMoment a v (next_of a.g time block bytes))
   beyond_any =
-      moves_weaken v v Same Same (AtAnyMoment a v (next_of a.g time block bytes)) (AtAnyMoment a v (next_of a.g time block bytes)) (none_moves v)
+      moves_weaken v v Same Same (AtAnyMoment a v (next_of a.g time block bytes)) (AtAnyMoment a v (next_of a.g time block bytes)) (unmoved v)
       (λ x y was same s always. inl (holds_still a s y.disks (subst (λ (d : Disks). StandsFor a s d) (sym same) (always x was))))
       (λ x y was left same s always. inl (holds_still a s y.disks (subst (λ (d : Disks). StandsFor a s d) (sym same) (always x was))))
 
@@ -103,13 +122,6 @@ not_failed a v w (Err (Damaged offset)) cause none = absurd cause
 not_failed a v w (Err Stopped) cause none = absurd cause
 
 -- the sizes of an array that goes on
-sizes_on : (g k : Geometry) (h t : Head) (v w : View) → k ≡ g → IsLaterHead h t → ((d : ℕ) → w.sizes d ≡ v.sizes d) → HasSizes g h.lost h.rebuilt v → HasSizes k t.lost t.rebuilt w
-sizes_on g k h t v w is later same sizes =
-    subst (λ (x : Geometry). HasSizes x t.lost t.rebuilt w) (sym is)
-    (subst (λ (lost : Option ℕ). HasSizes g lost t.rebuilt w) (sym later.lost)
-    (subst (λ (n : ℕ). HasSizes g h.lost n w) (sym later.rebuilt)
-    (sizes_still g h.lost h.rebuilt v w same sizes)))
-
 sizes_along : (a b : Mounted) (v w : View) → SameArray a b → ((d : ℕ) → w.sizes d ≡ v.sizes d) → HasSizes a.g a.head.lost a.head.rebuilt v → HasSizes b.g b.head.lost b.head.rebuilt w
 sizes_along a b v w on same sizes = sizes_on a.g b.g a.head b.head v w on.g on.follows same sizes
 
@@ -125,6 +137,7 @@ ready_after a b next replies result v w stopped turns is sizes = record {
   stands = λ none. (turns.cell (not_failed (running a) v w result turns.cause (sym is ∙ none))).stands;
   value = λ none. (turns.cell (not_failed (running a) v w result turns.cause (sym is ∙ none))).value;
   count = λ none. counted b.head b.stage b.index (turns.in_step (not_failed (running a) v w result turns.cause (sym is ∙ none)));
+  room = (refl, refl);
 }
 
 -- and it holds of the array what is to hold
@@ -144,22 +157,16 @@ ready_still log stopped stopped_too v w reads running ready = record {
   stands = λ none. always_same v w (Stands log.cell) reads.moves (ready.stands running);
   value = λ none. always_same v w (λ disks. cell_value head_place disks ≡ Some (head_value log.head)) reads.moves (ready.value running);
   count = λ none. ready.count running;
+  room = (refl, refl);
 }
 
--- a log that goes on can be drained
-pub can_drain_on : (a b : Log) (v w : View) → SameLog a b → ((d : ℕ) → w.sizes d ≡ v.sizes d) → HasSizes a.g a.head.lost a.head.rebuilt v → StagesHead b.head b.stage
-    → KnowsCell b.cell b.head w → CanDrain b w
-can_drain_on a b v w on same sizes staged cell = record {
-  staged = staged;
-  sizes = (let along = sizes_on a.g b.g a.head b.head v w on.g on.follows same sizes in record { log = along.log; members = along.members });
-  cell = cell;
-}
-
--- after a call that makes it so, where that is done
-pub can_drain_after : {T E : Type 0} (result : Result T E) (a b : Log) (v w : View) → SameLog a b → ((d : ℕ) → w.sizes d ≡ v.sizes d) → HasSizes a.g a.head.lost a.head.rebuilt v
-    → OnOk result (StagesHead b.head b.stage) → OnOk result (KnowsCell b.cell b.head w) → OnOk result (CanDrain b w)
-can_drain_after (Ok value) a b v w on same sizes staged cell = can_drain_on a b v w on same sizes staged cell
-can_drain_after (Err e) a b v w on same sizes staged cell = tt
+-- of an array that isn't stopped a call that only reads leaves all but whether it is stopped now
+pub stays_same : {T : Type 0} (log : IndexedLog) (buffers : Buffers) (was stopped : Bool) (a : Mounted) (result : Result T Denied) (block : ℕ) → HaveBlocksOf block buffers → mounted log was ≡ a
+    → was ≡ false → stopped ≡ is_fault result → with_buffers log buffers stopped ≡ record a { is_stopped = a.is_stopped || is_fault result }
+stays_same log buffers was stopped a result block have is running by =
+    sym (buffers_are log buffers stopped block have)
+    ∙ ap (mounted log) (by ∙ sym (ap (λ (b : Bool). b || is_fault result) running))
+    ∙ ap (λ (m : Mounted). record m { is_stopped = m.is_stopped || is_fault result }) is
 
 -- ---- a read
 -- calls that only read keep the state, whether or not the array is stopped then

@@ -1,67 +1,18 @@
 -- What the calls of a mounted array do.
-use Rattle.std.specs.Prelude.{◌≡◌, ◌⊎◌, ℕ, ◌+◌, ◌<◌, List, Bool, true, false, IsTrue, Result, Ok, Err}
-use Rattle.trap_bank.specs.Disks.{Disks, View}
-use Rattle.trap_bank.specs.Faults.{Rose}
+use Rattle.std.specs.Prelude.{◌≡◌, ℕ, List, Bool, true, false, IsTrue, Result, Ok, Err}
+use Rattle.trap_bank.specs.Disks.{View}
 use Rattle.trap_bank.specs.Steps.{Moves, Always}
-use Rattle.trap_format.specs.declared.head.Head.{Head}
-use Rattle.trap_model.specs.declared.numbers.Geometry.{Geometry}
+use Rattle.trap_model.specs.ArrayStep.{step}
 use Rattle.trap_model.specs.declared.history.State.{State}
 use Rattle.trap_model.specs.declared.request.Reply.{Reply}
+use Rattle.trap_model.specs.declared.request.Request.{Request}
 use Rattle.trap_model.specs.declared.request.Reply.TheVariants.{Kept, Is, At, No}
-use Rattle.trap_raid.specs.Members.{Counts}
-use Rattle.trap_array.specs.Holding.{HoldsBy}
+pub use Rattle.trap_log.specs.Calls.{running, SameArray, SameLog, HoldsLike, AtAnyMoment}
+pub use Rattle.trap_log.specs.Calls.{StandsAfterCall, MemberFails}
 pub use Rattle.trap_mount.specs.Mounted.{Mounted, StandsFor, HasSizes, IsReady}
-use Rattle.trap_array.specs.Growing.{IsLaterHead}
-use Rattle.trap_array.specs.Log.{Log, IndexedLog}
 use Rattle.trap_array.specs.declared.fault.Denied.{Denied}
-use Rattle.trap_array.specs.declared.fault.Denied.TheVariants.{Refused, LogFault, MemberFault, Damaged, Stopped}
-
--- an array that isn't stopped, by what it knows of its log
-abbrev pub running : IndexedLog → Mounted
-running log = record {
-  g = log.g;
-  head = log.head;
-  cell = log.cell;
-  pending = log.stage.pending;
-  index = log.index;
-  is_stopped = false;
-}
-
--- no call changes the numbers of an array, and its head is a later one
-pub record SameArray (a b : Mounted) : Type 0 where
-  pub g : b.g ≡ a.g
-  pub follows : IsLaterHead a.head b.head
-
--- the same of its log alone
-pub record SameLog (a b : Log) : Type 0 where
-  pub g : b.g ≡ a.g
-  pub follows : IsLaterHead a.head b.head
-
--- the disks hold the state by this head or a later one
-pub record HoldsLike (g : Geometry) (h : Head) (s : State) (disks : Disks) : Type 0 where
-  pub head : Head
-  pub by : HoldsBy g head s disks
-  pub follows : IsLaterHead h head
-
--- At a moment of a call. Whatever state the array stood for on entry, the disks hold it, or the
--- next one.
-abbrev pub AtAnyMoment : Mounted → View → (State → State) → Disks → Disks → Type 0
-AtAnyMoment a v next old new =
-    (s : State) → Always v (StandsFor a s) → HoldsLike a.g a.head s new
-    ⊎ HoldsLike a.g a.head (next s) new
-
--- After a call. Whatever state the array stood for on entry, it stands for the next one.
-abbrev pub StandsAfterCall : Mounted → Mounted → View → (State → State) → Disks → Disks → Type 0
-StandsAfterCall a b v next old new = (s : State) → Always v (StandsFor a s)
-    → StandsFor b (next s) new
-
--- A member failed of which some row counts, so not the lost one unless it is being rebuilt: the
--- count of its disk rose. Both numbers are its own.
-pub record MemberFails (a : Mounted) (first second : ℕ) (old new : View) : Type 0 where
-  pub same : first ≡ second
-  pub inside : second < a.g.members
-  pub counts : Counts a.head.lost a.head.rebuilt 0 second
-  pub rose : Rose (old.faults (second + 1)) (new.faults (second + 1))
+use Rattle.trap_array.specs.declared.fault.Denied.TheVariants.{Refused, LogFault, MemberFault}
+use Rattle.trap_array.specs.declared.fault.Denied.TheVariants.{Damaged, Stopped}
 
 -- a fault stops the array
 abbrev pub is_fault : {T : Type 0} → Result T Denied → Bool
@@ -88,6 +39,14 @@ pub record TakesTo {T : Type 0} (a b : Mounted) (next : State → State) (result
   pub turned : IsTrue (is_over result) → Moves old new (AtAnyMoment a old next)
       (StandsAfterCall a b old next)
   pub any_moment : Moves old new (AtAnyMoment a old next) (AtAnyMoment a old next)
+
+-- What a read did: its answer is a reply of this kind to the state that the array stood for, and
+-- the array stands for the same state.
+pub record AnswersRead {T : Type 0} (a b : Mounted) (asked : Request) (replies : Reply → Type 0)
+    (result : Result T Denied) (old new : View) : Type 0 where
+  pub reply : IsTrue old.tells → (s : State) → Always old (StandsFor a s)
+      → replies ((step a.g).reply s asked)
+  pub state : TakesTo a b (λ s. s) result old new
 
 -- the answer to a write is this reply
 abbrev pub WriteReplies : Result ℕ Denied → Reply → Type 0

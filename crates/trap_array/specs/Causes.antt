@@ -1,5 +1,6 @@
 -- Why a call of a mounted array answers no value.
-use Rattle.std.specs.Prelude.{◌≡◌, ◌≢◌, ◌↔◌, ◌⊎◌, ℕ, ◌<◌, ◌≤◌, Option, Some, None, true, false, Result, Err}
+use Rattle.std.specs.Prelude.{◌≡◌, ◌≢◌, ◌↔◌, ◌⊎◌, ℕ, ◌<◌, ◌≤◌, Option, Some, None, true, false}
+use Rattle.std.specs.Prelude.{Result, Err}
 use Rattle.trap_bank.specs.Disks.{View}
 use Rattle.trap_bank.specs.Faults.{Rose}
 use Rattle.trap_model.specs.Image.{volume}
@@ -12,7 +13,8 @@ use Rattle.trap_array.specs.Instants.{number_refused, time_refused}
 use Rattle.trap_array.specs.Turning.{IsFull, early_refusal}
 use Rattle.trap_array.specs.Untouched.{Untouched}
 use Rattle.trap_array.specs.declared.fault.Denied.{Denied}
-use Rattle.trap_array.specs.declared.fault.Denied.TheVariants.{Refused, LogFault, MemberFault, Stopped}
+use Rattle.trap_array.specs.declared.fault.Denied.TheVariants.{Refused, LogFault, MemberFault}
+use Rattle.trap_array.specs.declared.fault.Denied.TheVariants.{Stopped}
 
 -- why a call for a block that is there may answer no value
 pub record Reasons : Type 1 where

@@ -1,9 +1,10 @@
 -- What a read of an earlier instant needs below its contract: whether a number or a time is
 -- refused, and how it fails.
-use Rattle.std.specs.Prelude.{◌≡◌, ◌≢◌, ℕ, ◌<◌, ◌≤◌, List, Option, Some, None, IsTrue, nat_lt, if◌then◌else◌}
+use Rattle.std.specs.Prelude.{◌≡◌, ◌≢◌, ℕ, ◌<◌, ◌≤◌, List, Option, Some, None, IsTrue, nat_lt}
+use Rattle.std.specs.Prelude.{if◌then◌else◌}
 use Rattle.trap_bank.specs.Disks.{Disks, View}
-use Rattle.trap_index.specs.Indexed.{Indexed, last_seq, item_at}
-use Rattle.trap_index.specs.Keeping.{rec_of}
+use Rattle.trap_index.specs.Indexed.{Indexed, IsLastBy, last_seq, item_at}
+use Rattle.trap_index.specs.Keeping.{rec_of_item}
 use Rattle.trap_model.specs.LogRecord.{LogRecord}
 use Rattle.trap_model.specs.declared.numbers.Geometry.{Geometry}
 use Rattle.trap_model.specs.declared.request.Refusal.{Refusal}
@@ -44,23 +45,50 @@ pub record HasInstant (i : Indexed) (seq : ℕ) : Type 0 where
   pub high : seq ≤ last_seq i
 
 -- Of a retained entry, whose record should begin at this byte of disk 0, no record with the known
--- header stands there.
-pub record HasBadRecord (g : Geometry) (i : Indexed) (disks : Disks) (offset : ℕ) : Type 0 where
-  pub seq : ℕ
+-- header is there.
+pub record IsBadRecord (g : Geometry) (i : Indexed) (seq : ℕ) (disks : Disks) (offset : ℕ)
+    : Type 0 where
   pub entry : HasEntry i seq
   pub place : offset ≡ ring_pos (log_ring g) (item_at i seq).off
   pub none : (parity snapshot bytes : List ℕ)
-      → LogRecord g.block (rec_of seq (item_at i seq)) parity snapshot bytes
+      → LogRecord g.block (rec_of_item seq (item_at i seq)) parity snapshot bytes
       → RingHas (log_ring g) (item_at i seq).off bytes disks → ⊥
 
--- what is read again isn't the record that was there, where the bank tells
-abbrev pub IsDamaged : Mounted → View → ℕ → Type 0
-IsDamaged a old offset = IsTrue old.tells → HasBadRecord a.g a.index old.now.disks offset
+-- so it is with one of the block's entries after number q: those whose records are read for the
+-- block as it was then
+pub record HasBadRecord (g : Geometry) (i : Indexed) (block q : ℕ) (disks : Disks) (offset : ℕ)
+    : Type 0 where
+  pub seq : ℕ
+  pub above : q < seq
+  pub own : (item_at i seq).block ≡ block
+  pub bad : IsBadRecord g i seq disks offset
 
--- the log's disk failed, and its count of faults rose, or a record isn't the one that was there
-abbrev pub FailsRecord : Mounted → View → View → Denied → Type 0
-FailsRecord a old new denied =
-    EndsBy (λ why. ⊥) (λ m k. ⊥) (λ at. IsDamaged a old at) old new denied
+-- or after the last one up to a time
+pub record HasBadRecordBy (g : Geometry) (i : Indexed) (block time : ℕ) (disks : Disks)
+    (offset : ℕ) : Type 0 where
+  pub q : ℕ
+  pub last : IsLastBy i time q
+  pub later : HasBadRecord g i block q disks offset
+
+-- what is read again isn't the record that was there, where the bank tells
+abbrev pub IsDamaged : Mounted → ℕ → View → ℕ → Type 0
+IsDamaged a seq old offset = IsTrue old.tells
+    → IsBadRecord a.g a.index seq old.now.disks offset
+
+-- so it is with one of the block's entries after number q, or after those up to a time
+abbrev pub IsDamagedAfter : Mounted → ℕ → ℕ → View → ℕ → Type 0
+IsDamagedAfter a block q old offset = IsTrue old.tells
+    → HasBadRecord a.g a.index block q old.now.disks offset
+
+abbrev pub IsDamagedBy : Mounted → ℕ → ℕ → View → ℕ → Type 0
+IsDamagedBy a block time old offset = IsTrue old.tells
+    → HasBadRecordBy a.g a.index block time old.now.disks offset
+
+-- the log's disk failed, and its count of faults rose, or the entry's record isn't the one that was
+-- there
+abbrev pub FailsRecord : Mounted → ℕ → View → View → Denied → Type 0
+FailsRecord a seq old new denied =
+    EndsBy (λ why. ⊥) (λ m k. ⊥) (λ at. IsDamaged a seq old at) old new denied
 
 -- A member failed that isn't the lost one, and the count of its disk rose. Both numbers are its
 -- own.
@@ -68,12 +96,18 @@ pub record FailsRead (a : Mounted) (first second : ℕ) (old new : View) : Type 
   pub same : first ≡ second
   pub member : FailedMember a.g a.head.lost old new second
 
--- A disk failed, and its count of faults rose, or a record isn't the one that was there.
-abbrev pub FailsLooking : Mounted → View → View → Denied → Type 0
-FailsLooking a old new denied = EndsBy (λ why. ⊥) (λ m k. FailsRead a m k old new)
-    (λ at. IsDamaged a old at) old new denied
+-- a disk failed, and its count of faults rose, or a record is damaged
+abbrev pub FailsByDisk : Mounted → View → View → Denied → Type 0
+FailsByDisk a old new denied = EndsBy (λ why. ⊥) (λ m k. FailsRead a m k old new)
+    (λ at. Unit {0}) old new denied
 
--- the same, or an instant of a block that is there is refused
-abbrev pub DeniesInstant : Mounted → View → View → Denied → Type 0
-DeniesInstant a old new denied = EndsBy (λ why. why ≢ NoBlock) (λ m k. FailsRead a m k old new)
-    (λ at. IsDamaged a old at) old new denied
+-- the same, and the record is that of one of the block's entries after number q
+abbrev pub FailsLooking : Mounted → ℕ → ℕ → View → View → Denied → Type 0
+FailsLooking a block q old new denied = EndsBy (λ why. ⊥) (λ m k. FailsRead a m k old new)
+    (λ at. IsDamagedAfter a block q old at) old new denied
+
+-- an instant of a block that is there is refused, or a disk failed, and its count of faults rose,
+-- or a record is damaged as that says
+abbrev pub DeniesInstant : Mounted → (ℕ → Type 0) → View → View → Denied → Type 0
+DeniesInstant a damages old new denied = EndsBy (λ why. why ≢ NoBlock)
+    (λ m k. FailsRead a m k old new) damages old new denied

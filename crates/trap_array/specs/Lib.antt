@@ -1,8 +1,8 @@
 pub use Rattle.trap_mount.specs.Holding
 pub mod Log
 pub mod Held
-pub mod NextHead
-pub mod Room
+pub use Rattle.trap_log.specs.NextHead
+pub use Rattle.trap_log.specs.Room
 pub mod Beside
 pub mod Growing
 pub mod Calls
@@ -24,4 +24,5 @@ pub use Rattle.trap_mount.specs.MountSteps
 pub use Rattle.trap_mount.specs.Reading
 pub mod Instants
 pub mod Sources
+pub mod Calling
 pub mod SourceLaws

@@ -1,6 +1,6 @@
 -- How many writes are pending after a request.
-use Rattle.std.specs.Prelude.{ℕ, ◌-◌, Option, Some, None, Result, Ok, Err, ◌==◌, if◌then◌else◌}
-use Rattle.trap_format.specs.declared.head.Head.{Head}
+use Rattle.std.specs.Prelude.{ℕ, Option, Some, None, Result, Ok, Err}
+pub use Rattle.trap_log.specs.Draining.{pending_writes, left_pending}
 use Rattle.trap_model.specs.declared.numbers.Geometry.{Geometry}
 use Rattle.trap_model.specs.declared.request.Refusal.TheVariants.{Full}
 use Rattle.trap_model.specs.declared.request.Reply.{Reply}
@@ -9,14 +9,6 @@ use Rattle.trap_model.specs.declared.request.Request.{Request}
 use Rattle.trap_model.specs.declared.request.Request.TheVariants.{Write}
 use Rattle.trap_array.specs.declared.fault.Denied.{Denied}
 use Rattle.trap_array.specs.declared.fault.Denied.TheVariants.{Refused}
-
--- committed, and not yet known to be on the members
-abbrev pub pending_writes : Head → ℕ
-pending_writes h = h.last - h.drained
-
--- how many stay pending where a slot is made free: none, if none was
-abbrev pub left_pending : Geometry → ℕ → ℕ
-left_pending g before = if before == g.slots then 0 else before
 
 -- How many writes are pending after a request with this reply, where that many were before. A write
 -- makes a slot free before it finds that there is no room for its record. One that is kept is

@@ -7,11 +7,12 @@ use Rattle.trap_model.specs.declared.history.State.{State}
 use Rattle.trap_bank.proofs.OnlyReads.{reads_none, reads_then}
 use Rattle.trap_raid.proofs.ReadLemmas.{still_tells}
 use Rattle.trap_array.specs.Calls.{Mounted, StandsFor, running}
-use Rattle.trap_array.specs.Instants.{FailsLooking, HasBadRecord}
+use Rattle.trap_array.specs.Instants.{FailsByDisk}
 use Rattle.trap_array.specs.Log.{IndexedLog}
 use Rattle.trap_array.specs.Sources.{CallCounts, CallsBeside, OnlyLooked, LookFailed, present_of}
 use Rattle.trap_array.specs.declared.fault.Denied.{Denied}
-use Rattle.trap_array.specs.declared.fault.Denied.TheVariants.{Refused, LogFault, MemberFault, Damaged, Stopped}
+use Rattle.trap_array.specs.declared.fault.Denied.TheVariants.{Refused, LogFault, MemberFault}
+use Rattle.trap_array.specs.declared.fault.Denied.TheVariants.{Damaged, Stopped}
 
 module _ (log same : IndexedLog) (x y z : CallCounts) (a b c : View) (is : log ≡ same)
     (first : OnlyLooked log x y a b) (then : OnlyLooked same y z b c) where
@@ -64,7 +65,7 @@ still_stands log a b s reads told stands =
 
 -- a fault between is one of the whole
 fails_within : (m : Mounted) (a b c d : View) → OnlyReads a b → OnlyReads c d → (e : Denied)
-    → FailsLooking m b c e → FailsLooking m a d e
+    → FailsByDisk m b c e → FailsByDisk m a d e
 fails_within m a b c d before after (Refused why) fails = fails
 fails_within m a b c d before after LogFault fails =
     omega (arith, fails, before.moves.faults 0, after.moves.faults 0)
@@ -81,35 +82,33 @@ fails_within m a b c d before after (MemberFault first second) fails = record {
     );
   };
 }
-fails_within m a b c d before after (Damaged offset) fails = λ told.
-    subst (λ (x : Contents). HasBadRecord m.g m.index x.disks offset) (before.same told)
-    (fails (still_tells a b before told))
+fails_within m a b c d before after (Damaged offset) fails = fails
 fails_within m a b c d before after Stopped fails = fails
 
-pub vain_since : (log same : IndexedLog) (x y z : CallCounts) (a b c : View) (e : Denied)
+pub failed_since : (log same : IndexedLog) (x y z : CallCounts) (a b c : View) (e : Denied)
     → log ≡ same → OnlyLooked log x y a b → LookFailed same y z b c e → LookFailed log x z a c e
-vain_since log same x y z a b c e is looks then =
-    let vain = subst (λ (l : IndexedLog). LookFailed l y z b c e) (sym is) then in
+failed_since log same x y z a b c e is looks then =
+    let failed = subst (λ (l : IndexedLog). LookFailed l y z b c e) (sym is) then in
     record {
-      fails = fails_within (running log) a b c c looks.reads (reads_none c) e vain.fails;
-      asked = λ first second at. (let later = vain.asked first second at in omega (
+      fails = fails_within (running log) a b c c looks.reads (reads_none c) e failed.fails;
+      asked = λ first second at. (let later = failed.asked first second at in omega (
         arith,
         later,
         looks.presents,
       ));
       damaged =
-          λ offset at told s stands. vain.damaged offset at (still_tells a b looks.reads told) s
+          λ offset at told s stands. failed.damaged offset at (still_tells a b looks.reads told) s
           (still_stands log a b s looks.reads told stands);
     }
 
-pub vain_still : (log same : IndexedLog) (x y z : CallCounts) (a b c : View) (e : Denied)
+pub failed_still : (log same : IndexedLog) (x y z : CallCounts) (a b c : View) (e : Denied)
     → log ≡ same → LookFailed log x y a b e → OnlyLooked same y z b c → LookFailed log x z a c e
-vain_still log same x y z a b c e is vain looks = record {
-  fails = fails_within (running log) a a b c (reads_none a) looks.reads e vain.fails;
-  asked = λ first second at. (let before = vain.asked first second at in omega (
+failed_still log same x y z a b c e is failed looks = record {
+  fails = fails_within (running log) a a b c (reads_none a) looks.reads e failed.fails;
+  asked = λ first second at. (let before = failed.asked first second at in omega (
     arith,
     before,
     looks.presents,
   ));
-  damaged = vain.damaged;
+  damaged = failed.damaged;
 }

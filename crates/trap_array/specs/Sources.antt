@@ -1,11 +1,12 @@
 -- The log as a source of the past: what it has, and what its calls do to the bank.
-use Rattle.std.specs.Prelude.{◌≡◌, ℕ, ◌+◌, ◌-◌, ◌*◌, ◌<◌, ◌≤◌, List, Option, Some, None, Bool, false, IsTrue, Result, nat_le}
+use Rattle.std.specs.Prelude.{◌≡◌, ℕ, ◌+◌, ◌-◌, ◌*◌, ◌<◌, ◌≤◌, List, Option, Some, None, Bool}
+use Rattle.std.specs.Prelude.{false, IsTrue, Result, nat_le}
 use Rattle.trap_bank.specs.Steps.{OnlyReads}
 use Rattle.trap_bank.specs.Called.{TakesCalls}
 use Rattle.trap_bank.specs.Disks.{View}
 use Rattle.trap_format.specs.LogDisk.{log_size}
 use Rattle.trap_format.specs.MemberDisk.{member_size}
-use Rattle.trap_index.specs.Indexed.{Indexed, last_seq, item_at, path_to}
+use Rattle.trap_index.specs.Indexed.{last_seq, item_at, path_to}
 use Rattle.trap_map.specs.Layout.{block_place}
 use Rattle.trap_model.specs.declared.history.State.{State}
 use Rattle.trap_model.specs.declared.numbers.Geometry.{Geometry}
@@ -18,7 +19,7 @@ use Rattle.trap_raid.specs.Standing.{reads_of}
 use Rattle.trap_record.specs.declared.parts.Part.{Part}
 use Rattle.trap_record.specs.declared.parts.Part.TheVariants.{Parity, Snapshot}
 use Rattle.trap_array.specs.Calls.{Mounted, StandsFor, running}
-use Rattle.trap_array.specs.Instants.{FailsLooking}
+use Rattle.trap_array.specs.Instants.{IsBadRecord, FailsByDisk}
 use Rattle.trap_array.specs.Log.{IndexedLog, AreInStep}
 use Rattle.trap_array.specs.declared.fault.Denied.{Denied}
 use Rattle.trap_array.specs.declared.fault.Denied.TheVariants.{MemberFault, Damaged}
@@ -50,6 +51,8 @@ pub record CallCounts : Type 0 where
   pub faults : ℕ
   -- the block whose present contents were asked for last
   pub asked : ℕ
+  -- the number of the entry whose record was asked for last
+  pub looked : ℕ
 
 -- the log as a source: where the bank tells, it stands for the states of what a read gives
 abbrev pub past_of_log : IndexedLog → View → CallCounts → Past
@@ -67,6 +70,7 @@ past_of_log log v n = record {
   snapshots = n.snapshots;
   faults = n.faults;
   asked = n.asked;
+  looked = n.looked;
 }
 
 -- the bank was called at most so often, where each call raises its moment by one
@@ -122,7 +126,13 @@ pub record OnlyLooked (log : IndexedLog) (was now : CallCounts) (old new : View)
 -- the present was asked for, and a record is damaged only where the log stands for no state.
 pub record LookFailed (log : IndexedLog) (was now : CallCounts) (old new : View)
     (fault : Denied) : Type 0 where
-  pub fails : FailsLooking (running log) old new fault
+  pub fails : FailsByDisk (running log) old new fault
   pub asked : (first second : ℕ) → fault ≡ MemberFault first second → was.presents < now.presents
   pub damaged : (offset : ℕ) → fault ≡ Damaged offset → IsTrue old.tells → (s : State)
       → StandsFor (running log) s old.now.disks → ⊥
+
+-- Right after a call of the source that failed: a record that is damaged is that of the entry that
+-- was asked for last.
+abbrev pub LooksDamaged : IndexedLog → ℕ → View → Denied → Type 0
+LooksDamaged log looked v fault = (offset : ℕ) → fault ≡ Damaged offset → IsTrue v.tells
+    → IsBadRecord log.g log.index looked v.now.disks offset

@@ -1,18 +1,17 @@
 -- What a write does, step by step, to the state that an array stands for.
-use Rattle.std.specs.Prelude.{◌≡◌, ◌≢◌, ℕ, ◌+◌, ◌^◌, Option, Some, None, Result, IfErr, IsTrue, ◌==◌, nat_lt, if◌then◌else◌}
+use Rattle.std.specs.Prelude.{◌≡◌, ◌≢◌, ℕ, ◌+◌, Result, IfErr, IsTrue}
 use Rattle.trap_bank.specs.Disks.{View}
 use Rattle.trap_bank.specs.Steps.{Moves, Always}
-use Rattle.trap_format.specs.declared.head.Head.{Head}
 use Rattle.trap_model.specs.declared.history.State.{State}
-use Rattle.trap_model.specs.declared.request.Refusal.{Refusal}
-use Rattle.trap_model.specs.declared.request.Refusal.TheVariants.{NoBlock, TimeBack, Worn}
+use Rattle.trap_model.specs.declared.request.Refusal.TheVariants.{NoBlock}
 use Rattle.trap_model.specs.declared.request.Reply.{Reply}
 use Rattle.trap_array.specs.Beside.{StaysFrom}
-use Rattle.trap_array.specs.Calls.{Mounted, StandsFor, SameArray, AtAnyMoment, StandsAfterCall, MemberFails, WriteReplies, is_over, running}
+use Rattle.trap_array.specs.Calls.{Mounted, StandsFor, SameArray, AtAnyMoment, StandsAfterCall}
+use Rattle.trap_array.specs.Calls.{MemberFails, WriteReplies, is_over, running}
 use Rattle.trap_array.specs.Ending.{EndsBy}
 use Rattle.trap_array.specs.Log.{IndexedLog, AreInStep}
 use Rattle.trap_array.specs.Ready.{KnowsCell}
-pub use Rattle.trap_array.specs.Room.{ring_limit, IsFull}
+pub use Rattle.trap_log.specs.Room.{ring_limit, IsFull, early_refusal}
 use Rattle.trap_array.specs.declared.fault.Denied.{Denied}
 
 -- what failed has a count of faults that rose
@@ -41,10 +40,3 @@ pub record MovesLog (a b : IndexedLog) (next : State → State) (replies : State
   pub cause : IfErr result (Denies (running a) old new)
   pub any_moment : Moves old new (AtAnyMoment (running a) old next)
       (AtAnyMoment (running a) old next)
-
--- why no entry of this time is kept, whatever it writes
-abbrev pub early_refusal : Head → ℕ → Option Refusal
-early_refusal h time =
-    if nat_lt time h.last_time then Some (TimeBack h.last_time)
-    else if h.last == 2 ^ 40 then Some Worn
-    else None

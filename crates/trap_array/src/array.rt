@@ -2,16 +2,16 @@
 
 ghost use Rattle.std.specs.Prelude.{◌≡◌, false};
 ghost use Rattle.trap_format.specs.HeadValue.{IsHead};
-ghost use Rattle.trap_index.specs.Indexed.{last_seq, last_time};
+ghost use Rattle.trap_index.specs.Indexed.{last_seq, last_record_time};
 ghost use Rattle.trap_stage.specs.Slots.{last_of};
 ghost use Rattle.trap_array.specs.Holding.{head_place};
 ghost use Rattle.trap_array.specs.Log.{HaveBlocksOf};
 
-use crate::log::Log;
 use std::marker::Model;
 use trap_cell::Cell;
 use trap_format::Head;
 use trap_index::Index;
+use trap_log::Log;
 use trap_model::Geometry;
 use trap_mount::Buffers;
 use trap_stage::Stage;
@@ -28,6 +28,8 @@ pub struct Array {
 }
 
 impl Model for Array {
+    ghost use Rattle.std.specs.Prelude.{length};
+    ghost use Rattle.trap_pool.specs.Pooled.{free_of};
     ghost use Rattle.trap_array.specs.Calls.{Mounted};
     ghost use Rattle.trap_array.specs.Log.{IsArray};
 
@@ -39,6 +41,8 @@ impl Model for Array {
       cell = a.log.cell;
       pending = a.log.stage.pending;
       index = a.index;
+      blocks = length a.buffers.pool.blocks;
+      free = free_of a.buffers.pool;
       is_stopped = a.is_stopped;
     } };
 
@@ -65,7 +69,7 @@ impl Array {
         requires first { index.first ≡ head.first }
         requires offset { index.first_off ≡ head.first_off }
         requires end { last_seq index ≡ head.last }
-        requires time { last_time index ≡ head.last_time }
+        requires time { last_record_time index ≡ head.last_time }
         requires buffers { HaveBlocksOf g.block buffers }
         ensures { result ≡ record {
           g = g;
@@ -73,16 +77,13 @@ impl Array {
           cell = cell;
           pending = stage.pending;
           index = index;
+          blocks = 6;
+          free = 6;
           is_stopped = false;
         } }
     {
         Array {
-            log: Log {
-                g,
-                head,
-                cell,
-                stage,
-            },
+            log: Log::new(g, head, cell, stage),
             index,
             buffers,
             is_stopped: false,
@@ -93,6 +94,6 @@ impl Array {
     pub fn geometry(&self) -> Geometry
         ensures { result ≡ self.now.g }
     {
-        self.log.g
+        self.log.geometry()
     }
 }

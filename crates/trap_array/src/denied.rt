@@ -1,10 +1,12 @@
 //! The faults of the layers below, as a call of an array answers them.
 
 ghost use Rattle.std.specs.Prelude.{◌≡◌};
+ghost use Rattle.trap_array.specs.Ending.{denied_by};
 ghost use Rattle.trap_array.specs.declared.fault.Denied.TheVariants.{LogFault, MemberFault};
 
 use crate::Denied;
 use trap_bank::DiskFault;
+use trap_log::DrainFault;
 use trap_raid::MemberFailed;
 
 impl From<DiskFault> for Denied {
@@ -22,6 +24,20 @@ impl From<MemberFailed> for Denied {
         Denied::MemberFault {
             first: failed.member,
             second: failed.member,
+        }
+    }
+}
+
+impl From<DrainFault> for Denied {
+    ghost from_gives = { λ fault e. e ≡ denied_by fault };
+
+    fn from(fault: DrainFault) -> Denied {
+        match fault {
+            DrainFault::LogFault => Denied::LogFault,
+            DrainFault::MemberFault { member } => Denied::MemberFault {
+                first: member,
+                second: member,
+            },
         }
     }
 }

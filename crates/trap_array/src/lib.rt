@@ -2,22 +2,23 @@
 #![tactic(auto)]
 
 mod array;
-mod commit;
 mod denied;
-mod draining;
 mod fault;
 mod fetch;
 mod held;
 pub mod laws;
-mod log;
 mod log_past;
 mod mount;
 mod past;
 #[cfg(test)]
 mod past_tests;
+#[cfg(test)]
+mod plain_tests;
 mod planning;
 mod read;
 mod refusals;
+#[cfg(test)]
+mod small;
 mod source;
 mod span;
 #[cfg(test)]

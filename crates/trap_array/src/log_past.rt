@@ -5,18 +5,21 @@ ghost use Rattle.std.proofs.Common.{◌∙◌};
 ghost use Rattle.trap_model.specs.Limits.{greatest_record};
 ghost use Rattle.trap_array.specs.Log.{with_index};
 ghost use Rattle.trap_array.specs.Sources.{IsFor, past_of_log, OnlyLooked, LookFailed};
-ghost use Rattle.trap_array.specs.SourceLaws.{looks_then, vain_since, vain_still};
+ghost use Rattle.trap_array.specs.Sources.{LooksDamaged};
+ghost use Rattle.trap_array.specs.SourceLaws.{looks_then, failed_since, failed_still};
 
 use crate::Denied;
-use crate::log::Log;
+use crate::fetch::fetch;
+use crate::source::part;
 use trap_bank::Bank;
 use trap_index::Index;
+use trap_log::Log;
 use trap_past::{Parities, Present};
 use trap_pool::{Lease, Pool};
 use trap_record::Part;
 
 /// A log, its index, its bank, and room for a record. The source counts its calls and its faults
-/// from 0, and keeps the block whose present contents were asked for last.
+/// from 0, and keeps which block's present contents and which entry's record were asked for last.
 #[derive(Drop)]
 pub(crate) struct LogPast<'l, 'i, 'b, 's, B: Bank> {
     pub(crate) log: &'l Log,
@@ -28,6 +31,7 @@ pub(crate) struct LogPast<'l, 'i, 'b, 's, B: Bank> {
     pub(crate) snapshots: u64,
     pub(crate) faults: u64,
     pub(crate) asked: u32,
+    pub(crate) looked: u64,
     ghost for_log: { IsFor (with_index log.now index.now) (B.view bank.now) },
     ghost room: { length spelled.now ≡ greatest_record log.now.g.block },
 }
@@ -42,10 +46,11 @@ impl<B: Bank> Present for LogPast<'_, '_, '_, '_, B> {
           snapshots = p.snapshots;
           faults = p.faults;
           asked = p.asked;
+          looked = p.looked;
         }) };
 
     // The source keeps its log and its bank.
-    ghost goes = { λ p q. (p.bank.ghost_name ≡ q.bank.ghost_name)
+    ghost acts = { λ p q. (p.bank.ghost_name ≡ q.bank.ghost_name)
         × ((with_index p.log.now p.index.now ≡ with_index q.log.now q.index.now)
         × OnlyLooked (with_index p.log.now p.index.now)
         (record {
@@ -54,6 +59,7 @@ impl<B: Bank> Present for LogPast<'_, '_, '_, '_, B> {
           snapshots = p.snapshots;
           faults = p.faults;
           asked = p.asked;
+          looked = p.looked;
         })
         (record {
           presents = q.presents;
@@ -61,10 +67,11 @@ impl<B: Bank> Present for LogPast<'_, '_, '_, '_, B> {
           snapshots = q.snapshots;
           faults = q.faults;
           asked = q.asked;
+          looked = q.looked;
         })
         (B.view p.bank.now) (B.view q.bank.now)) };
 
-    ghost causes = { λ p q fault. (with_index p.log.now p.index.now
+    ghost reasons = { λ p q fault. (with_index p.log.now p.index.now
         ≡ with_index q.log.now q.index.now)
         × LookFailed (with_index p.log.now p.index.now)
         (record {
@@ -73,6 +80,7 @@ impl<B: Bank> Present for LogPast<'_, '_, '_, '_, B> {
           snapshots = p.snapshots;
           faults = p.faults;
           asked = p.asked;
+          looked = p.looked;
         })
         (record {
           presents = q.presents;
@@ -80,8 +88,12 @@ impl<B: Bank> Present for LogPast<'_, '_, '_, '_, B> {
           snapshots = q.snapshots;
           faults = q.faults;
           asked = q.asked;
+          looked = q.looked;
         })
         (B.view p.bank.now) (B.view q.bank.now) fault };
+
+    ghost after_fault = { λ p fault. LooksDamaged (with_index p.log.now p.index.now) p.looked
+        (B.view p.bank.now) fault };
 
     fn present(
         &mut self,
@@ -92,7 +104,7 @@ impl<B: Bank> Present for LogPast<'_, '_, '_, '_, B> {
     ) -> Result<(), Denied> {
         self.presents += 1;
         self.asked = block;
-        match self.log.fetch(self.bank, pool, block, into, scratch) {
+        match fetch(self.log, self.bank, pool, block, into, scratch) {
             Ok(()) => Ok(()),
             Err(failed) => {
                 self.faults = self.faults.saturating_add(1);
@@ -101,20 +113,22 @@ impl<B: Bank> Present for LogPast<'_, '_, '_, '_, B> {
         }
     }
 
-    ghost goes_then = { λ a b c ab bc.
+    ghost acts_then = { λ a b c ab bc.
         (ab.0 ∙ bc.0, (ab.1.0 ∙ bc.1.0, looks_then _ _ _ _ _ _ _ _ ab.1.0 ab.1.1 bc.1.1)) };
 
-    ghost causes_since = { λ a b c fault ab bc.
-        (ab.1.0 ∙ bc.0, vain_since _ _ _ _ _ _ _ _ fault ab.1.0 ab.1.1 bc.1) };
+    ghost reasons_since = { λ a b c fault ab bc.
+        (ab.1.0 ∙ bc.0, failed_since _ _ _ _ _ _ _ _ fault ab.1.0 ab.1.1 bc.1) };
 
-    ghost causes_still = { λ a b c fault ab bc.
-        (ab.0 ∙ bc.1.0, vain_still _ _ _ _ _ _ _ _ fault ab.0 ab.1 bc.1.1) };
+    ghost reasons_still = { λ a b c fault ab bc.
+        (ab.0 ∙ bc.1.0, failed_still _ _ _ _ _ _ _ _ fault ab.0 ab.1 bc.1.1) };
 }
 
 impl<B: Bank> Parities for LogPast<'_, '_, '_, '_, B> {
     fn parity(&mut self, pool: &mut Pool, seq: u64, into: &Lease) -> Result<(), Denied> {
         self.parities += 1;
-        match self.log.part(
+        self.looked = seq;
+        match part(
+            self.log,
             self.index,
             self.bank,
             pool,
@@ -133,7 +147,9 @@ impl<B: Bank> Parities for LogPast<'_, '_, '_, '_, B> {
 
     fn snapshot(&mut self, pool: &mut Pool, seq: u64, into: &Lease) -> Result<(), Denied> {
         self.snapshots += 1;
-        match self.log.part(
+        self.looked = seq;
+        match part(
+            self.log,
             self.index,
             self.bank,
             pool,

@@ -10,19 +10,23 @@ ghost use Rattle.trap_model.specs.declared.request.Refusal.{Refusal};
 ghost use Rattle.trap_model.specs.declared.request.Request.TheVariants as request;
 ghost use Rattle.trap_index.specs.Describes.{Describes};
 ghost use Rattle.trap_index.specs.Indexed.{IsLastBy};
-ghost use Rattle.trap_array.specs.Calls.{IsReady, StandsFor, TakesTo, AtReplies, is_fault, running};
+ghost use Rattle.trap_array.specs.Calls.{AnswersRead, IsReady, StandsFor, AtReplies, is_fault};
+ghost use Rattle.trap_array.specs.Calls.{running};
 ghost use Rattle.trap_array.specs.Causes.{DeniedBy, of_number, of_time};
-ghost use Rattle.trap_array.specs.Instants.{CanLookBack, DeniesInstant, HasBadRecord, number_refused, time_refused};
+ghost use Rattle.trap_array.specs.Instants.{CanLookBack, DeniesInstant, HasBadRecord};
+ghost use Rattle.trap_array.specs.Instants.{HasBadRecordBy, IsDamagedAfter, IsDamagedBy};
+ghost use Rattle.trap_array.specs.Instants.{number_refused, time_refused};
 ghost use Rattle.trap_array.specs.Log.{HaveBlocksOf, with_index};
 ghost use Rattle.trap_array.specs.Sources.{CallsAtMost, reads_back};
 ghost use Rattle.trap_array.specs.Untouched.{Untouched};
 ghost use Rattle.trap_array.specs.declared.fault.Denied.TheVariants as Denied;
 
-use crate::log::Log;
 use crate::refusals::{number_refusal, time_refusal};
+use crate::source::look_back;
 use crate::{Array, Denied};
 use trap_bank::Bank;
 use trap_index::Index;
+use trap_log::Log;
 use trap_model::Refusal;
 use trap_mount::Buffers;
 
@@ -38,15 +42,12 @@ impl Array {
     ) -> Result<(), Denied>
         requires size { length into.old ≡ self.old.g.block }
         requires ready { IsReady self.old (B.view bank.old) }
-        ensures reply { IsTrue (B.view bank.old).tells → (s : State)
-            → Always (B.view bank.old) (StandsFor self.old s)
-            → AtReplies result into.new ((step self.old.g).reply s (request.At seq block)) }
+        ensures answers { AnswersRead self.old self.new (request.At seq block)
+            (AtReplies result into.new) result (B.view bank.old) (B.view bank.new) }
 
         // At most the reads of its present contents, none of them a lost member's, and two for each
         // later write of the block, whose record may go round the ring's end.
         ensures calls { CallsAtMost (reads_back self.old block seq) (B.view bank.old)
-            (B.view bank.new) }
-        ensures state { TakesTo self.old self.new (λ s. s) result (B.view bank.old)
             (B.view bank.new) }
         ensures ready { IsReady self.new (B.view bank.new) }
         ensures same { self.new
@@ -54,11 +55,11 @@ impl Array {
         ensures causes { DeniedBy self.old block (of_number self.old seq) result (B.view bank.old)
             (B.view bank.new) }
 
-        // A record that is read again is damaged only where none with the header that the array
-        // knows stands there, so never where the array stands for a state.
+        // A record is damaged only where it is that of a later write of the block, and none with
+        // the header that the array knows is there: so never where the array stands for a state.
         ensures bad { (offset : ℕ) → IsErrOf result (Denied.Damaged offset)
             → IsTrue (B.view bank.old).tells
-            → HasBadRecord self.old.g self.old.index (B.view bank.old).now.disks offset }
+            → HasBadRecord self.old.g self.old.index block seq (B.view bank.old).now.disks offset }
         ensures damaged { (offset : ℕ) → IsErrOf result (Denied.Damaged offset)
             → IsTrue (B.view bank.old).tells
             → (s : State) → Always (B.view bank.old) (StandsFor self.old s) → ⊥ }
@@ -66,13 +67,14 @@ impl Array {
         // Stopped at any moment, the disks are as they were.
         ensures any_moment { OnlyReads (B.view bank.old) (B.view bank.new) }
     {
-        if block >= u64::from(self.log.g.volume()) {
+        if block >= u64::from(self.log.geometry().volume()) {
             return Err(Denied::Refused(Refusal::NoBlock));
         }
         if self.is_stopped {
             return Err(Denied::Stopped);
         }
-        let answer = self.log.look_back_to_number(
+        let answer = look_back_to_number(
+            &self.log,
             &self.index,
             bank,
             &mut self.buffers,
@@ -95,33 +97,31 @@ impl Array {
     ) -> Result<(), Denied>
         requires size { length into.old ≡ self.old.g.block }
         requires ready { IsReady self.old (B.view bank.old) }
-        ensures reply { IsTrue (B.view bank.old).tells → (s : State)
-            → Always (B.view bank.old) (StandsFor self.old s)
-            → AtReplies result into.new ((step self.old.g).reply s (request.By time block)) }
+        ensures answers { AnswersRead self.old self.new (request.By time block)
+            (AtReplies result into.new) result (B.view bank.old) (B.view bank.new) }
         ensures calls { (seq : ℕ) → IsLastBy self.old.index time seq
             → CallsAtMost (reads_back self.old block seq) (B.view bank.old) (B.view bank.new) }
-        ensures state { TakesTo self.old self.new (λ s. s) result (B.view bank.old)
-            (B.view bank.new) }
         ensures ready { IsReady self.new (B.view bank.new) }
         ensures same { self.new
             ≡ record self.old { is_stopped = self.old.is_stopped || is_fault result } }
         ensures causes { DeniedBy self.old block (of_time self.old time) result (B.view bank.old)
             (B.view bank.new) }
         ensures bad { (offset : ℕ) → IsErrOf result (Denied.Damaged offset)
-            → IsTrue (B.view bank.old).tells
-            → HasBadRecord self.old.g self.old.index (B.view bank.old).now.disks offset }
+            → IsTrue (B.view bank.old).tells → HasBadRecordBy self.old.g self.old.index block time
+            (B.view bank.old).now.disks offset }
         ensures damaged { (offset : ℕ) → IsErrOf result (Denied.Damaged offset)
             → IsTrue (B.view bank.old).tells
             → (s : State) → Always (B.view bank.old) (StandsFor self.old s) → ⊥ }
         ensures any_moment { OnlyReads (B.view bank.old) (B.view bank.new) }
     {
-        if block >= u64::from(self.log.g.volume()) {
+        if block >= u64::from(self.log.geometry().volume()) {
             return Err(Denied::Refused(Refusal::NoBlock));
         }
         if self.is_stopped {
             return Err(Denied::Stopped);
         }
-        let answer = self.log.look_back_to_time(
+        let answer = look_back_to_time(
+            &self.log,
             &self.index,
             bank,
             &mut self.buffers,
@@ -135,88 +135,88 @@ impl Array {
     }
 }
 
-impl Log {
-    /// Fills `into` with a block of the array after the entry with this
-    /// number, where that is retained.
-    fn look_back_to_number<B: Bank>(
-        &self,
-        index: &Index,
-        bank: &mut B,
-        room: &mut Buffers,
-        block: u32,
-        seq: u64,
-        into: &mut [u8],
-    ) -> Result<(), Denied>
-        requires room { HaveBlocksOf self.now.g.block room.old }
-        requires can { CanLookBack (with_index self.now index.now) (B.view bank.old) }
-        requires block { block < volume self.now.g }
-        requires into { length into.old ≡ self.now.g.block }
-        ensures reply { IsTrue (B.view bank.old).tells → (s : State)
-            → StandsFor (running (with_index self.now index.now)) s (B.view bank.old).now.disks
-            → AtReplies result into.new
-            ((step self.now.g).reply s (request.At seq block)) }
-        ensures damaged { (offset : ℕ) → IsErrOf result (Denied.Damaged offset)
-            → IsTrue (B.view bank.old).tells
-            → (s : State) → StandsFor (running (with_index self.now index.now)) s
-            (B.view bank.old).now.disks → ⊥ }
-        ensures room { HaveBlocksOf self.now.g.block room.new }
-        ensures cause { IfErr result (DeniesInstant
-            (running (with_index self.now index.now)) (B.view bank.old) (B.view bank.new)) }
-        ensures refused { (why : Refusal) → (result ≡ Err (Denied.Refused why))
-            ↔ (number_refused index.now seq ≡ Some why) }
-        ensures at_once { (why : Refusal) → number_refused index.now seq ≡ Some why
-            → Untouched (B.view bank.old) (B.view bank.new) }
-        ensures calls { CallsAtMost (reads_back (running (with_index self.now index.now)) block seq)
-            (B.view bank.old) (B.view bank.new) }
-        ensures any_moment { OnlyReads (B.view bank.old) (B.view bank.new) }
-    {
-        if let Some(why) = number_refusal(index, seq) {
-            return Err(Denied::Refused(why));
-        }
-        self.look_back(index, bank, room, block, seq, into)
+/// Fills `into` with a block of the array after the entry with this
+/// number, where that is retained.
+fn look_back_to_number<B: Bank>(
+    log: &Log,
+    index: &Index,
+    bank: &mut B,
+    room: &mut Buffers,
+    block: u32,
+    seq: u64,
+    into: &mut [u8],
+) -> Result<(), Denied>
+    requires room { HaveBlocksOf log.now.g.block room.old }
+    requires can { CanLookBack (with_index log.now index.now) (B.view bank.old) }
+    requires block { block < volume log.now.g }
+    requires into { length into.old ≡ log.now.g.block }
+    ensures reply { IsTrue (B.view bank.old).tells → (s : State)
+        → StandsFor (running (with_index log.now index.now)) s (B.view bank.old).now.disks
+        → AtReplies result into.new
+        ((step log.now.g).reply s (request.At seq block)) }
+    ensures damaged { (offset : ℕ) → IsErrOf result (Denied.Damaged offset)
+        → IsTrue (B.view bank.old).tells
+        → (s : State) → StandsFor (running (with_index log.now index.now)) s
+        (B.view bank.old).now.disks → ⊥ }
+    ensures room { HaveBlocksOf log.now.g.block room.new }
+    ensures cause { IfErr result (DeniesInstant (running (with_index log.now index.now))
+        (IsDamagedAfter (running (with_index log.now index.now)) block seq (B.view bank.old))
+        (B.view bank.old) (B.view bank.new)) }
+    ensures refused { (why : Refusal) → (result ≡ Err (Denied.Refused why))
+        ↔ (number_refused index.now seq ≡ Some why) }
+    ensures at_once { (why : Refusal) → number_refused index.now seq ≡ Some why
+        → Untouched (B.view bank.old) (B.view bank.new) }
+    ensures calls { CallsAtMost (reads_back (running (with_index log.now index.now)) block seq)
+        (B.view bank.old) (B.view bank.new) }
+    ensures any_moment { OnlyReads (B.view bank.old) (B.view bank.new) }
+{
+    if let Some(why) = number_refusal(index, seq) {
+        return Err(Denied::Refused(why));
     }
+    look_back(log, index, bank, room, block, seq, into)
+}
 
-    /// Fills `into` with a block of the array after all entries up to this
-    /// time, where that is retained.
-    fn look_back_to_time<B: Bank>(
-        &self,
-        index: &Index,
-        bank: &mut B,
-        room: &mut Buffers,
-        block: u32,
-        time: u64,
-        into: &mut [u8],
-    ) -> Result<(), Denied>
-        requires room { HaveBlocksOf self.now.g.block room.old }
-        requires can { CanLookBack (with_index self.now index.now) (B.view bank.old) }
-        requires block { block < volume self.now.g }
-        requires into { length into.old ≡ self.now.g.block }
-        ensures reply { IsTrue (B.view bank.old).tells → (s : State)
-            → StandsFor (running (with_index self.now index.now)) s (B.view bank.old).now.disks
-            → AtReplies result into.new
-            ((step self.now.g).reply s (request.By time block)) }
-        ensures damaged { (offset : ℕ) → IsErrOf result (Denied.Damaged offset)
-            → IsTrue (B.view bank.old).tells
-            → (s : State) → StandsFor (running (with_index self.now index.now)) s
-            (B.view bank.old).now.disks → ⊥ }
-        ensures room { HaveBlocksOf self.now.g.block room.new }
-        ensures cause { IfErr result (DeniesInstant
-            (running (with_index self.now index.now)) (B.view bank.old) (B.view bank.new)) }
-        ensures refused { (why : Refusal) → (result ≡ Err (Denied.Refused why))
-            ↔ (time_refused index.now time ≡ Some why) }
-        ensures at_once { (why : Refusal) → time_refused index.now time ≡ Some why
-            → Untouched (B.view bank.old) (B.view bank.new) }
-        ensures calls { (seq : ℕ) → IsLastBy index.now time seq → CallsAtMost
-            (reads_back (running (with_index self.now index.now)) block seq) (B.view bank.old)
-            (B.view bank.new) }
-        ensures any_moment { OnlyReads (B.view bank.old) (B.view bank.new) }
-    {
-        if let Some(why) = time_refusal(index, time) {
-            return Err(Denied::Refused(why));
-        }
-        let seq = last_by_time(index, time);
-        self.look_back(index, bank, room, block, seq, into)
+/// Fills `into` with a block of the array after all entries up to this
+/// time, where that is retained.
+fn look_back_to_time<B: Bank>(
+    log: &Log,
+    index: &Index,
+    bank: &mut B,
+    room: &mut Buffers,
+    block: u32,
+    time: u64,
+    into: &mut [u8],
+) -> Result<(), Denied>
+    requires room { HaveBlocksOf log.now.g.block room.old }
+    requires can { CanLookBack (with_index log.now index.now) (B.view bank.old) }
+    requires block { block < volume log.now.g }
+    requires into { length into.old ≡ log.now.g.block }
+    ensures reply { IsTrue (B.view bank.old).tells → (s : State)
+        → StandsFor (running (with_index log.now index.now)) s (B.view bank.old).now.disks
+        → AtReplies result into.new
+        ((step log.now.g).reply s (request.By time block)) }
+    ensures damaged { (offset : ℕ) → IsErrOf result (Denied.Damaged offset)
+        → IsTrue (B.view bank.old).tells
+        → (s : State) → StandsFor (running (with_index log.now index.now)) s
+        (B.view bank.old).now.disks → ⊥ }
+    ensures room { HaveBlocksOf log.now.g.block room.new }
+    ensures cause { IfErr result (DeniesInstant (running (with_index log.now index.now))
+        (IsDamagedBy (running (with_index log.now index.now)) block time (B.view bank.old))
+        (B.view bank.old) (B.view bank.new)) }
+    ensures refused { (why : Refusal) → (result ≡ Err (Denied.Refused why))
+        ↔ (time_refused index.now time ≡ Some why) }
+    ensures at_once { (why : Refusal) → time_refused index.now time ≡ Some why
+        → Untouched (B.view bank.old) (B.view bank.new) }
+    ensures calls { (seq : ℕ) → IsLastBy index.now time seq → CallsAtMost
+        (reads_back (running (with_index log.now index.now)) block seq) (B.view bank.old)
+        (B.view bank.new) }
+    ensures any_moment { OnlyReads (B.view bank.old) (B.view bank.new) }
+{
+    if let Some(why) = time_refusal(index, time) {
+        return Err(Denied::Refused(why));
     }
+    let seq = last_by_time(index, time);
+    look_back(log, index, bank, room, block, seq, into)
 }
 
 /// The number of the last entry up to a time.

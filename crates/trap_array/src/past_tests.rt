@@ -3,28 +3,12 @@
 ghost use Rattle.std.specs.Prelude.{◌≡◌};
 ghost use Rattle.trap_array.specs.Calls.{IsReady};
 
+use crate::small::eight_blocks;
 use crate::{Array, Denied, create};
 use std::process::Abort;
 use std::test::Fail;
 use trap_bank::{Bank, MemoryBank};
-use trap_model::{Geometry, Refusal};
-
-/// Three members of four rows.
-fn eight_blocks() -> Geometry
-    ensures { result.slots ≡ 1 }
-{
-    Geometry {
-        id: 7,
-        members: 3,
-        chunk: 1,
-        block: 16,
-        rows: 4,
-        slots: 1,
-        gap: 2,
-        entries: 8,
-        ring: 2048,
-    }
-}
+use trap_model::Refusal;
 
 /// Writes a block with bytes that are the same.
 fn write<B: Bank>(

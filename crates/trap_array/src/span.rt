@@ -38,7 +38,7 @@ impl Array {
             → (step self.now.g).reply s request.Info
             ≡ reply.Span result.first result.last result.base_time result.last_time }
     {
-        let head = &self.log.head;
+        let head = self.log.head();
         Span {
             first: head.first,
             last: head.last,

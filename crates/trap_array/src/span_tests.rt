@@ -2,28 +2,11 @@
 
 ghost use Rattle.std.specs.Prelude.{◌≡◌};
 
+use crate::small::eight_blocks;
 use crate::{Array, Span, create};
 use std::test::Fail;
 use trap_bank::MemoryBank;
 use trap_index::Item;
-use trap_model::Geometry;
-
-/// Three members of four rows.
-fn eight_blocks() -> Geometry
-    ensures { result.slots ≡ 1 }
-{
-    Geometry {
-        id: 7,
-        members: 3,
-        chunk: 1,
-        block: 16,
-        rows: 4,
-        slots: 1,
-        gap: 2,
-        entries: 8,
-        ring: 2048,
-    }
-}
 
 fn item(time: u64, off: u64, prev: u64) -> Item {
     Item {

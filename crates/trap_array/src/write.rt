@@ -6,6 +6,7 @@ ghost use Rattle.trap_array.specs.Calls.{IsReady, SameArray, is_fault};
 ghost use Rattle.trap_array.specs.Causes.{DeniedBy, of_write};
 ghost use Rattle.trap_array.specs.Taking.{TakesStep};
 
+use crate::writing::write_block;
 use crate::{Array, Denied};
 use trap_bank::Bank;
 use trap_model::Refusal;
@@ -39,13 +40,14 @@ impl Array {
         // A fault stops the array.
         ensures stops { self.new.is_stopped ≡ (self.old.is_stopped || is_fault result) }
     {
-        if block >= u64::from(self.log.g.volume()) {
+        if block >= u64::from(self.log.geometry().volume()) {
             return Err(Denied::Refused(Refusal::NoBlock));
         }
         if self.is_stopped {
             return Err(Denied::Stopped);
         }
-        let result = self.log.write_block(
+        let result = write_block(
+            &mut self.log,
             &mut self.index,
             bank,
             &mut self.buffers,

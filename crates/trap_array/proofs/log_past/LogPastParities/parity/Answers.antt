@@ -1,7 +1,7 @@
 use Rattle.std.proofs.Common.{rules, Err, refl, ap}
 use Rattle.trap_array.specs.Calls.{running}
 use Rattle.trap_array.specs.declared.fault.Denied.{Denied}
-use Rattle.trap_array.proofs.Sources.{record_looks, record_alone}
+use Rattle.trap_array.proofs.Sources.{record_looks, record_alone, record_damaged}
 use Rattle.trap_array.specs.Log.{with_index}
 use Rattle.trap_array.proofs.LookingBack.{parity_goes, can_look}
 use Rattle.trap_array.proofs.log_past.LogPastParities.parity.Goals as goal
@@ -12,28 +12,30 @@ part-requires-clause-can g c = can_look (with_index c.args.self.now.log.now c.ar
 pub returns-in-Err-clause-blame : goal.returns-in-Err-clause-blame
 returns-in-Err-clause-blame g c = record {
   cause = search rules;
-  caused = (
+  reason = (
     refl,
     record {
-      fails = record_looks (running (with_index c.args.self.now.log.now c.args.self.now.index.now)) (g.B.Bank.view c.args.self.now.bank.now)
+      fails = record_looks (running (with_index c.args.self.now.log.now c.args.self.now.index.now)) c.args.seq (g.B.Bank.view c.args.self.now.bank.now)
           (g.B.Bank.view c.part.new.bank) _ c.in-Err.ensures.cause;
       asked = λ first second is. absurd
-          (record_alone (running (with_index c.args.self.now.log.now c.args.self.now.index.now)) (g.B.Bank.view c.args.self.now.bank.now) (g.B.Bank.view c.part.new.bank) _
+          (record_alone (running (with_index c.args.self.now.log.now c.args.self.now.index.now)) c.args.seq (g.B.Bank.view c.args.self.now.bank.now) (g.B.Bank.view c.part.new.bank) _
           c.in-Err.ensures.cause first second is);
       damaged = λ offset is told s stands. c.in-Err.ensures.damaged offset (ap (λ (d : Denied). Err d) is) told s stands;
     },
   );
+  after = record_damaged (with_index c.args.self.now.log.now c.args.self.now.index.now) c.args.seq (g.B.Bank.view c.args.self.now.bank.now) (g.B.Bank.view c.part.new.bank) _
+      c.part.ensures.any_moment c.in-Err.ensures.cause;
 }
 
 pub returns-in-Ok-clause-parity : goal.returns-in-Ok-clause-parity
 returns-in-Ok-clause-parity g c s stands = c.in-Ok.ensures.part stands.0 s stands.1
 
-pub returns-in-Ok-clause-goes : goal.returns-in-Ok-clause-goes
-returns-in-Ok-clause-goes g c =
+pub returns-in-Ok-clause-acts : goal.returns-in-Ok-clause-acts
+returns-in-Ok-clause-acts g c =
     let here = with_index c.args.self.now.log.now c.args.self.now.index.now in
-    (refl, (refl, parity_goes here _ _ _ _ _ _ (g.B.Bank.view c.args.self.now.bank.now) (g.B.Bank.view c.part.new.bank) c.part.ensures.any_moment c.part.ensures.calls))
+    (refl, (refl, parity_goes here _ _ _ _ _ _ _ _ (g.B.Bank.view c.args.self.now.bank.now) (g.B.Bank.view c.part.new.bank) c.part.ensures.any_moment c.part.ensures.calls))
 
-pub returns-in-Err-clause-goes : goal.returns-in-Err-clause-goes
-returns-in-Err-clause-goes g c =
+pub returns-in-Err-clause-acts : goal.returns-in-Err-clause-acts
+returns-in-Err-clause-acts g c =
     let here = with_index c.args.self.now.log.now c.args.self.now.index.now in
-    (refl, (refl, parity_goes here _ _ _ _ _ _ (g.B.Bank.view c.args.self.now.bank.now) (g.B.Bank.view c.part.new.bank) c.part.ensures.any_moment c.part.ensures.calls))
+    (refl, (refl, parity_goes here _ _ _ _ _ _ _ _ (g.B.Bank.view c.args.self.now.bank.now) (g.B.Bank.view c.part.new.bank) c.part.ensures.any_moment c.part.ensures.calls))

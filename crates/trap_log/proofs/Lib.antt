@@ -1,0 +1,11 @@
+pub mod Sizes
+pub mod NextHeads
+pub mod Commits
+pub mod Drains
+pub mod Turns
+pub mod GoingOn
+pub mod IndexSteps
+pub mod CommitSteps
+pub mod DrainSteps
+pub mod AreaSteps
+pub mod Counting

@@ -1,0 +1,9 @@
+pub mod Log
+pub mod NextHead
+pub mod Room
+pub mod Growing
+pub mod Calls
+pub mod Areas
+pub mod Ready
+pub mod Committing
+pub mod Draining
