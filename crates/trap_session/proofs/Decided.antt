@@ -132,7 +132,7 @@ says_since {T} {E} piece result v u w still call = record {
     port_faults = subst (λ (n : ℕ). n ≤ w.port_faults) still.port_faults call.goes.port_faults;
     later = subst (λ (n : ℕ). n ≤ w.moment) still.moment call.goes.later;
     rises = λ told. subst (λ (n : ℕ). OnOk result (n < w.moment)) still.moment (call.goes.rises (now_told told));
-    way = call.goes.way ∙ still.by_one;
+    same_by_one = call.goes.same_by_one ∙ still.by_one;
     by_one = λ told counts. subst (λ (n : ℕ). w.moment ≡ max n (min (n + 1) (2 ^ 64 - 1))) still.moment
         (call.goes.by_one (now_told told) (subst IsTrue (sym still.by_one) counts));
   };

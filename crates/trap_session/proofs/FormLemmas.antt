@@ -1,6 +1,7 @@
--- Which requests a line can be.
-use Rattle.std.proofs.Common.{◌≡◌, ℕ, nat_lt, List, [], ◌∷◌, length, Bool, true, false, Option, Some, None, Result, Ok, Err, subst}
-use Rattle.std.specs.Prelude.{if◌then◌else◌}
+-- Which requests a line can be, and what is kept of a line.
+use Rattle.std.proofs.Common.{◌≡◌, ⊎_elim, ℕ, ◌+◌, ◌<◌, ◌≤◌, nat_lt, List, [], ◌∷◌, length, take, length-take, Bool, true, false, Option, Some, None, Result, Ok, Err, sym, ap, subst, ◌∙◌, arith}
+use Rattle.std.proofs.lemmas.Bool.{cases_lt, lt-ltb}
+use Rattle.std.specs.Prelude.{if◌then◌else◌, min}
 use Rattle.std.specs.List.{slice_split}
 use Rattle.trap_model.specs.declared.request.Request.{Request}
 use Rattle.trap_model.specs.declared.request.Request.TheVariants.{Write, Read, At, By, Info, Keep, Quit, Bad}
@@ -88,3 +89,18 @@ plain_line line.Bad fresh plain = tt
 -- a line that was read is one of these
 pub asked_line : (size : ℕ) (bytes : List ℕ) (read : Line) (fresh : List ℕ) → request_of size bytes ≡ request_with read fresh → IsAsked read
 asked_line size bytes read fresh is = plain_line read fresh (subst IsPlain is (plain-request size bytes))
+
+too_long : (size : ℕ) (line : List ℕ) → longest_line size < length line → request_of size line ≡ Bad
+too_long size line long = ap (λ (above : Bool). if above then Bad else request_of_fields size (slice_split is_space line)) (lt-ltb (longest_line size) (length line) long)
+
+-- What is kept of a line asks the same: of one that is too long, more is kept than a line has.
+pub kept_asks : (size kept : ℕ) (line items : List ℕ) → length items ≡ longest_line size + 1 → kept ≡ min (length line) (longest_line size + 1)
+    → (length line ≤ length items → take (length line) items ≡ line) → request_of size (take kept items) ≡ request_of size line
+kept_asks size kept line items room is held = ⊎_elim
+    (λ (long : longest_line size < length line).
+    let more : longest_line size < length (take kept items) = omega (arith, length-take kept items) in
+    too_long size (take kept items) more ∙ sym (too_long size line long))
+    (λ (fits : length line ≤ longest_line size).
+    let all : kept ≡ length line = omega arith in
+    ap (request_of size) (ap (λ (n : ℕ). take n items) all ∙ held (omega arith)))
+    (cases_lt (longest_line size) (length line))

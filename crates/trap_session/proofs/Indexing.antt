@@ -17,7 +17,7 @@ record_of : (a b : Mounted) (seq time block : ℕ) → HasRecordOf a b seq time 
 record_of a b seq time block one = record { rec = next_rec a.head time block one.size; added = one.added }
 
 record_perhaps : (a b : Mounted) (time block : ℕ) → IndexAfterFault a b time block → (b.index ≡ a.index) ⊎ HasRecordMore a.index b.index
-record_perhaps a b time block after = ⊎_elim (λ same. inl same) (λ one. inr (record_of a b (a.head.last + 1) time block one)) after
+record_perhaps a b time block after = ⊎_elim (λ same. inl same.1) (λ one. inr (record_of a b (a.head.last + 1) time block one.1)) after
 
 -- a write adds one record at most
 pub write_index : (a b : Mounted) (time block : ℕ) (bytes : List ℕ) (result : Result ℕ Denied) → IndexAfter a b time block result

@@ -2,6 +2,7 @@ mod Touching
 mod Indexing
 mod Decided
 mod FormLemmas
+mod Calling
 mod Replying
 mod Walking
 mod Stopping
@@ -9,3 +10,4 @@ pub mod Arrays
 mod Quits
 mod Exchanging
 mod Running
+mod Ending

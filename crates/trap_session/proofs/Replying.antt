@@ -6,7 +6,8 @@ use Rattle.trap_bank.specs.Disks.{Contents, Disks, View, Quiet}
 use Rattle.trap_bank.specs.Calls.{MayLeave, IsLawful, Says}
 use Rattle.trap_bank.specs.Faults.{Rose}
 use Rattle.trap_bank.specs.Steps.{Steps, Moves, Same, Spoke, SpokePart, Always}
-use Rattle.trap_bank.proofs.Moves.{say_steps, said_steps, then_, weaken, nothing_done, always_same, read_is_left}
+use Rattle.trap_bank.proofs.Called.{called_once, not_called}
+use Rattle.trap_bank.proofs.Moves.{say_steps, said_steps, then_, weaken, nothing_done, always_same, read_is_left, unmoved}
 use Rattle.trap_model.specs.Image.{volume}
 use Rattle.trap_model.specs.ArrayStep.{step, or_refused, refusal}
 use Rattle.trap_model.specs.declared.history.State.{State}
@@ -22,7 +23,6 @@ use Rattle.trap_script.specs.Replies.{reply_text}
 use Rattle.trap_array.specs.Areas.{Touches, InWrite, MayTouch}
 use Rattle.trap_array.specs.Holding.{HoldsBy}
 use Rattle.trap_array.specs.Beside.{StaysFrom}
-use Rattle.trap_array.specs.Instants.{HasBadRecord}
 use Rattle.trap_array.specs.Calls.{Mounted, WriteReplies, ReadReplies, AtReplies, is_fault, MemberFails, StandsFor, HoldsLike, IsReady, SameArray, AtAnyMoment, StandsAfterCall}
 use Rattle.trap_array.specs.Growing.{HeadAfter, IndexAfter}
 use Rattle.trap_array.specs.Owed.{owed, pending_writes, reply_of_write}
@@ -35,12 +35,13 @@ use Rattle.trap_array.proofs.Beside.{stays_none, stays_same, stays_then}
 use Rattle.trap_array.proofs.AreaSteps.{touches_same}
 use Rattle.trap_array.proofs.Denials.{untouched_none}
 use Rattle.trap_array.proofs.Sizes.{sizes_still}
-use Rattle.trap_array.proofs.TurnSteps.{goes_still, none_moves}
+use Rattle.trap_array.proofs.TurnSteps.{goes_still}
 use Rattle.trap_array.proofs.Turns.{later_same}
 use Rattle.trap_session.specs.After.{KnowsSame, AfterReply, AfterFault}
+use Rattle.trap_session.specs.Calling.{CallsInLine}
 use Rattle.trap_session.specs.Changing.{InLine, InNothing, makes_no_call}
-use Rattle.trap_session.specs.Fitting.{FaultFits, FailsReading, ReadsNoRecord, AsksBlock}
-use Rattle.trap_session.specs.Store.{Store, array_store, FaultCause, Replied, CutShort, Struck, StandsForNone, FaultRose, NamesBad}
+use Rattle.trap_session.specs.Fitting.{FaultFits, FailsReading, ReadsNoRecord, ReadsNoLog, AsksBlock}
+use Rattle.trap_session.specs.Store.{Store, array_store, FaultCause, Replied, CutShort, Struck, StandsForNone, FaultRose, IsBadFor, NamesBad}
 use Rattle.trap_session.specs.Deciding.{decided_of_block, decided_reply, MayReply}
 use Rattle.trap_session.specs.Indexing.{IndexAfterLine}
 use Rattle.trap_session.specs.Denying.{EndsSession}
@@ -116,6 +117,7 @@ ready_as a u w sizes still ready = record {
   stands = λ running. still _ (ready.stands running);
   value = λ running. still _ (ready.value running);
   count = ready.count;
+  room = ready.room;
 }
 
 rose_port : (a : Mounted) (v u w : View) (result : Result Next SessionFault) → v.port_faults ≤ u.port_faults → OnErr result (Rose u.port_faults w.port_faults)
@@ -124,29 +126,30 @@ rose_port a v u w (Ok next) later rose is = rose
 rose_port a v u w (Err fault) later rose is = subst (λ f. FaultRose a f v w) (sym is) (omega (arith, later, rose))
 
 -- such a fault names no record
-names_port : (a : Mounted) (w : View) (result : Result Next SessionFault) → IfErr result (λ fault. fault ≡ WriteFault) → IfErr result (λ fault. NamesBad a fault w)
-names_port a w (Ok next) is = is
-names_port a w (Err fault) is = subst (λ f. NamesBad a f w) (sym is) tt
+names_port : (a : Mounted) (asked : Request) (w : View) (result : Result Next SessionFault) → IfErr result (λ fault. fault ≡ WriteFault)
+    → IfErr result (λ fault. NamesBad a asked fault w)
+names_port a asked w (Ok next) is = is
+names_port a asked w (Err fault) is = subst (λ f. NamesBad a asked f w) (sym is) tt
 
 -- nor does a call that finds none damaged
-names_none : (a : Mounted) (w : View) (denied : Denied) → ((offset : ℕ) → denied ≡ Damaged offset → ⊥) → NamesBad a (Array denied) w
-names_none a w (Refused why) never = tt
-names_none a w LogFault never = tt
-names_none a w (MemberFault first second) never = tt
-names_none a w (Damaged offset) never = absurd (never offset refl)
-names_none a w Stopped never = tt
+names_none : (a : Mounted) (asked : Request) (w : View) (denied : Denied) → ((offset : ℕ) → denied ≡ Damaged offset → ⊥) → NamesBad a asked (Array denied) w
+names_none a asked w (Refused why) never = tt
+names_none a asked w LogFault never = tt
+names_none a asked w (MemberFault first second) never = tt
+names_none a asked w (Damaged offset) never = absurd (never offset refl)
+names_none a asked w Stopped never = tt
 
 -- and one that changes nothing but whether the array is stopped names the one that it found
-names_same : (a b : Mounted) (v u : View) (stopped : Bool) → b ≡ record a { is_stopped = stopped } → u.tells ≡ v.tells → (IsTrue v.tells → u.now ≡ v.now) → (denied : Denied)
-    → ((offset : ℕ) → denied ≡ Damaged offset → IsTrue v.tells → HasBadRecord a.g a.index v.now.disks offset) → NamesBad b (Array denied) u
-names_same a b v u stopped same tells alike (Refused why) bad = tt
-names_same a b v u stopped same tells alike LogFault bad = tt
-names_same a b v u stopped same tells alike (MemberFault first second) bad = tt
-names_same a b v u stopped same tells alike (Damaged offset) bad = λ told.
+names_same : (a b : Mounted) (asked : Request) (v u : View) (stopped : Bool) → b ≡ record a { is_stopped = stopped } → u.tells ≡ v.tells → (IsTrue v.tells → u.now ≡ v.now)
+    → (denied : Denied) → ((offset : ℕ) → denied ≡ Damaged offset → IsTrue v.tells → IsBadFor a.g a.index asked v.now.disks offset) → NamesBad b asked (Array denied) u
+names_same a b asked v u stopped same tells alike (Refused why) bad = tt
+names_same a b asked v u stopped same tells alike LogFault bad = tt
+names_same a b asked v u stopped same tells alike (MemberFault first second) bad = tt
+names_same a b asked v u stopped same tells alike (Damaged offset) bad = λ told.
     let told_before = subst IsTrue tells told in
-    subst (λ (m : Mounted). HasBadRecord m.g m.index u.now.disks offset) (sym same)
-    (subst (λ (x : Contents). HasBadRecord a.g a.index x.disks offset) (sym (alike told_before)) (bad offset refl told_before))
-names_same a b v u stopped same tells alike Stopped bad = tt
+    subst (λ (m : Mounted). IsBadFor m.g m.index asked u.now.disks offset) (sym same)
+    (subst (λ (x : Contents). IsBadFor a.g a.index asked x.disks offset) (sym (alike told_before)) (bad offset refl told_before))
+names_same a b asked v u stopped same tells alike Stopped bad = tt
 
 -- no disk changes while a piece is said
 stays_said : (d : ℕ) (u w : View) → (IsTrue u.tells → w.now.disks ≡ u.now.disks) → StaysFrom d u w
@@ -259,7 +262,7 @@ calls_denied Stopped still none = still refl
 -- the port may fail in every reply
 fits_port : (a : Mounted) (asked : Request) → goes_on asked ≡ true → FaultFits a asked WriteFault
 fits_port a (Write time block bytes) more = tt
-fits_port a (Read block) more = (tt, tt)
+fits_port a (Read block) more = (tt, tt, tt)
 fits_port a (At seq block) more = tt
 fits_port a (By time block) more = tt
 fits_port a (Keep seq) more = refl
@@ -279,7 +282,15 @@ no_record (MemberFault first second) never = tt
 no_record (Damaged offset) never = never offset refl
 no_record Stopped never = tt
 
--- and one that never reads the lost member doesn't fail by it
+-- and one that uses disk 0 for nothing doesn't fail by it
+pub no_log : (denied : Denied) → (denied ≡ LogFault → ⊥) → ReadsNoLog (Array denied)
+no_log (Refused why) never = tt
+no_log LogFault never = never refl
+no_log (MemberFault first second) never = tt
+no_log (Damaged offset) never = tt
+no_log Stopped never = tt
+
+-- nor one that never reads the lost member by that one
 pub not_by_lost : (a : Mounted) {T : Type 0} (call : Result T Denied) (denied : Denied) → call ≡ Err denied
     → ((first second : ℕ) → call ≡ Err (MemberFault first second) → a.head.lost ≢ Some second) → FailsReading a (Array denied)
 not_by_lost a call (Refused why) is used = tt
@@ -296,8 +307,8 @@ pub line_replied : (a b : Mounted) (v u w : View) (asked : Request) → goes_on 
     → ((r : Reply) → decided_reply a asked ≡ Some r → (reply ≡ r) × Untouched v u) → IndexAfterLine asked a.index b.index → Touches (MayTouch a) v u → Touches (InLine a asked) v u
     → ((e : ℕ) → u.sizes e ≡ v.sizes e) → StaysFrom (a.g.members + 1) v u → IsReady b u → b.is_stopped ≡ a.is_stopped → SameArray a b → (IsTrue v.tells → u.now.said ≡ v.now.said)
     → Says (reply_text reply) result u w → SaidInOneCall u w → IfOk result (λ next. next ≡ More) → IfErr result (λ fault. fault ≡ WriteFault) → (AsksBlock a.g asked → a.is_stopped ≡ true → ⊥)
-    → AnswersLine a b result asked v w
-line_replied a b v u w asked more reply result is done stands possible after own index touched near sizes others ready alike goes_on quiet call once ok err asks = record {
+    → CallsInLine a b asked result v w → AnswersLine a b result asked v w
+line_replied a b v u w asked more reply result is done stands possible after own index touched near sizes others ready alike goes_on quiet call once ok err asks calls = record {
   steps = reply_after a v u w asked reply result is done call ok err;
   stands = unless_failed result (λ s was. always_said u w result (reply_text reply) (StandsFor b ((step a.g).next s asked)) call (stands s was));
   stopped = alike ∙ or_false a.is_stopped ∙ ap (λ (stops : Bool). a.is_stopped || stops) (sym (not_stopping result err));
@@ -306,7 +317,7 @@ line_replied a b v u w asked more reply result is done stands possible after own
   ready = ready_as b u w call.sizes (λ has. always_said u w result (reply_text reply) has call) ready;
   goes_on = goes_on;
   cause = rose_port a v u w result done.port_faults call.cause err;
-  bad = names_port b w result err;
+  bad = names_port b asked w result err;
   asks = port_fits a asked more result err;
   replies = replied_as a b asked reply v u w result possible after done.tells quiet call ok err;
   own = λ r same. let both = own r same in says_since (reply_text r) result v u w both.1 (subst (λ (t : Reply). Says (reply_text t) result u w) both.0 call);
@@ -314,6 +325,7 @@ line_replied a b v u w asked more reply result is done stands possible after own
   changes = says_then (MayTouch a) (reply_text reply) result v u w touched call;
   touches = says_then (InLine a asked) (reply_text reply) result v u w near call;
   untouched = calls_said result ok err;
+  calls = calls;
   sizes = λ e. call.sizes e ∙ sizes e;
   others = stays_then (a.g.members + 1) v u w done.tells others (stays_said (a.g.members + 1) u w call.disks);
 }
@@ -431,10 +443,10 @@ pub line_struck : (a b : Mounted) (v u : View) (asked : Request) (denied : Denie
     → ((r : Reply) → decided_reply a asked ≡ Some r → ⊥) → IndexAfterLine asked a.index b.index
     → Touches (MayTouch a) v u → Touches (InLine a asked) v u → (a.is_stopped ≡ true → Untouched v u)
     → b.is_stopped ≡ (a.is_stopped || stops_array (Array denied)) → (IsTrue v.tells → u.now.said ≡ v.now.said)
-    → ((e : ℕ) → u.sizes e ≡ v.sizes e) → StaysFrom (a.g.members + 1) v u → IsReady b u → SameArray a b → FaultRose a (Array denied) v u → NamesBad b (Array denied) u
+    → ((e : ℕ) → u.sizes e ≡ v.sizes e) → StaysFrom (a.g.members + 1) v u → IsReady b u → SameArray a b → FaultRose a (Array denied) v u → NamesBad b asked (Array denied) u
     → FaultFits a asked (Array denied) → AfterFault a b asked denied → (denied ≡ Stopped) ↔ (AsksBlock a.g asked × (a.is_stopped ≡ true))
-    → AnswersLine a b (Err (Array denied)) asked v u
-line_struck a b v u asked denied steps own index touched near still stopped quiet sizes others ready goes risen names fits after exact = record {
+    → CallsInLine a b asked (Err (Array denied)) v u → AnswersLine a b (Err (Array denied)) asked v u
+line_struck a b v u asked denied steps own index touched near still stopped quiet sizes others ready goes risen names fits after exact calls = record {
   steps = steps;
   stands = stands_struck a b v u asked denied steps.tells risen;
   stopped = stopped;
@@ -451,6 +463,7 @@ line_struck a b v u asked denied steps own index touched near still stopped quie
   changes = says_nothing (MayTouch a) v u touched;
   touches = says_nothing (InLine a asked) v u near;
   untouched = calls_denied denied (λ same. still (exact.0 same).1);
+  calls = calls;
   sizes = sizes;
   others = others;
 }
@@ -469,12 +482,12 @@ pub write_replied : (a b : Mounted) (v u w : View) (time block : ℕ) (bytes fre
     → Touches (MayTouch a) v u → Touches (InWrite a block) v u
     → ((e : ℕ) → u.sizes e ≡ v.sizes e) → StaysFrom (a.g.members + 1) v u → IsReady b u → b.is_stopped ≡ a.is_stopped → SameArray a b
     → Says (reply_text reply) result u w → SaidInOneCall u w → IfOk result (λ next. next ≡ More) → IfErr result (λ fault. fault ≡ WriteFault) → (block < volume a.g → a.is_stopped ≡ true → ⊥)
-    → AnswersLine a b result (Write time block fresh) v w
-write_replied a b v u w time block bytes fresh same reply result is moves possible after own index touched near sizes others ready alike goes call once ok err asks =
+    → CallsInLine a b (Write time block bytes) result v w → AnswersLine a b result (Write time block fresh) v w
+write_replied a b v u w time block bytes fresh same reply result is moves possible after own index touched near sizes others ready alike goes call once ok err asks calls =
     subst (λ l. AnswersLine a b result (Write time block l) v w) same
     (line_replied a b v u w (Write time block bytes) refl reply result is (turned_done a v u (Write time block bytes) refl b goes moves)
     (turned_stands a v u (Write time block bytes) refl b moves) possible after own index touched near sizes others ready alike goes
-    (quiet_moves v u (AtAnyMoment a v (λ s. (step a.g).next s (Write time block bytes))) (StandsAfterCall a b v (λ s. (step a.g).next s (Write time block bytes))) moves) call once ok err asks)
+    (quiet_moves v u (AtAnyMoment a v (λ s. (step a.g).next s (Write time block bytes))) (StandsAfterCall a b v (λ s. (step a.g).next s (Write time block bytes))) moves) call once ok err asks calls)
 
 -- a write in which a disk failed
 pub write_struck : (a b : Mounted) (v u : View) (time block : ℕ) (bytes fresh : List ℕ) → bytes ≡ fresh → (denied : Denied)
@@ -485,12 +498,12 @@ pub write_struck : (a b : Mounted) (v u : View) (time block : ℕ) (bytes fresh 
     → ((e : ℕ) → u.sizes e ≡ v.sizes e) → StaysFrom (a.g.members + 1) v u → IsReady b u → SameArray a b → FaultRose a (Array denied) v u → ((offset : ℕ) → denied ≡ Damaged offset → ⊥)
     → AfterFault a b (Write time block bytes) denied
     → (denied ≡ Stopped) ↔ ((block < volume a.g) × (a.is_stopped ≡ true))
-    → AnswersLine a b (Err (Array denied)) (Write time block fresh) v u
-write_struck a b v u time block bytes fresh same denied moves own index touched near still stopped sizes others ready goes risen never after exact =
+    → CallsInLine a b (Write time block bytes) (Err (Array denied)) v u → AnswersLine a b (Err (Array denied)) (Write time block fresh) v u
+write_struck a b v u time block bytes fresh same denied moves own index touched near still stopped sizes others ready goes risen never after exact calls =
     subst (λ l. AnswersLine a b (Err (Array denied)) (Write time block l) v u) same
     (line_struck a b v u (Write time block bytes) denied (turned_struck a v u (Write time block bytes) refl denied risen moves) own index touched near still stopped
     (quiet_moves v u (AtAnyMoment a v (λ s. (step a.g).next s (Write time block bytes))) (AtAnyMoment a v (λ s. (step a.g).next s (Write time block bytes))) moves) sizes others ready goes risen
-    (names_none b u denied never) (no_record denied never) after exact)
+    (names_none b (Write time block bytes) u denied never) (no_record denied never) after exact calls)
 
 -- a call that changes nothing of the array but perhaps whether it is stopped
 pub same_goes : (a b : Mounted) (stopped : Bool) → b ≡ record a { is_stopped = stopped } → SameArray a b
@@ -522,27 +535,27 @@ pub same_replied : (a b : Mounted) (v u w : View) (asked : Request) → goes_on 
     → ((r : Reply) → decided_reply a asked ≡ Some r → (reply ≡ r) × Untouched v u)
     → Moves v u Same Same → ((e : ℕ) → u.sizes e ≡ v.sizes e) → (IsTrue v.tells → u.now ≡ v.now) → IsReady b u
     → Says (reply_text reply) result u w → SaidInOneCall u w → IfOk result (λ next. next ≡ More) → IfErr result (λ fault. fault ≡ WriteFault) → (AsksBlock a.g asked → a.is_stopped ≡ true → ⊥)
-    → AnswersLine a b result asked v w
-same_replied a b v u w asked more still stopped same is_same reply result is possible after own moves sizes alike ready call once ok err asks =
+    → CallsInLine a b asked result v w → AnswersLine a b result asked v w
+same_replied a b v u w asked more still stopped same is_same reply result is possible after own moves sizes alike ready call once ok err asks calls =
     line_replied a b v u w asked more reply result is (same_done a v u asked more moves still) (same_stands a v u asked more moves b stopped same still)
     possible (after (known_same a b stopped same)) own (same_index a b asked stopped same) (touches_same (MayTouch a) v u alike moves) (touches_same (InLine a asked) v u alike moves)
     sizes (stays_same (a.g.members + 1) v u alike) ready
     (ap (λ (m : Mounted). m.is_stopped) same ∙ is_same) (same_goes a b stopped same)
-    (λ told. ap (λ (c : Contents). c.said) (alike told)) call once ok err asks
+    (λ told. ap (λ (c : Contents). c.said) (alike told)) call once ok err asks calls
 
 -- a request that changes no state, in which the array failed
 pub same_failed : (a b : Mounted) (v u : View) (asked : Request) → goes_on asked ≡ true → (stopped : Bool) → b ≡ record a { is_stopped = stopped } → (denied : Denied)
     → stopped ≡ (a.is_stopped || stops_array (Array denied))
     → ((r : Reply) → decided_reply a asked ≡ Some r → ⊥)
     → Moves v u Same Same → ((e : ℕ) → u.sizes e ≡ v.sizes e) → (IsTrue v.tells → u.now ≡ v.now) → IsReady b u → FaultRose a (Array denied) v u
-    → ((offset : ℕ) → denied ≡ Damaged offset → IsTrue v.tells → HasBadRecord a.g a.index v.now.disks offset) → FaultFits a asked (Array denied) → (KnowsSame a b → AfterFault a b asked denied)
+    → ((offset : ℕ) → denied ≡ Damaged offset → IsTrue v.tells → IsBadFor a.g a.index asked v.now.disks offset) → FaultFits a asked (Array denied) → (KnowsSame a b → AfterFault a b asked denied)
     → (a.is_stopped ≡ true → Untouched v u) → (denied ≡ Stopped) ↔ (AsksBlock a.g asked × (a.is_stopped ≡ true))
-    → AnswersLine a b (Err (Array denied)) asked v u
-same_failed a b v u asked more stopped same denied stops own moves sizes alike ready risen bad fits after still exact =
+    → CallsInLine a b asked (Err (Array denied)) v u → AnswersLine a b (Err (Array denied)) asked v u
+same_failed a b v u asked more stopped same denied stops own moves sizes alike ready risen bad fits after still exact calls =
     line_struck a b v u asked denied (same_struck a v u asked more moves denied risen) own (same_index a b asked stopped same)
     (touches_same (MayTouch a) v u alike moves) (touches_same (InLine a asked) v u alike moves) still
     (ap (λ (m : Mounted). m.is_stopped) same ∙ stops) (λ told. ap (λ (c : Contents). c.said) (alike told)) sizes (stays_same (a.g.members + 1) v u alike) ready (same_goes a b stopped same) risen
-    (names_same a b v u stopped same moves.tells alike denied bad) fits (after (known_same a b stopped same)) exact
+    (names_same a b asked v u stopped same moves.tells alike denied bad) fits (after (known_same a b stopped same)) exact calls
 
 -- The line ends the session.
 pub line_quits : (a : Mounted) (v : View) → IsReady a v → AnswersLine a a (Ok Quit) Q v v
@@ -563,6 +576,7 @@ line_quits a v ready = record {
   changes = changes_none (MayTouch a) v;
   touches = changes_none InNothing v;
   untouched = λ is. untouched_none v;
+  calls = not_called v;
   sizes = λ e. refl;
   others = stays_none (a.g.members + 1) v;
 }
@@ -603,7 +617,8 @@ pub bad_replied : (a : Mounted) (v w : View) (result : Result Next SessionFault)
     → Says (reply_text (No NoLine)) result v w → SaidInOneCall v w → IfOk result (λ next. next ≡ More) → IfErr result (λ fault. fault ≡ WriteFault)
     → AnswersLine a a result Bad v w
 bad_replied a v w result ready call once ok err = same_replied a a v v w Bad refl (λ s. refl) a.is_stopped refl refl (No NoLine) result
-    (λ told s stands. refl) (inl refl) (λ same. same) (λ r is. (cc is, untouched_none v)) (none_moves v) (λ e. refl) (λ told. refl) ready call once ok err (λ asks stopped. asks)
+    (λ told s stands. refl) (inl refl) (λ same. same) (λ r is. (cc is, untouched_none v)) (unmoved v) (λ e. refl) (λ told. refl) ready call once ok err (λ asks stopped. asks)
+    (called_once result v w call.goes)
 
 same_reply : {x y : Reply} → Some x ≡ Some y → x ≡ y
 same_reply is = cc is
@@ -616,8 +631,8 @@ pub info_replied : (a : Mounted) (v w : View) (first last base_time last_time : 
     → AnswersLine a a result Info v w
 info_replied a v w first last base_time last_time result ready span head call once ok err =
     same_replied a a v v w Info refl (λ s. refl) a.is_stopped refl refl (Span first last base_time last_time) result
-    (λ told s stands. span s v.now.disks (stands v.now (read_is_left v told))) (inl (ap Some (sym head))) (λ same. same) (λ r is. (head ∙ same_reply is, untouched_none v)) (none_moves v) (λ e. refl)
-    (λ told. refl) ready call once ok err (λ asks stopped. asks)
+    (λ told s stands. span s v.now.disks (stands v.now (read_is_left v told))) (inl (ap Some (sym head))) (λ same. same) (λ r is. (head ∙ same_reply is, untouched_none v)) (unmoved v) (λ e. refl)
+    (λ told. refl) ready call once ok err (λ asks stopped. asks) (called_once result v w call.goes)
 
 -- What ended the session rose, as the array's call says.
 pub risen_of : (a : Mounted) (v u : View) {T : Type 0} (call : Result T Denied)
@@ -678,7 +693,7 @@ denied_as call denied is exact = (λ same. exact.0 (is ∙ ap Err same), λ p. c
 pub one_say : {T E : Type 0} (piece : List ℕ) (result : Result T E) (u w : View) → IsLawful u → Says piece result u w → SaidInOneCall u w
 one_say piece result u w lawful call told by_one = record {
   before = u.moment;
-  last_call = call.goes.by_one told (subst IsTrue call.goes.way by_one);
+  last_call = call.goes.by_one told (subst IsTrue call.goes.same_by_one by_one);
   entry = u.now;
   left = call.time.keeps u.moment u.now (omega arith) (lawful.counts_now u.moment told (omega arith));
   said = refl;

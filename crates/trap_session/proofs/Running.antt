@@ -13,7 +13,7 @@ use Rattle.trap_model.specs.declared.request.Request.{Request}
 use Rattle.trap_script.specs.Lines.{lines, line_feeds, request_of, goes_on, HasNoFeed}
 use Rattle.trap_script.specs.Walk.{state_after}
 use Rattle.trap_script.proofs.WalkLemmas.{state_after-next}
-use Rattle.trap_script.proofs.InputLemmas.{true_or_false}
+use Rattle.std.proofs.lemmas.Bool.{cases_Bool}
 use Rattle.trap_script.proofs.GivenLemmas.{below_end}
 use Rattle.trap_array.specs.Areas.{MayTouch}
 use Rattle.trap_array.specs.Beside.{StaysFrom}
@@ -178,7 +178,7 @@ module _ (a : Mounted) (v : View) (from : Stream) where
                 ))
                 (λ (quit : goes_on (request_of a.g.block line) ≡ false).
                 (line_feeds passed, within, quit_stays a.g (turn s) (request_of a.g.block line) quit ∙ sym same))
-                (true_or_false (goes_on (request_of a.g.block line)))
+                (cases_Bool (goes_on (request_of a.g.block line)))
 
         stands_unless : UnlessFailed next (IsTrue v.tells → (s : State) → Always v (StandsFor a s) → StandsAfter a c s u from)
         stands_unless = unless_also next stands_after asked_first.stands

@@ -12,7 +12,7 @@ use Rattle.trap_script.proofs.WalkLemmas.{state_after-next}
 use Rattle.trap_script.proofs.InputLemmas.{lines-quit, lines-last_quit, line_feeds-front, line_feeds-line, passed_from, next_passed}
 use Rattle.trap_script.proofs.GivenLemmas.{AnswersByLines}
 use Rattle.trap_lines.specs.declared.reader.LineReader.{LineReader}
-use Rattle.trap_lines.specs.Reader.{pending, to_come, taken, Passes, IsEnd}
+use Rattle.trap_lines.specs.Reader.{unread, to_come, taken, Passes, IsEnd}
 use Rattle.trap_lines.proofs.Passing.{passes_trans}
 use Rattle.trap_session.specs.declared.outcome.Next.{Next}
 use Rattle.trap_session.specs.declared.outcome.Next.TheVariants.{More, Quit}
@@ -25,7 +25,7 @@ use Rattle.trap_session.proofs.Arrays.{comes_also}
 use Rattle.trap_session.proofs.Walking.{Walked, next_line, next_last, walk_on, stops_done, stops_last, stops_torn, stops_at_port, stops_part, last_here}
 
 -- What the reader passed over is a front of the input.
-module _ (r0 r : LineReader) (s0 s : Stream) (none0 : pending r0 ≡ []) (input : List ℕ) (left : s0.left ≡ Some input)
+module _ (r0 r : LineReader) (s0 s : Stream) (none0 : unread r0 ≡ []) (input : List ℕ) (left : s0.left ≡ Some input)
     (passed : List ℕ) (before : Passes passed r0 r s0 s) where
   known_start : to_come r0 s0 ≡ Some input
   known_start = ap (λ l. prepend_known l s0.left) none0 ∙ prepend_known-nil s0.left ∙ left
@@ -48,14 +48,14 @@ module _ (r0 r : LineReader) (s0 s : Stream) (none0 : pending r0 ≡ []) (input 
       → drop (length passed) input ≡ line
   last_line r' s' line next end = last_here input passed line (to_come r s) (to_come r' s') consumed next.bytes end
 
-all_passed : (r : LineReader) → pending r ≡ [] → r.end ≤ length r.chunk.items → taken r ≡ r.used
+all_passed : (r : LineReader) → unread r ≡ [] → r.end ≤ length r.chunk.items → taken r ≡ r.used
 all_passed r none inside =
     omega (arith, inside, ap (λ (l : List ℕ). length l) none, length-take (r.end - r.at) (drop r.at r.chunk.items), length-drop r.at r.chunk.items)
 
 -- No line was found: as many lines were taken whole as were passed over.
 pub feeds_taken : (input passed front : List ℕ) (r0 r r' : LineReader) (s0 s s' : Stream)
-    → pending r0 ≡ [] → taken r0 ≡ 0 → s0.left ≡ Some input
-    → Passes passed r0 r s0 s → Passes front r r' s s' → HasNoFeed front → pending r' ≡ [] → r'.end ≤ length r'.chunk.items
+    → unread r0 ≡ [] → taken r0 ≡ 0 → s0.left ≡ Some input
+    → Passes passed r0 r s0 s → Passes front r r' s s' → HasNoFeed front → unread r' ≡ [] → r'.end ≤ length r'.chunk.items
     → line_feeds (bytes_taken input s0 s') ≡ line_feeds passed
 feeds_taken input passed front r0 r r' s0 s s' none0 untaken left before next none none' inside =
     let both = passes_trans before next in
@@ -72,8 +72,8 @@ feeds_taken input passed front r0 r r' s0 s s' none0 untaken left before next no
 -- those lines were answered
 pub stops_reading : {S : Type 0} (store : Store S) (st : S) (input passed front : List ℕ) (old now : Contents)
     (r0 r r' : LineReader) (s0 s s' : Stream) → Walked store st input passed old now
-    → pending r0 ≡ [] → taken r0 ≡ 0 → s0.left ≡ Some input
-    → Passes passed r0 r s0 s → Passes front r r' s s' → HasNoFeed front → pending r' ≡ [] → r'.end ≤ length r'.chunk.items
+    → unread r0 ≡ [] → taken r0 ≡ 0 → s0.left ≡ Some input
+    → Passes passed r0 r s0 s → Passes front r r' s s' → HasNoFeed front → unread r' ≡ [] → r'.end ≤ length r'.chunk.items
     → StopsReading store st input old now s0 s'
 stops_reading store st input passed front old now r0 r r' s0 s s' walked none0 untaken left before next none none' inside =
     let feeds = feeds_taken input passed front r0 r r' s0 s s' none0 untaken left before next none none' inside in
@@ -161,19 +161,19 @@ pub one_more_line : (passed line : List ℕ) → AreWholeLines (passed ++ (line 
 one_more_line passed line = inr (passed ++ line, sym (append_assoc passed line (10 ∷ [])))
 
 -- a reader that had taken nothing took these bytes and those that are pending
-module _ (r0 r' : LineReader) (s0 s' : Stream) (passed : List ℕ) (none0 : pending r0 ≡ []) (untaken : taken r0 ≡ 0)
+module _ (r0 r' : LineReader) (s0 s' : Stream) (passed : List ℕ) (none0 : unread r0 ≡ []) (untaken : taken r0 ≡ 0)
     (inside : r'.end ≤ length r'.chunk.items) (passes : Passes passed r0 r' s0 s') where
-  taken_bytes : Consumes s0.left s'.left (passed ++ pending r')
+  taken_bytes : Consumes s0.left s'.left (passed ++ unread r')
   taken_bytes =
       let start : Consumes s0.left (to_come r' s') passed =
       subst (λ o. Consumes o (to_come r' s') passed) (ap (λ l. prepend_known l s0.left) none0 ∙ prepend_known-nil s0.left) passes.bytes in
-      Consumes-trans s0.left (to_come r' s') s'.left passed (pending r') start (consumes_pending s'.left (pending r'))
+      Consumes-trans s0.left (to_come r' s') s'.left passed (unread r') start (consumes_pending s'.left (unread r'))
     where
       consumes_pending : (left : Option (List ℕ)) (bytes : List ℕ) → Consumes (prepend_known bytes left) left bytes
       consumes_pending None bytes = tt
       consumes_pending (Some rest) bytes = refl
 
-  bytes_long : length (passed ++ pending r') ≡ taken r'
+  bytes_long : length (passed ++ unread r') ≡ taken r'
   bytes_long =
       let used = passes.used in
       omega (
@@ -181,36 +181,36 @@ module _ (r0 r' : LineReader) (s0 s' : Stream) (passed : List ℕ) (none0 : pend
         used,
         untaken,
         inside,
-        length-append passed (pending r'),
+        length-append passed (unread r'),
         length-take (r'.end - r'.at) (drop r'.at r'.chunk.items),
         length-drop r'.at r'.chunk.items,
       )
 
-  bytes_given : s'.given ≡ s0.given + length (passed ++ pending r')
+  bytes_given : s'.given ≡ s0.given + length (passed ++ unread r')
   bytes_given = let given = passes.given in let long = bytes_long in omega (arith, given, long, untaken)
 
   pub took_some : Took s0 s'
   took_some = record {
-    bytes = passed ++ pending r';
+    bytes = passed ++ unread r';
     taken = taken_bytes;
     given = bytes_given;
     most = let long = bytes_long in let most = r'.at_most in omega (arith, long, most);
   }
 
 -- a `Q` was taken
-pub took_quit : (size : ℕ) (r0 r r' : LineReader) (s0 s s' : Stream) (passed line : List ℕ) → pending r0 ≡ [] → taken r0 ≡ 0
+pub took_quit : (size : ℕ) (r0 r r' : LineReader) (s0 s s' : Stream) (passed line : List ℕ) → unread r0 ≡ [] → taken r0 ≡ 0
     → r'.end ≤ length r'.chunk.items → AreWholeLines passed
     → Passes passed r0 r s0 s → Passes (line ++ 10 ∷ []) r r' s s' → HasNoFeed line → goes_on (request_of size line) ≡ false
     → TookQuit size s0 s'
 took_quit size r0 r r' s0 s s' passed line none0 untaken inside whole before next none quit = record {
-  bytes = (passed ++ (line ++ 10 ∷ [])) ++ pending r';
+  bytes = (passed ++ (line ++ 10 ∷ [])) ++ unread r';
   taken = taken_bytes r0 r' s0 s' (passed ++ (line ++ 10 ∷ [])) none0 untaken inside (passes_trans before next);
   given = bytes_given r0 r' s0 s' (passed ++ (line ++ 10 ∷ [])) none0 untaken inside (passes_trans before next);
   has_quit = inl (record {
     before = passed;
     line = line;
-    rest = pending r';
-    parts = append_assoc passed (line ++ 10 ∷ []) (pending r') ∙ ap (λ l. passed ++ l) (append_assoc line (10 ∷ []) (pending r'));
+    rest = unread r';
+    parts = append_assoc passed (line ++ 10 ∷ []) (unread r') ∙ ap (λ l. passed ++ l) (append_assoc line (10 ∷ []) (unread r'));
     whole = whole;
     no_feed = none;
     quit = quit;
@@ -218,19 +218,19 @@ took_quit size r0 r r' s0 s s' passed line none0 untaken inside whole before nex
 }
 
 -- and one without a line feed, at the input's end
-pub took_last_quit : (size : ℕ) (r0 r r' : LineReader) (s0 s s' : Stream) (passed line : List ℕ) → pending r0 ≡ [] → taken r0 ≡ 0
+pub took_last_quit : (size : ℕ) (r0 r r' : LineReader) (s0 s s' : Stream) (passed line : List ℕ) → unread r0 ≡ [] → taken r0 ≡ 0
     → r'.end ≤ length r'.chunk.items → AreWholeLines passed
     → Passes passed r0 r s0 s → Passes line r r' s s' → IsEnd r' s' → HasNoFeed line → goes_on (request_of size line) ≡ false
     → TookQuit size s0 s'
 took_last_quit size r0 r r' s0 s s' passed line none0 untaken inside whole before next end none quit = record {
-  bytes = (passed ++ line) ++ pending r';
+  bytes = (passed ++ line) ++ unread r';
   taken = taken_bytes r0 r' s0 s' (passed ++ line) none0 untaken inside (passes_trans before next);
   given = bytes_given r0 r' s0 s' (passed ++ line) none0 untaken inside (passes_trans before next);
   has_quit = inr (record {
     before = passed;
     line = line;
-    rest = pending r';
-    parts = append_assoc passed line (pending r');
+    rest = unread r';
+    parts = append_assoc passed line (unread r');
     whole = whole;
     no_feed = none;
     quit = quit;
@@ -241,7 +241,7 @@ took_last_quit size r0 r r' s0 s s' passed line none0 untaken inside whole befor
 
 -- nothing is left where nothing is to come
 pub none_left : (r : LineReader) (s : Stream) → IsAtEnd (to_come r s) → IsAtEnd s.left
-none_left r s end = behind s.left (pending r) end
+none_left r s end = behind s.left (unread r) end
   where
     behind : (left : Option (List ℕ)) (bytes : List ℕ) → IsAtEnd (prepend_known bytes left) → IsAtEnd left
     behind None bytes end = tt

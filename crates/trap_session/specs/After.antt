@@ -1,9 +1,11 @@
 -- What an array knows after a line, by its reply or its fault.
 use Rattle.std.specs.Prelude.{◌≡◌, ◌⊎◌, ℕ, [], Err}
 use Rattle.trap_model.specs.declared.request.Reply.{Reply}
-use Rattle.trap_model.specs.declared.request.Reply.TheVariants.{Kept, Is, At as Was, Span, No, Silent}
+use Rattle.trap_model.specs.declared.request.Reply.TheVariants.{Kept, Is, At as Was, Span, No}
+use Rattle.trap_model.specs.declared.request.Reply.TheVariants.{Silent}
 use Rattle.trap_model.specs.declared.request.Request.{Request}
-use Rattle.trap_model.specs.declared.request.Request.TheVariants.{Write, Read, At, By, Info, Keep, Bad, Quit as Q}
+use Rattle.trap_model.specs.declared.request.Request.TheVariants.{Write, Read, At, By, Info, Keep}
+use Rattle.trap_model.specs.declared.request.Request.TheVariants.{Bad, Quit as Q}
 use Rattle.trap_array.specs.Calls.{Mounted}
 use Rattle.trap_array.specs.Growing.{HasOneMore, HasRecordOf, HeadAfter, IndexAfter}
 use Rattle.trap_array.specs.NextHead.{drained_to}

@@ -1,6 +1,7 @@
 -- What a line does to a mounted array: the state that it stands for is the one after the request,
 -- and the reply is said.
-use Rattle.std.specs.Prelude.{◌≡◌, ◌↔◌, ℕ, ◌+◌, ◌-◌, ◌^◌, max, min, true, false, Bool, ◌||◌, ◌++◌, Some, IsTrue, Result, Ok, Err, IfErr}
+use Rattle.std.specs.Prelude.{◌≡◌, ◌↔◌, ℕ, ◌+◌, ◌-◌, ◌^◌, max, min, true, false, Bool, ◌||◌, ◌++◌}
+use Rattle.std.specs.Prelude.{Some, IsTrue, Result, Ok, Err, IfErr}
 use Rattle.trap_bank.specs.Disks.{Contents, View}
 use Rattle.trap_bank.specs.Calls.{Says, SaysPart}
 use Rattle.trap_bank.specs.Steps.{Steps, Always}
@@ -13,8 +14,10 @@ use Rattle.trap_array.specs.Areas.{MayTouch}
 use Rattle.trap_array.specs.Beside.{StaysFrom}
 use Rattle.trap_array.specs.Calls.{Mounted, IsReady, SameArray, StandsFor}
 use Rattle.trap_array.specs.Untouched.{Untouched}
-use Rattle.trap_array.specs.declared.fault.Denied.TheVariants.{Refused, LogFault, MemberFault, Damaged, Stopped}
+use Rattle.trap_array.specs.declared.fault.Denied.TheVariants.{Refused, LogFault, MemberFault}
+use Rattle.trap_array.specs.declared.fault.Denied.TheVariants.{Damaged, Stopped}
 use Rattle.trap_session.specs.After.{AfterFault}
+use Rattle.trap_session.specs.Calling.{CallsInLine}
 use Rattle.trap_session.specs.Changing.{ChangesOnly, InLine, makes_no_call}
 use Rattle.trap_session.specs.Deciding.{decided_reply, RepliesTo}
 use Rattle.trap_session.specs.Fitting.{AsksBlock, FaultFits}
@@ -23,7 +26,8 @@ use Rattle.trap_session.specs.Store.{array_store, Served, Answering, FaultRose, 
 use Rattle.trap_session.specs.declared.outcome.Next.{Next}
 use Rattle.trap_session.specs.declared.outcome.Next.TheVariants.{More, Quit}
 use Rattle.trap_session.specs.declared.outcome.SessionFault.{SessionFault}
-use Rattle.trap_session.specs.declared.outcome.SessionFault.TheVariants.{Array, ReadFault, WriteFault, TooLong}
+use Rattle.trap_session.specs.declared.outcome.SessionFault.TheVariants.{Array, ReadFault}
+use Rattle.trap_session.specs.declared.outcome.SessionFault.TheVariants.{WriteFault, TooLong}
 
 -- At any moment, whatever state the array stood for on entry: this is what a crash leaves while the
 -- line is answered.
@@ -114,8 +118,8 @@ Replies a b asked (Err TooLong) old new = ⊥
 -- committed, in one call; after the fault of a disk the array is stopped, and the disks may hold
 -- either state. A stopped array answers all but requests of its blocks. What the array's own
 -- numbers decide is replied whatever the disks hold, and whatever they hold, no byte changes but
--- those that a write of the line's block may touch, at the end and at any moment. A `Q`, and a line
--- that a stopped array denies, make no call of the bank.
+-- those that a write of the line's block may touch, at the end and at any moment. The bank is
+-- called as often as the request needs; for a `Q`, and a line that a stopped array denies, never.
 pub record AnswersLine (a b : Mounted) (result : Result Next SessionFault) (asked : Request)
     (old new : View) : Type 0 where
   pub steps : Steps old new (Answers a old asked) (HasAnswered a old result asked)
@@ -126,7 +130,7 @@ pub record AnswersLine (a b : Mounted) (result : Result Next SessionFault) (aske
   pub ready : IsReady b new
   pub goes_on : SameArray a b
   pub cause : IfErr result (λ fault. FaultRose a fault old new)
-  pub bad : IfErr result (λ fault. NamesBad b fault new)
+  pub bad : IfErr result (λ fault. NamesBad b asked fault new)
   pub asks : IfErr result (FaultFits a asked)
   pub replies : Replies a b asked result old new
   pub own : (reply : Reply) → decided_reply a asked ≡ Some reply
@@ -135,5 +139,6 @@ pub record AnswersLine (a b : Mounted) (result : Result Next SessionFault) (aske
   pub changes : ChangesOnly (MayTouch a) old new
   pub touches : ChangesOnly (InLine a asked) old new
   pub untouched : makes_no_call result ≡ true → Untouched old new
+  pub calls : CallsInLine a b asked result old new
   pub sizes : (e : ℕ) → new.sizes e ≡ old.sizes e
   pub others : StaysFrom (a.g.members + 1) old new

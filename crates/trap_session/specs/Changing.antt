@@ -3,14 +3,17 @@ use Rattle.std.specs.Prelude.{IsTrue, Bool, true, false, ℕ, Result, Ok, Err}
 use Rattle.trap_bank.specs.Disks.{Area, Contents, View, Differs}
 use Rattle.trap_bank.specs.Steps.{Steps}
 use Rattle.trap_model.specs.declared.request.Request.{Request}
-use Rattle.trap_model.specs.declared.request.Request.TheVariants.{Write, Read, At, By, Info, Keep, Bad, Quit as Q}
+use Rattle.trap_model.specs.declared.request.Request.TheVariants.{Write, Read, At, By, Info, Keep}
+use Rattle.trap_model.specs.declared.request.Request.TheVariants.{Bad, Quit as Q}
 use Rattle.trap_array.specs.Areas.{InWrite}
 use Rattle.trap_array.specs.Calls.{Mounted}
-use Rattle.trap_array.specs.declared.fault.Denied.TheVariants.{Refused, LogFault, MemberFault, Damaged, Stopped}
+use Rattle.trap_array.specs.declared.fault.Denied.TheVariants.{Refused, LogFault, MemberFault}
+use Rattle.trap_array.specs.declared.fault.Denied.TheVariants.{Damaged, Stopped}
 use Rattle.trap_session.specs.declared.outcome.Next.{Next}
 use Rattle.trap_session.specs.declared.outcome.Next.TheVariants.{More, Quit}
 use Rattle.trap_session.specs.declared.outcome.SessionFault.{SessionFault}
-use Rattle.trap_session.specs.declared.outcome.SessionFault.TheVariants.{Array, ReadFault, WriteFault, TooLong}
+use Rattle.trap_session.specs.declared.outcome.SessionFault.TheVariants.{Array, ReadFault}
+use Rattle.trap_session.specs.declared.outcome.SessionFault.TheVariants.{WriteFault, TooLong}
 
 -- the disks of the contents differ at most in the area, whatever was said
 abbrev pub DiffersIn : Area → Contents → Contents → Type 0

@@ -1,5 +1,6 @@
 -- Which replies there may be, whatever the disks hold: what the array's own numbers decide of them.
-use Rattle.std.specs.Prelude.{◌≡◌, ◌⊎◌, ℕ, ◌+◌, nat_le, List, length, Option, Some, None, if◌then◌else◌}
+use Rattle.std.specs.Prelude.{◌≡◌, ◌⊎◌, ℕ, ◌+◌, nat_le, List, length, Option, Some, None}
+use Rattle.std.specs.Prelude.{if◌then◌else◌}
 use Rattle.trap_model.specs.Image.{volume}
 use Rattle.trap_model.specs.Limits.{greatest_record}
 use Rattle.trap_model.specs.declared.request.Refusal.{Refusal}
@@ -7,7 +8,8 @@ use Rattle.trap_model.specs.declared.request.Refusal.TheVariants.{NoLine, NoBloc
 use Rattle.trap_model.specs.declared.request.Reply.{Reply}
 use Rattle.trap_model.specs.declared.request.Reply.TheVariants.{Kept, Is, At as Was, Span, No}
 use Rattle.trap_model.specs.declared.request.Request.{Request}
-use Rattle.trap_model.specs.declared.request.Request.TheVariants.{Write, Read, At, By, Info, Keep, Bad, Quit}
+use Rattle.trap_model.specs.declared.request.Request.TheVariants.{Write, Read, At, By, Info, Keep}
+use Rattle.trap_model.specs.declared.request.Request.TheVariants.{Bad, Quit}
 use Rattle.trap_script.specs.Replies.{reply_text}
 use Rattle.trap_array.specs.Calls.{Mounted}
 use Rattle.trap_array.specs.Instants.{number_refused, time_refused}

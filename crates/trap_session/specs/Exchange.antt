@@ -12,7 +12,8 @@ use Rattle.trap_session.specs.declared.outcome.Ended.{Ended}
 use Rattle.trap_session.specs.declared.outcome.Ended.TheVariants as ended
 use Rattle.trap_session.specs.declared.outcome.Next.TheVariants.{More, Quit}
 use Rattle.trap_session.specs.declared.outcome.SessionFault.{SessionFault}
-use Rattle.trap_session.specs.declared.outcome.SessionFault.TheVariants.{Array, ReadFault, WriteFault, TooLong}
+use Rattle.trap_session.specs.declared.outcome.SessionFault.TheVariants.{Array, ReadFault}
+use Rattle.trap_session.specs.declared.outcome.SessionFault.TheVariants.{WriteFault, TooLong}
 
 -- A session over an array and a bank answers these requests, one line after another, and ends so.
 -- No call of the bank comes between two lines, nor before the first or after the last.

@@ -1,6 +1,7 @@
 -- The forms of a session's lines.
 use Rattle.trap_script.specs.declared.lines.Line.{Line}
-use Rattle.trap_script.specs.declared.lines.Line.TheVariants.{Write, Read, At, By, Info, Keep, Quit, Bad}
+use Rattle.trap_script.specs.declared.lines.Line.TheVariants.{Write, Read, At, By, Info, Keep, Quit}
+use Rattle.trap_script.specs.declared.lines.Line.TheVariants.{Bad}
 
 -- a session answers the line: every one but `K`
 abbrev pub IsAsked : Line → Type 0

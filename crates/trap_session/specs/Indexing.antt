@@ -2,7 +2,8 @@
 use Rattle.std.specs.Prelude.{◌≡◌, ◌⊎◌}
 use Rattle.trap_index.specs.Indexed.{Indexed}
 use Rattle.trap_model.specs.declared.request.Request.{Request}
-use Rattle.trap_model.specs.declared.request.Request.TheVariants.{Write, Read, At, By, Info, Keep, Bad, Quit as Q}
+use Rattle.trap_model.specs.declared.request.Request.TheVariants.{Write, Read, At, By, Info, Keep}
+use Rattle.trap_model.specs.declared.request.Request.TheVariants.{Bad, Quit as Q}
 use Rattle.trap_array.specs.Growing.{HasRecordMore}
 
 -- the index after a line: a write may add one record

@@ -5,6 +5,7 @@ pub mod Denying
 pub mod Changing
 pub mod After
 pub mod Deciding
+pub mod Calling
 pub mod Indexing
 pub mod Answers
 pub mod Serving

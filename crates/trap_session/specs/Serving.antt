@@ -1,5 +1,6 @@
 -- How a session stops, and what a crash leaves while it goes on.
-use Rattle.std.specs.Prelude.{◌≡◌, ◌⊎◌, ℕ, ◌+◌, ◌-◌, ◌^◌, ◌≤◌, List, [], ◌∷◌, ◌++◌, length, take, drop, All, Some, true, false, IsTrue, Result, Ok, Err}
+use Rattle.std.specs.Prelude.{◌≡◌, ◌⊎◌, ℕ, ◌+◌, ◌-◌, ◌^◌, ◌≤◌, List, [], ◌∷◌, ◌++◌, length, take}
+use Rattle.std.specs.Prelude.{drop, All, Some, true, false, IsTrue, Result, Ok, Err}
 use Rattle.std.specs.Io.KnownBytes.{Consumes, IsAtEnd, prepend_known}
 use Rattle.trap_bank.specs.Faults.{Rose}
 use Rattle.trap_bank.specs.Disks.{Contents, View}
@@ -17,7 +18,8 @@ use Rattle.trap_session.specs.declared.outcome.Next.TheVariants.{More, Quit}
 use Rattle.trap_session.specs.declared.outcome.Ended.{Ended}
 use Rattle.trap_session.specs.declared.outcome.Ended.TheVariants as ended
 use Rattle.trap_session.specs.declared.outcome.SessionFault.{SessionFault}
-use Rattle.trap_session.specs.declared.outcome.SessionFault.TheVariants.{Array, ReadFault, WriteFault, TooLong}
+use Rattle.trap_session.specs.declared.outcome.SessionFault.TheVariants.{Array, ReadFault}
+use Rattle.trap_session.specs.declared.outcome.SessionFault.TheVariants.{WriteFault, TooLong}
 
 -- the bytes that were taken from the input
 abbrev pub bytes_taken : List ℕ → Stream → Stream → List ℕ
@@ -90,8 +92,7 @@ pub record EndsInQuit (size : ℕ) (bytes : List ℕ) (to : Stream) : Type 0 whe
   pub none_left : IsAtEnd (prepend_known rest to.left)
   pub ended : to.ended ≡ true
 
--- from the source came bytes with a `Q` among their lines: a whole line, or the last one, which the
--- input's end ends
+-- a `Q` is among the lines of the bytes taken: a whole line, or the last one, at the input's end
 pub record TookQuit (size : ℕ) (from to : Stream) : Type 0 where
   pub bytes : List ℕ
   pub taken : Consumes from.left to.left bytes

@@ -5,19 +5,25 @@ use Rattle.trap_bank.specs.Disks.{Contents, Disks, View}
 use Rattle.trap_bank.specs.Calls.{SaysPart}
 use Rattle.trap_bank.specs.Steps.{Always}
 use Rattle.trap_model.specs.Machine.{Machine}
+use Rattle.trap_model.specs.declared.numbers.Geometry.{Geometry}
 use Rattle.trap_model.specs.declared.request.Request.{Request}
+use Rattle.trap_model.specs.declared.request.Request.TheVariants.{Write, Read, At, By, Info, Keep}
+use Rattle.trap_model.specs.declared.request.Request.TheVariants.{Bad, Quit as Q}
 use Rattle.trap_script.specs.Lines.{goes_on}
 use Rattle.trap_script.specs.Replies.{reply_text}
 use Rattle.trap_model.specs.ArrayStep.{step}
 use Rattle.trap_model.specs.declared.history.State.{State}
+use Rattle.trap_index.specs.Indexed.{Indexed}
 use Rattle.trap_array.specs.Calls.{Mounted, HoldsLike, MemberFails, StandsFor}
-use Rattle.trap_array.specs.Instants.{HasBadRecord}
+use Rattle.trap_array.specs.Instants.{HasBadRecord, HasBadRecordBy}
 use Rattle.trap_array.specs.declared.fault.Denied.{Denied}
-use Rattle.trap_array.specs.declared.fault.Denied.TheVariants.{Refused, LogFault, MemberFault, Damaged, Stopped}
+use Rattle.trap_array.specs.declared.fault.Denied.TheVariants.{Refused, LogFault, MemberFault}
+use Rattle.trap_array.specs.declared.fault.Denied.TheVariants.{Damaged, Stopped}
 use Rattle.trap_session.specs.declared.outcome.Next.{Next}
 use Rattle.trap_session.specs.declared.outcome.Next.TheVariants.{More, Quit}
 use Rattle.trap_session.specs.declared.outcome.SessionFault.{SessionFault}
-use Rattle.trap_session.specs.declared.outcome.SessionFault.TheVariants.{Array, ReadFault, WriteFault, TooLong}
+use Rattle.trap_session.specs.declared.outcome.SessionFault.TheVariants.{Array, ReadFault}
+use Rattle.trap_session.specs.declared.outcome.SessionFault.TheVariants.{WriteFault, TooLong}
 
 -- a machine whose states stand on disks
 pub record Store (S : Type 0) : Type 1 where
@@ -115,14 +121,30 @@ FaultRose a WriteFault old new = Rose old.port_faults new.port_faults
 FaultRose a ReadFault old new = ⊥
 FaultRose a TooLong old new = ⊥
 
--- A record that was read again and is damaged: none with the header that the array knows stands
--- where it should.
-abbrev pub NamesBad : Mounted → SessionFault → View → Type 0
-NamesBad a (Array (Refused why)) v = Unit {0}
-NamesBad a (Array LogFault) v = Unit {0}
-NamesBad a (Array (MemberFault first second)) v = Unit {0}
-NamesBad a (Array (Damaged offset)) v = IsTrue v.tells → HasBadRecord a.g a.index v.now.disks offset
-NamesBad a (Array Stopped) v = Unit {0}
-NamesBad a ReadFault v = Unit {0}
-NamesBad a WriteFault v = Unit {0}
-NamesBad a TooLong v = Unit {0}
+-- A record that the request reads again is damaged: that of a later write of its block than it asks
+-- for. No other request reads a record again.
+abbrev pub IsBadFor : Geometry → Indexed → Request → Disks → ℕ → Type 0
+IsBadFor g i (Write time block bytes) disks offset = ⊥
+IsBadFor g i (Read block) disks offset = ⊥
+IsBadFor g i (At seq block) disks offset = HasBadRecord g i block seq disks offset
+IsBadFor g i (By time block) disks offset = HasBadRecordBy g i block time disks offset
+IsBadFor g i (Keep seq) disks offset = ⊥
+IsBadFor g i Info disks offset = ⊥
+IsBadFor g i Q disks offset = ⊥
+IsBadFor g i Bad disks offset = ⊥
+
+-- damage is of such a record: none with the header that the array knows is where it should be
+abbrev pub NamesBad : Mounted → Request → SessionFault → View → Type 0
+NamesBad a asked (Array (Refused why)) v = Unit {0}
+NamesBad a asked (Array LogFault) v = Unit {0}
+NamesBad a asked (Array (MemberFault first second)) v = Unit {0}
+NamesBad a asked (Array (Damaged offset)) v =
+    IsTrue v.tells → IsBadFor a.g a.index asked v.now.disks offset
+NamesBad a asked (Array Stopped) v = Unit {0}
+NamesBad a asked ReadFault v = Unit {0}
+NamesBad a asked WriteFault v = Unit {0}
+NamesBad a asked TooLong v = Unit {0}
+
+-- the same, of some line of a session
+abbrev pub NamesBadLine : Mounted → SessionFault → View → Type 0
+NamesBadLine a fault v = (asked : Request) × NamesBad a asked fault v

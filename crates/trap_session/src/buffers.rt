@@ -1,8 +1,8 @@
 //! The buffers of a session, and the answer to one line.
 
-ghost use Rattle.std.specs.Prelude.{◌≡◌, ◌+◌, ◌*◌, ◌↔◌, vec_len, false, IfOk, List, ℕ};
+ghost use Rattle.std.specs.Prelude.{◌≡◌, ◌+◌, ◌*◌, ◌≤◌, ◌↔◌, vec_len, false, IfOk, List, ℕ};
 ghost use Rattle.trap_model.specs.declared.request.Request.TheVariants as request;
-ghost use Rattle.trap_script.specs.Lines.{request_of, request_with, goes_on};
+ghost use Rattle.trap_script.specs.Lines.{longest_line, request_of, request_with, goes_on};
 ghost use Rattle.trap_lines.specs.Reader.{room, IsLine};
 ghost use Rattle.trap_array.specs.Calls.{IsReady};
 ghost use Rattle.trap_session.specs.Answers.{AnswersLine};
@@ -15,7 +15,7 @@ use trap_array::Array;
 use trap_bank::Bank;
 use trap_lines::LineReader;
 use trap_model::{Geometry, Refusal};
-use trap_script::{Answer, Line, Span4, read_line};
+use trap_script::{Answer, Line, Span4, longest_line, read_line};
 
 /// Room for a block and for a reply, over an array of these numbers.
 #[derive(Drop)]
@@ -209,7 +209,7 @@ impl Buffers {
         self.answer(array, bank, line)
     }
 
-    // Answers the line found last, of `len` bytes. One that is longer than any line has no form.
+    // Answers the line found last, of `len` bytes.
     pub fn answer_found<B: Bank>(
         &mut self,
         array: &mut Array,
@@ -217,7 +217,7 @@ impl Buffers {
         reader: &LineReader,
         len: usize,
     ) -> Result<Next, SessionFault>
-        requires room { room reader.now ≡ 44 + 2 * self.old.g.block }
+        requires room { room reader.now ≡ longest_line self.old.g.block + 1 }
         requires geometry { array.old.g ≡ self.old.g }
         requires ready { IsReady array.old (B.view bank.old) }
         ensures answers { (line : List ℕ) → IsLine line len reader.now
@@ -227,9 +227,16 @@ impl Buffers {
             → (result ≡ Ok Next.Quit) ↔ (goes_on (request_of array.old.g.block line) ≡ false) }
         ensures same { self.new.g ≡ self.old.g }
     {
-        if len > 44 + 2 * self.fresh.len() {
-            return self.answer(array, bank, Line::Bad);
-        }
-        self.one(array, bank, reader.line(len))
+        // What is kept of a line that is too long is too long as well.
+        let kept = len.min(line_room(self.fresh.len()));
+        self.one(array, bank, reader.line(kept))
     }
+}
+
+/// How many bytes of a line are kept: one more than the longest has.
+pub fn line_room(block: usize) -> usize
+    requires { block ≤ 4096 }
+    ensures { result ≡ longest_line block + 1 }
+{
+    longest_line(block) + 1
 }

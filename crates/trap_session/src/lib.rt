@@ -4,7 +4,6 @@
 mod buffers;
 mod outcome;
 mod reply;
-mod serve;
 mod session;
 #[cfg(test)]
 mod tests;

@@ -1,23 +1,23 @@
-//! A session over a mounted array.
+//! A session over a mounted array, and the loop over its lines.
 
 ghost use Rattle.std.specs.Prelude.{◌≡◌, ◌+◌, ◌*◌, ◌^◌, ◌≤◌, ◌↔◌, [], IfOk, IfErr, false};
 ghost use Rattle.trap_bank.specs.Steps.{Steps};
 ghost use Rattle.trap_script.specs.Lines.{request_of, goes_on};
 ghost use Rattle.trap_array.specs.Calls.{IsReady};
 ghost use Rattle.trap_session.specs.Answers.{AnswersLine};
-ghost use Rattle.trap_session.specs.Store.{NamesBad};
+ghost use Rattle.trap_session.specs.Store.{NamesBadLine};
 ghost use Rattle.trap_session.specs.Leaving.{HasServed};
 ghost use Rattle.trap_session.specs.Exchange.{IsSessionOver};
-ghost use Rattle.trap_session.specs.Serving.{Serves, HasStopped, StopsBy, HadNoQuit, StandsAtEnd};
+ghost use Rattle.trap_session.specs.Serving.{Serves, HasStopped, StopsBy};
+ghost use Rattle.trap_session.specs.Serving.{HadNoQuit, StandsAtEnd, ended_by};
 
-use crate::buffers::Buffers;
-use crate::serve::serve;
+use crate::buffers::{Buffers, line_room};
 use crate::{Ended, Next, SessionFault};
 use std::alloc::{AllocError as OutOfMemory, Global};
 use std::marker::Model;
 use trap_array::Array;
 use trap_bank::{Bank, Source};
-use trap_lines::LineReader;
+use trap_lines::{Found, LineReader, ReadFault};
 use trap_model::Geometry;
 
 /// The buffers of a session: a contract sees the numbers of the array that it is for. It reads one
@@ -29,16 +29,17 @@ pub struct Session {
 }
 
 impl Model for Session {
-    ghost use Rattle.std.specs.Prelude.{◌≡◌, ◌+◌, ◌*◌, []};
+    ghost use Rattle.std.specs.Prelude.{◌≡◌, ◌+◌, []};
     ghost use Rattle.trap_model.specs.declared.numbers.Geometry.{Geometry};
-    ghost use Rattle.trap_lines.specs.Reader.{pending, taken, room};
+    ghost use Rattle.trap_script.specs.Lines.{longest_line};
+    ghost use Rattle.trap_lines.specs.Reader.{unread, taken, room};
 
     ghost Value = { Geometry };
 
     ghost view = { λ s. s.buffers.g };
 
-    ghost invariant = { λ s. (pending s.reader ≡ []) × (taken s.reader ≡ 0)
-        × (room s.reader ≡ 44 + 2 * s.buffers.g.block) };
+    ghost invariant = { λ s. (unread s.reader ≡ []) × (taken s.reader ≡ 0)
+        × (room s.reader ≡ longest_line s.buffers.g.block + 1) };
 }
 
 impl Session {
@@ -48,7 +49,7 @@ impl Session {
     {
         let block = usize::from(g.block);
         let buffers = Buffers::new(alloc, g)?;
-        let reader = LineReader::new(alloc, 44 + 2 * block)?;
+        let reader = LineReader::new(alloc, line_room(block))?;
         Ok(Session { buffers, reader })
     }
 
@@ -87,19 +88,44 @@ impl Session {
             (Serves array.old (B.view bank.old) (S.stream source.old))
             (HasStopped array.old (B.view bank.old) result
             (S.stream source.old) (S.stream source.new)) }
-        ensures cause { StopsBy array.old result (B.view bank.old) (B.view bank.new)
-            (S.stream source.old) (S.stream source.new) }
-        ensures bad { IfErr result (λ fault. NamesBad array.new fault (B.view bank.new)) }
         ensures no_quit { result ≡ Ok Ended.Input
             → HadNoQuit array.old.g.block (S.stream source.old) }
-        ensures held { StandsAtEnd array.old (B.view bank.old) (B.view bank.new) }
-        ensures leaves { HasServed array.old array.new result (B.view bank.old) (B.view bank.new)
-            (S.stream source.old) (S.stream source.new) }
         ensures exchange { IsSessionOver B.view array.old array.new result bank.old bank.new
             (S.stream source.old) (S.stream source.new) }
+        ensures leaves { HasServed array.old array.new result (B.view bank.old) (B.view bank.new)
+            (S.stream source.old) (S.stream source.new) }
+        ensures held { StandsAtEnd array.old (B.view bank.old) (B.view bank.new) }
+        ensures cause { StopsBy array.old result (B.view bank.old) (B.view bank.new)
+            (S.stream source.old) (S.stream source.new) }
+        ensures bad { IfErr result (λ fault. NamesBadLine array.new fault (B.view bank.new)) }
     {
         let mut buffers = self.buffers;
         let mut reader = self.reader;
-        serve(&mut buffers, &mut reader, array, bank, source)
+        'lines: loop {
+            match reader.next(source) {
+                Err(ReadFault::Source) => return Err(SessionFault::ReadFault),
+                Err(ReadFault::TooLong) => return Err(SessionFault::TooLong),
+                Ok(Found::End) => return Ok(Ended::Input),
+                Ok(Found::Last { len }) => {
+                    // The end of the input ends this line, and the session after it.
+                    let next = buffers.answer_found(array, bank, &reader, len)?;
+                    return Ok(ended_by(next));
+                }
+                Ok(Found::Line { len }) => match buffers.answer_found(array, bank, &reader, len)? {
+                    Next::More => {}
+                    Next::Quit => return Ok(Ended::Quit),
+                },
+            }
+        }
+    }
+}
+
+// A last line without a line feed may be a `Q` too.
+fn ended_by(next: Next) -> Ended
+    ensures { result ≡ ended_by next }
+{
+    match next {
+        Next::More => Ended::Input,
+        Next::Quit => Ended::Quit,
     }
 }

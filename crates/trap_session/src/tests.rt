@@ -36,7 +36,7 @@ fn serves<B: Bank>(
     bank: &mut B,
     input: &str,
 ) -> Result<Result<Ended, SessionFault>, AllocError>
-    requires going { array.is_stopped ≡ false }
+    requires running { array.is_stopped ≡ false }
     requires ready { IsReady array (B.view bank.old) }
 {
     let mut source = MemorySource::new(alloc, input.as_bytes())?;

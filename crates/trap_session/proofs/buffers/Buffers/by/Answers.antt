@@ -4,6 +4,8 @@ use Rattle.trap_model.specs.declared.numbers.Geometry.{Geometry}
 use Rattle.trap_model.specs.declared.request.Reply.TheVariants.{At, No}
 use Rattle.trap_model.specs.declared.request.Request.TheVariants.{By}
 use Rattle.trap_array.specs.Causes.{of_time}
+use Rattle.trap_array.specs.Sources.{reads_back}
+use Rattle.trap_session.proofs.Calling.{said_after, none_after}
 use Rattle.trap_session.proofs.Decided.{decided_well, decided_refused, decided_fault, read_possible, time_own}
 use Rattle.trap_session.proofs.Replying.{same_replied, same_failed, by_still, still_going, refused_at, refused_going, filled_whole, shown, not_by_lost, risen_of, refused_not_denied, denied_as, line_ended, stops_as}
 use Rattle.trap_session.proofs.buffers.Buffers.by.Goals as goal
@@ -23,12 +25,14 @@ returns-in-Ok-clause-answers g c =
     same_replied array c.at_time.new.self old new (view c.say_answer.new.bank) (By c.args.time c.args.block) refl
     (λ s. by_still array.g s c.args.time c.args.block) _ done.same (still_going array.is_stopped _ refl)
     (At c.as_slice-bytes.result.now) c.say_answer.result (λ told s stands. shown At ((step array.g).reply s (By c.args.time c.args.block)) c.at_time.new.into c.as_slice-bytes.result.now filled
-    (done.reply told s stands))
+    (done.answers.reply told s stands))
     (inr (c.as_slice-bytes.result.now, long, refl)) (λ same. same)
     (λ r same. absurd (decided_well array c.args.block (of_time array c.args.time) _ old new done.causes (time_own array.index c.args.time) r _ refl same))
     done.any_moment.moves done.any_moment.sizes done.any_moment.same done.ready
     c.say_answer.ensures.says c.say_answer.ensures.once c.say_answer.ensures.no_quit c.say_answer.ensures.port
     (λ asks stopped. cc (done.causes.stopped.1 (asks, stopped)))
+    (λ seq last. said_after (reads_back array c.args.block seq) c.say_answer.result old new (view c.say_answer.new.bank) done.any_moment.moves.tells (done.calls seq last)
+    c.say_answer.ensures.says.goes)
 
 pub returns-in_ok-why-in-Err-clause-answers : goal.returns-in_ok-why-in-Err-clause-answers
 returns-in_ok-why-in-Err-clause-answers g c =
@@ -42,11 +46,12 @@ returns-in_ok-why-in-Err-clause-answers g c =
     let refused = c.in-Err.is ∙ ap Err c.in_ok-why-in-Err.ensures.ok in
     same_replied array c.at_time.new.self old new (view said.new.bank) (By c.args.time c.args.block) refl
     (λ s. by_still array.g s c.args.time c.args.block) _ done.same (refused_going array.is_stopped refused)
-    (No why) said.result (refused_at array old (By c.args.time c.args.block) c.at_time.result c.at_time.new.into why refused done.reply)
+    (No why) said.result (refused_at array old (By c.args.time c.args.block) c.at_time.result c.at_time.new.into why refused done.answers.reply)
     (inl (read_possible array c.args.block (of_time array c.args.time) c.at_time.result old new done.causes (λ tight. tight) why refused)) (λ same. same)
     (λ r same. decided_refused array c.args.block (of_time array c.args.time) c.at_time.result old new done.causes (time_own array.index c.args.time) r why refused same)
     done.any_moment.moves done.any_moment.sizes done.any_moment.same done.ready said.ensures.says said.ensures.once said.ensures.no_quit said.ensures.port
     (refused_not_denied c.at_time.result why refused done.causes.stopped)
+    (λ seq last. said_after (reads_back array c.args.block seq) said.result old new (view said.new.bank) done.any_moment.moves.tells (done.calls seq last) said.ensures.says.goes)
 
 pub returns-in_err-why-in-Err-clause-answers : goal.returns-in_err-why-in-Err-clause-answers
 returns-in_err-why-in-Err-clause-answers g c =
@@ -68,4 +73,5 @@ returns-in_err-why-in-Err-clause-answers g c =
     (λ offset same told. done.bad offset (c.in-Err.is ∙ ap Err same) told)
     (not_by_lost array c.at_time.result denied c.in-Err.is done.causes.used)
     (λ same. same) (λ stopped. done.causes.untouched (inr stopped))
-    (denied_as c.at_time.result denied c.in-Err.is done.causes.stopped))
+    (denied_as c.at_time.result denied c.in-Err.is done.causes.stopped)
+    (λ seq last. none_after (reads_back array c.args.block seq) old new (done.calls seq last)))

@@ -3,6 +3,8 @@ use Rattle.trap_model.specs.declared.request.Reply.TheVariants.{Kept, No}
 use Rattle.trap_model.specs.declared.request.Request.TheVariants.{Write}
 use Rattle.trap_array.specs.Calls.{SameArray, is_over}
 use Rattle.trap_array.specs.Causes.{of_write}
+use Rattle.trap_session.specs.declared.outcome.SessionFault.TheVariants.{Array}
+use Rattle.trap_session.proofs.Calling.{write_called, write_denied, write_unsaid}
 use Rattle.trap_session.proofs.Decided.{decided_well, decided_refused, decided_fault, refused_possible, early_own}
 use Rattle.trap_session.proofs.Indexing.{write_index}
 use Rattle.trap_session.proofs.Touching.{write_touches}
@@ -26,6 +28,7 @@ returns-in-Ok-clause-answers g c =
     done.sizes done.others done.ready
     (still_going array.is_stopped _ done.stops) alike c.say_answer.ensures.says c.say_answer.ensures.once c.say_answer.ensures.no_quit c.say_answer.ensures.port
     (λ asks stopped. cc (done.causes.stopped.1 (asks, stopped)))
+    (write_called array c.write.new.self c.args.block c.in-Ok.seq c.say_answer.result old new (view c.say_answer.new.bank) done.takes.calls c.say_answer.ensures.says.goes)
 
 pub returns-in_ok-why-in-Err-clause-answers : goal.returns-in_ok-why-in-Err-clause-answers
 returns-in_ok-why-in-Err-clause-answers g c =
@@ -50,6 +53,7 @@ returns-in_ok-why-in-Err-clause-answers g c =
     done.sizes done.others done.ready
     (done.stops ∙ refused_going array.is_stopped refused) alike said.ensures.says said.ensures.once said.ensures.no_quit said.ensures.port
     (refused_not_denied c.write.result why refused done.causes.stopped)
+    (write_denied array c.write.new.self c.args.time c.args.block c.write.result why said.result old new (view said.new.bank) refused done.takes.head done.takes.calls said.ensures.says.goes)
 
 pub returns-in_err-why-in-Err-clause-answers : goal.returns-in_err-why-in-Err-clause-answers
 returns-in_err-why-in-Err-clause-answers g c =
@@ -74,4 +78,5 @@ returns-in_err-why-in-Err-clause-answers g c =
     denied c.in-Err.is ended.1)
     (λ offset same. done.damaged offset (c.in-Err.is ∙ ap Err same))
     (write_failed_after array c.write.new.self c.args.time c.args.block c.as_slice.result.now c.write.result denied c.in-Err.is done.takes.head done.takes.index)
-    (denied_as c.write.result denied c.in-Err.is done.causes.stopped))
+    (denied_as c.write.result denied c.in-Err.is done.causes.stopped)
+    (write_unsaid array c.write.new.self c.args.block c.write.result (Array denied) old new done.takes.calls))
