@@ -1,5 +1,5 @@
 -- A run in which nothing fails.
-use Rattle.std.proofs.Common.{◌≡◌, inl, inr, ⊎_elim, ℕ, ◌+◌, ◌^◌, ◌<◌, List, [], ◌∷◌, ◌++◌, length, Option, Some, None, IsTrue, refl, sym, ap, subst, ◌∙◌, append-nil, length-append, arith}
+use Rattle.std.proofs.Common.{◌≡◌, inl, inr, ⊎_elim, ℕ, ◌+◌, ◌^◌, ◌<◌, List, [], ◌++◌, length, Option, Some, None, IsTrue, sym, ap, subst, ◌∙◌, length-append, arith}
 use Rattle.std.specs.Io.KnownBytes.{Consumes}
 use Rattle.trap_bank.specs.Disks.{View, size_of}
 use Rattle.trap_bank.specs.Calls.{IsLawful}
@@ -26,15 +26,12 @@ use Rattle.trap_cli.specs.Cause.{WantsMemory, SessionCause, HistoryCause, Create
 use Rattle.trap_cli.specs.Stopping.{StopCause, MemberFaults}
 use Rattle.trap_cli.specs.Said.{BeginsHeld}
 use Rattle.trap_cli.specs.Run.{SaysLast, ThenLastLine, EndsAs}
+use Rattle.trap_cli.proofs.Saying.{nothing_more}
 use Rattle.trap_cli.specs.Completes.{output, NothingFails, IsUnused, IsDone, Completes}
 
 -- nothing is said after what was done
-nothing_more : (before : List ℕ) (old new : View) → SaysLast [] before old new → new.now.said ≡ before
-nothing_more before old new last = last.said ∙ ap (λ (l : List ℕ). before ++ l) (front last.part last.rest last.whole) ∙ append-nil before
-  where
-    front : (part rest : List ℕ) → part ++ rest ≡ [] → part ≡ []
-    front [] rest is = refl
-    front (byte ∷ part) rest is = absurd (cc is)
+said_before : (before : List ℕ) (old new : View) → SaysLast [] before old new → new.now.said ≡ before
+said_before before old new last = nothing_more new.now.said before last.part last.rest last.whole last.said
 
 module _ (old new : View) (from to : Stream) (lawful : IsLawful old) (g : Geometry) (h : Head) (s : State) (told : IsTrue old.tells)
     (holds_by : HoldsBy g h s old.now.disks) (fails : NothingFails g (IsUnused h old.now.disks) old new from to) where
@@ -77,7 +74,7 @@ module _ (old new : View) (from to : Stream) (lawful : IsLawful old) (g : Geomet
       → IsDone status (output g s Session input) old new
   session_done status input begins short took Done number cause ends =
       let stops = ends.stops g s input begins in
-      inl (number, nothing_more ends.before old new ends.last ∙ stops.said)
+      inl (number, said_before ends.before old new ends.last ∙ stops.said)
   session_done status input begins short took Usage number cause ends = absurd cause
   session_done status input begins short took (BadGeometry field) number cause ends = absurd cause
   session_done status input begins short took (NotCreated why) number cause ends = absurd cause
@@ -92,7 +89,7 @@ module _ (old new : View) (from to : Stream) (lawful : IsLawful old) (g : Geomet
       → IsDone status (output g s History input) old new
   history_done status input holds Done number cause ends =
       let stops = ends.stops g s told holds in
-      inl (number, nothing_more ends.before old new ends.last ∙ stops.said)
+      inl (number, said_before ends.before old new ends.last ∙ stops.said)
   history_done status input holds Usage number cause ends = absurd cause
   history_done status input holds (BadGeometry field) number cause ends = absurd cause
   history_done status input holds (NotCreated why) number cause ends = absurd cause
@@ -106,7 +103,7 @@ create_done : (status : ℕ) (asked : Asked) (g : Geometry) (old new : View) (fr
     → (ended : Ended) → status ≡ status_of ended → CreateCause asked ended old new → ThenLastLine (Some (Create asked)) ended old new from to
     → (status ≡ 0) × (new.now.said ≡ old.now.said ++ created_line asked.id)
 create_done status asked g old new from to told numbers kept none fails Done number cause ends =
-    (number, nothing_more ends.before old new ends.last ∙ (ends.stops told).said)
+    (number, said_before ends.before old new ends.last ∙ (ends.stops told).said)
 create_done status asked g old new from to told numbers kept none fails Usage number cause ends = absurd cause
 create_done status asked g old new from to told numbers kept none fails (BadGeometry field) number cause ends =
     let both : None ≡ Some field = sym kept ∙ cause in absurd (cc both)
@@ -117,7 +114,7 @@ create_done status asked g old new from to told numbers kept none fails (NotCrea
     absurd (fails.members second (omega (arith, cause.2.0, cause.1.members, numbers.members)) cause.2.1.1)
 create_done status asked g old new from to told numbers kept none fails (NotMounted why) number cause ends = absurd cause
 create_done status asked g old new from to told numbers kept none fails (Stopped why) number cause ends = absurd cause
-create_done status asked g old new from to told numbers kept none fails Port number cause ends = absurd (fails.port cause)
+create_done status asked g old new from to told numbers kept none fails Port number cause ends = absurd (fails.port cause.1)
 create_done status asked g old new from to told numbers kept none fails Memory number cause ends = absurd cause
 
 pub run_completes : (status : ℕ) (command : Option Command) (old new : View) (from to : Stream) → IsLawful old → (ended : Ended)

@@ -7,15 +7,14 @@ use Rattle.trap_bank.specs.Calls.{MayLeave, IsLawful, Says}
 use Rattle.trap_bank.specs.Steps.{Steps, Moves, Same, SpokePart, OnlyReads}
 use Rattle.trap_bank.specs.Stream.{Stream}
 use Rattle.trap_bank.proofs.Moves.{then_, weaken, nothing_done, read_is_left, say_steps}
-use Rattle.trap_model.specs.State.{fresh}
 use Rattle.trap_model.specs.declared.asked.Asked.{Asked}
 use Rattle.trap_model.specs.declared.numbers.Geometry.{Geometry}
 use Rattle.trap_format.specs.Checked.{first_broken, HasNumbers}
 use Rattle.trap_format.specs.declared.limits.Field.{Field}
+use Rattle.trap_format.specs.LogDisk.{log_size}
 use Rattle.trap_format.specs.MemberDisk.{member_size}
 use Rattle.trap_format.proofs.Spellings.{same_geometry}
-use Rattle.trap_array.specs.Holding.{Holds}
-use Rattle.trap_array.specs.Creating.{CreateFails as MakeFails, IsNoArray, Creates, HasCreated, MembersFirst, IsLowest, NoneIsThere, fresh_head}
+use Rattle.trap_array.specs.Creating.{CreateFails as MakeFails, IsNoArray, Creates, HasCreated, MembersFirst, AreSized, IsLowest, NoneIsThere, fresh_head}
 use Rattle.trap_mount.specs.CreateEnds.{IsMade, IsMaking, KeepsOrder, StaysBeyond, DisksBeyondStay}
 use Rattle.trap_mount.specs.declared.fault.CreateFault.{CreateFault}
 use Rattle.trap_mount.specs.declared.fault.CreateFault.TheVariants.{Exists, LogFault, MemberFault}
@@ -23,13 +22,14 @@ use Rattle.trap_cli.specs.declared.outcome.Ended.{Ended}
 use Rattle.trap_cli.specs.declared.outcome.Ended.TheVariants.{Done, BadGeometry, NotCreated, Port}
 use Rattle.trap_cli.specs.Command.{command_create}
 use Rattle.trap_cli.specs.Ended.{last_line, created_line, is_create_refusal}
-use Rattle.trap_cli.specs.Cause.{CreateDenied}
+use Rattle.trap_cli.specs.Cause.{CreateDenied, HasNewSizes}
 use Rattle.trap_cli.specs.Creating.{HoldsNew, NotCreatedSaid, IsUnfinished}
 use Rattle.trap_cli.specs.Crash.{IsFaultFront, CreateLeaves, LeavesNow, LeavesWithFront}
 use Rattle.trap_cli.specs.Run.{CommandOutcome}
 use Rattle.trap_cli.specs.Frame.{ChangesBy, InAsked, Frames}
 use Rattle.trap_cli.proofs.Saying.{took_none}
 use Rattle.trap_cli.proofs.Framing.{changes_none, changes_quiet, changes_wider, changes_kept}
+use Rattle.trap_bank.proofs.Regions.{absent_disk}
 use Rattle.trap_cli.proofs.Heads.{held_same, held_none}
 use Rattle.trap_cli.proofs.Lines.{not_created}
 
@@ -37,6 +37,10 @@ use Rattle.trap_cli.proofs.Lines.{not_created}
 numbers_same : (asked : Asked) (g h : Geometry) → HasNumbers g asked → HasNumbers h asked → g ≡ h
 numbers_same asked g h a b = same_geometry g h (a.id ∙ sym b.id) (a.members ∙ sym b.members) (a.chunk ∙ sym b.chunk) (a.block ∙ sym b.block) (a.rows ∙ sym b.rows)
     (a.slots ∙ sym b.slots) (a.gap ∙ sym b.gap) (a.entries ∙ sym b.entries) (a.ring ∙ sym b.ring)
+
+-- the disks that were made keep their sizes
+pub new_sizes_later : (asked : Asked) (mid new : View) → ((e : ℕ) → new.sizes e ≡ mid.sizes e) → HasNewSizes asked mid → HasNewSizes asked new
+new_sizes_later asked mid new same has g numbers = (same 0 ∙ (has g numbers).0, λ m inside. same (m + 1) ∙ (has g numbers).1 m inside)
 
 -- there is one lowest disk
 lowest_same : (g : Geometry) (v : View) (d e : ℕ) → IsLowest g v d → IsLowest g v e → d ≡ e
@@ -62,11 +66,6 @@ none_there g v none d inside = below (suc d) d (omega arith) inside
 absent_no_log : (disks : Disks) → size_of (disks 0) ≡ None → IsNoArray disks
 absent_no_log disks absent begins = let both : None ≡ Some begins.bytes = sym absent ∙ begins.there in cc
 
--- a disk without a size is absent
-absent : (disk : Option (List ℕ)) → size_of disk ≡ None → disk ≡ None
-absent None is = refl
-absent (Some bytes) is = absurd (cc is)
-
 -- each crash in a run leaves what comes by its relation and has this too, where another fact of the same run says so
 steps_with : (a b : View) (d1 a1 d2 a2 : Contents → Contents → Type 0) (has : Contents → Type 0) → Steps a b d1 a1 → Steps a b d2 a2
     → ((x y : Contents) → MayLeave a x → d2 x y → has y) → ((x y : Contents) → MayLeave a x → a2 x y → has y)
@@ -90,7 +89,7 @@ steps_with a b d1 a1 d2 a2 has first second during after = record {
 module _ (asked : Asked) (a : View) (lawful : IsLawful a) where
   -- disk 0 is absent on entry, whatever a crash leaves
   log_absent : (g : Geometry) → NoneIsThere g a → (x : Contents) → MayLeave a x → x.disks 0 ≡ None
-  log_absent g none x was = absent (x.disks 0) (was.torn.disks.sizes 0 ∙ lawful.sized was.told 0 ∙ none 0 (omega arith))
+  log_absent g none x was = absent_disk (x.disks 0) (was.torn.disks.sizes 0 ∙ lawful.sized was.told 0 ∙ none 0 (omega arith))
 
   -- so the members came first by what a read gives on entry
   members_first : (g : Geometry) → NoneIsThere g a → (x : Contents) → MayLeave a x → (disks : Disks) → MembersFirst g x.disks disks → MembersFirst g a.now.disks disks
@@ -268,6 +267,11 @@ module _ (asked : Asked) (a : View) (lawful : IsLawful a) where
         said_before : IsTrue a.tells → b.now.said ≡ a.now.said
         said_before told = ((making none).contents told).said
 
+        -- whatever the bank tells, and after its line too
+        sized : HasNewSizes asked c
+        sized = new_sizes_later asked b c says.sizes (λ h also. subst (λ (g : Geometry). (b.sizes 0 ≡ Some (log_size g)) × AreSized g g.members b)
+            (numbers_same asked g h numbers also) (new.log, new.members))
+
         framed : Frames (command_create asked) a c
         framed = record {
           changes = changes_kept (StaysBeyond g) (InAsked asked) a b c (SpokePart (created_line asked.id)) (SpokePart (created_line asked.id))
@@ -301,7 +305,7 @@ module _ (asked : Asked) (a : View) (lawful : IsLawful a) where
         -- The array is made, and its line was said.
         pub created_outcome : (IsTrue b.tells → c.now.said ≡ b.now.said ++ created_line asked.id) → CommandOutcome (command_create asked) Done a c from from
         created_outcome whole = record {
-          cause = kept;
+          cause = (kept, sized);
           first = (no_field Done, not_there Done);
           unchanged = λ refused. absurd (cc refused);
           unmounted = λ why is. absurd (cc is);
@@ -322,7 +326,7 @@ module _ (asked : Asked) (a : View) (lawful : IsLawful a) where
         -- The port failed in its line.
         pub unsaid_outcome : Rose b.port_faults c.port_faults → CommandOutcome (command_create asked) Port a c from from
         unsaid_outcome rose = record {
-          cause = omega (arith, new.moves.port_faults, rose);
+          cause = (kept, omega (arith, new.moves.port_faults, rose), sized);
           first = (no_field Port, not_there Port);
           unchanged = λ refused. absurd (cc refused);
           unmounted = λ why is. absurd (cc is);

@@ -2,7 +2,7 @@
 use Rattle.std.proofs.Common.{◌≡◌, ℕ, ◌<◌, ◌≤◌, List, length, slice_set, ap, Option, None, Result, Ok, Err, OnOk, OnErr, get_or, refl, inl, inr, arith, rules}
 use Rattle.trap_bank.specs.Faults.{Rose}
 use Rattle.trap_bank.specs.Disks.{Contents}
-use Rattle.trap_bank.specs.Calls.{Goes, KeepsLeft, Reads, Writes, Syncs, Makes}
+use Rattle.trap_bank.specs.Calls.{IsOneCall, KeepsLeft, Reads, Writes, Syncs, Makes}
 use Rattle.trap_cli.specs.declared.edge.bank.OpenDisk.{OpenDisk}
 use Rattle.trap_cli.specs.Counts.{Blames}
 use Rattle.trap_cli.specs.Files.{untold_view, untold, open_size}
@@ -21,14 +21,14 @@ settled_later d old new (Err error) blamed same e = blamed.later e
 
 module _ {F : Type 0} (disks disks' : List (Option (OpenDisk F))) (faults faults' : List ℕ) (port port' : ℕ) where
   untold_goes : {T E : Type 0} (result : Result T E) → ((e : ℕ) → get_or faults e 0 ≤ get_or faults' e 0) → port ≤ port'
-      → Goes result (untold_view disks faults port) (untold_view disks' faults' port')
+      → IsOneCall result (untold_view disks faults port) (untold_view disks' faults' port')
   untold_goes result later port_later = record {
     tells = refl;
     faults = later;
     port_faults = port_later;
     later = omega arith;
     rises = λ told. untold told;
-    way = refl;
+    same_by_one = refl;
     by_one = λ told one. untold told;
   }
 

@@ -17,7 +17,7 @@ use Rattle.trap_cli.specs.declared.command.Command.{Command}
 use Rattle.trap_cli.specs.declared.command.Command.TheVariants.{Create, Session, History}
 use Rattle.trap_cli.specs.Ended.{leaves_log}
 use Rattle.trap_cli.specs.Frame.{ByDisks, ChangesBy, InMounted, MayChange}
-use Rattle.trap_cli.proofs.Saying.{rose_later}
+use Rattle.trap_bank.proofs.Rising.{rose_later}
 
 -- ---- in general
 -- a run that changes the disks by a step, and then one that leaves them

@@ -1,6 +1,6 @@
 -- What a crash leaves where at most one member is out, though its disk be removed.
-use Rattle.std.proofs.Common.{◌≡◌, inl, inr, ⊎_elim, ℕ, ◌+◌, ◌<◌, List, Option, Some, None, IsTrue, refl, sym, subst, ◌∙◌}
-use Rattle.trap_bank.specs.Disks.{Disks, View, size_of}
+use Rattle.std.proofs.Common.{◌≡◌, inl, inr, ⊎_elim, ℕ, ◌+◌, ◌<◌, List, Some, None, IsTrue, refl, sym, subst, ◌∙◌}
+use Rattle.trap_bank.specs.Disks.{Disks, View}
 use Rattle.trap_bank.specs.Calls.{IsLawful, MayLeave}
 use Rattle.trap_bank.specs.Steps.{Always}
 use Rattle.trap_bank.specs.Stream.{Stream}
@@ -12,16 +12,13 @@ use Rattle.trap_array.specs.Creating.{fresh_head}
 use Rattle.trap_array.specs.Gone.{HoldsBut, IsRemoved}
 use Rattle.trap_array.specs.Holding.{HoldsBy}
 use Rattle.trap_array.specs.Mounting.{SameHead}
+use Rattle.trap_bank.proofs.Regions.{absent_disk}
 use Rattle.trap_array.proofs.Removed.{removed_but}
 use Rattle.trap_cli.specs.Creating.{HoldsNew}
 use Rattle.trap_cli.specs.Said.{BeginsHeld}
 use Rattle.trap_cli.specs.Crash.{LeftOnEntry, HoldsSince, LeftBesideHead, SessionLeaves, HistoryLeaves, AfterGiven, OneMayGo}
 use Rattle.trap_cli.proofs.Crashing.{none_given}
 use Rattle.trap_cli.proofs.Heads.{same_head_by}
-
-absent_disk : (disk : Option (List ℕ)) → size_of disk ≡ None → disk ≡ None
-absent_disk None is = refl
-absent_disk (Some bytes) is = absurd (cc is)
 
 -- no member of a new array is out
 pub new_but : (g : Geometry) (m : ℕ) (disks : Disks) → HoldsNew g disks → HoldsBut g (fresh g) m disks

@@ -16,7 +16,7 @@ use Rattle.trap_array.specs.Calls.{Mounted, StandsFor}
 use Rattle.trap_cli.specs.Crash.{WasOut, HoldsSince}
 use Rattle.trap_cli.proofs.Stopping.{LostOn}
 use Rattle.trap_cli.specs.Frame.{KeepsMembers, StaysHeld}
-use Rattle.trap_cli.proofs.Saying.{rose_later}
+use Rattle.trap_bank.proofs.Rising.{rose_later}
 
 -- there is one such head
 pub same_heads : (g : Geometry) (h k : Head) (s t : State) (x : Disks) → HoldsBy g h s x → HoldsBy g k t x → h ≡ k

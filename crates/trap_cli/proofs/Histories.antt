@@ -1,5 +1,5 @@
 -- All but the last line of `history`.
-use Rattle.std.proofs.Common.{◌≡◌, inl, inr, ⊎_elim, ℕ, ◌≤◌, List, [], ◌∷◌, ◌++◌, Result, Ok, Err, false, IsTrue, refl, sym, ap, subst, ◌∙◌, append-nil, arith}
+use Rattle.std.proofs.Common.{◌≡◌, inl, inr, ⊎_elim, ℕ, ◌≤◌, List, [], ◌++◌, Result, Ok, Err, false, IsTrue, refl, sym, ap, subst, ◌∙◌, append-nil, arith}
 use Rattle.trap_bank.specs.Disks.{Contents, Disks, View, Quiet}
 use Rattle.trap_bank.specs.Faults.{Rose}
 use Rattle.trap_bank.specs.Calls.{MayLeave}
@@ -25,9 +25,9 @@ use Rattle.trap_cli.specs.Stopping.{IsMountable}
 use Rattle.trap_cli.specs.Crash.{IsFaultFront, HistoryLeaves, LeftSaid, LeavesNow, LeavesWithFront}
 use Rattle.trap_cli.specs.Run.{CommandOutcome}
 use Rattle.trap_cli.specs.Frame.{ByDisks, Frames, StaysHeld}
-use Rattle.trap_cli.specs.Session.{IsMounted, MountsOnly, SaysRecords}
-use Rattle.trap_cli.proofs.Saying.{took_none}
-use Rattle.trap_cli.proofs.Saying.{rose_since}
+use Rattle.trap_cli.specs.Session.{MountsArray, MountsOnly, SaysRecords}
+use Rattle.trap_cli.proofs.Saying.{no_part, took_none}
+use Rattle.trap_bank.proofs.Rising.{rose_since}
 use Rattle.trap_cli.proofs.Framing.{changes_kept, changes_reads, no_log_fault, put_later, mount_changes}
 use Rattle.trap_cli.proofs.Heads.{same_head_holds, mounted_holds, held_mounted, found_out, Mounting, mounting_moves}
 use Rattle.trap_cli.proofs.Listings.{part_told, whole_told}
@@ -59,7 +59,7 @@ some_listed a (Ok value) x y listed = record {
 some_listed a (Err e) x y listed = listed
 
 -- while the lines are said no disk changes
-history_mounts : {B T E : Type 0} (view : B → View) (a : Mounted) (result : Result T E) (ended : Ended) (first mounted last : B) → IsMounted a (view first) (view mounted)
+history_mounts : {B T E : Type 0} (view : B → View) (a : Mounted) (result : Result T E) (ended : Ended) (first mounted last : B) → MountsArray a (view first) (view mounted)
     → KeepsDisks (view mounted) (view last) → Steps (view mounted) (view last) (Lists a) (HasListed a result)
     → ((x y : Contents) → x.said ≡ (view mounted).now.said → HasListed a result x y → SaysRecords ended (index_text a.index) (view mounted).now y) → MountsOnly view ended first last
 history_mounts view a result ended first mounted last mounts keeps listed says = record {
@@ -81,13 +81,13 @@ history_mounts view a result ended first mounted last mounts keeps listed says =
 }
 
 -- all lines were said
-pub listed_mounts : {B : Type 0} (T E : Type 0) (value : T) (view : B → View) (a : Mounted) (first mounted last : B) → IsMounted a (view first) (view mounted)
+pub listed_mounts : {B : Type 0} (T E : Type 0) (value : T) (view : B → View) (a : Mounted) (first mounted last : B) → MountsArray a (view first) (view mounted)
     → KeepsDisks (view mounted) (view last) → Steps (view mounted) (view last) (Lists a) (HasListed {T = T} {E = E} a (Ok value)) → MountsOnly view Done first last
 listed_mounts T E value view a first mounted last mounts keeps listed = history_mounts {T = T} {E = E} view a (Ok value) Done first mounted last mounts keeps listed
     (λ x y same listed. listed.says ∙ ap (λ (l : List ℕ). l ++ index_text a.index) same)
 
 -- a part of them was
-pub cut_mounts : {B : Type 0} (T E : Type 0) (e : E) (view : B → View) (a : Mounted) (first mounted last : B) → IsMounted a (view first) (view mounted)
+pub cut_mounts : {B : Type 0} (T E : Type 0) (e : E) (view : B → View) (a : Mounted) (first mounted last : B) → MountsArray a (view first) (view mounted)
     → KeepsDisks (view mounted) (view last) → Steps (view mounted) (view last) (Lists a) (HasListed {T = T} {E = E} a (Err e)) → MountsOnly view Port first last
 cut_mounts T E e view a first mounted last mounts keeps listed = history_mounts {T = T} {E = E} view a (Err e) Port first mounted last mounts keeps listed
     (λ x y same listed. record {
@@ -96,11 +96,6 @@ cut_mounts T E e view a first mounted last mounts keeps listed = history_mounts 
       whole = listed.says.whole;
       said = listed.says.said ∙ ap (λ (l : List ℕ). l ++ listed.says.part) same;
     })
-
--- no line is said after the history
-empty_front : (front rest line : List ℕ) → line ≡ [] → front ++ rest ≡ line → front ≡ []
-empty_front [] rest line none is = refl
-empty_front (byte ∷ front) rest line none is = absurd (cc)
 
 -- The array could not be mounted.
 unlisted_steps : (a b : View) (from : Stream) (why : MountFault) → Moves a b (Mounting a) (Mounting a)
@@ -157,7 +152,7 @@ listed_steps a b c from ended array result silent stands lost mounted listed = t
     (λ x y z was step mid lists front rest is g s told holds.
     let known = stands g s told holds in
     let left = lists_leave a array g s x y z step.said known.0 (known.1 y mid) (lost g s told holds) (some_listed array result y z lists) in
-    let none = empty_front front rest (last_line ended) silent is in
+    let none = no_part front rest (last_line ended) silent is in
     record {
       part = left.part;
       said = ap (λ (l : List ℕ). z.said ++ l) none ∙ append-nil z.said ∙ left.said;

@@ -9,6 +9,7 @@ pub mod Crashing
 pub mod Listings
 pub mod Histories
 pub mod Sessions
+mod LookingBack
 pub mod Creates
 pub mod Running
 pub mod Completing

@@ -1,7 +1,8 @@
 -- A front of a fault line after some replies adds no reply to those that are given.
-use Rattle.std.proofs.Common.{◌≡◌, ◌≢◌, ◌⊎◌, inl, inr, ⊎_elim, ℕ, zero, suc, ◌+◌, ◌<◌, ◌≤◌, List, [], ◌∷◌, ◌++◌, length, take, drop, get_or, Option, Some, None, Bool, true, false, cond, refl, sym, ap, ◌∙◌, append_assoc, length-append, arith}
+use Rattle.std.proofs.Common.{◌≡◌, ◌≢◌, ◌⊎◌, inl, inr, ⊎_elim, ℕ, zero, suc, ◌+◌, ◌<◌, ◌≤◌, List, [], ◌∷◌, ◌++◌, length, take, drop, get_or, Option, Some, None, true, false, cond, refl, sym, ap, ◌∙◌, append_assoc, length-append, arith}
 use Rattle.std.specs.Prelude.{nat_eq}
 use Rattle.std.specs.List.{starts_with, All}
+use Rattle.std.proofs.lemmas.Bool.{false_from_ne_true}
 use Rattle.std.proofs.lemmas.Bool.Decides.{Decides-eqb}
 use Rattle.std.proofs.lemmas.List.{length-map}
 use Rattle.std.proofs.lemmas.List.Elements.{All-nil, All-cons, All-head, All-tail}
@@ -111,17 +112,13 @@ not_created id front rest fault is = ⊎_elim
     (λ (f : get_or front 0 0 ≡ 102). let c = ap (λ (l : List ℕ). get_or l 0 0) is in omega (arith, f, c))
     (front_head front fault)
 
-not_true : (b : Bool) → (b ≡ true → ⊥) → b ≡ false
-not_true true other = absurd (other refl)
-not_true false other = refl
-
 head_of : (text rest : List ℕ) → 0 < length text → get_or (text ++ rest) 0 0 ≡ get_or text 0 0
 head_of [] rest some = absurd (omega (arith, some))
 head_of (byte ∷ text) rest some = refl
 
 -- and begins with no reply
 no_reply : (front text : List ℕ) → IsReplyLike text → (front ≡ []) ⊎ (get_or front 0 0 ≡ 102) → starts_with nat_eq front text ≡ false
-no_reply front text like head = not_true (starts_with nat_eq front text) (λ whole.
+no_reply front text like head = false_from_ne_true (starts_with nat_eq front text) (λ whole.
     let is = (starts_is Decides-eqb front text (starts_with nat_eq front text) refl).0 whole in
     ⊎_elim (λ (none : front ≡ []). let some = like.some in omega (arith, some, ap length is, ap length none, length-append text (drop (length text) front)))
     (λ (f : get_or front 0 0 ≡ 102). like.head (sym (head_of text (drop (length text) front) like.some) ∙ sym (ap (λ (l : List ℕ). get_or l 0 0) is) ∙ f)) head)

@@ -1,5 +1,5 @@
 -- A run from its command and its last line.
-use Rattle.std.proofs.Common.{◌≡◌, ◌↔◌, inl, inr, ⊎_elim, ℕ, ◌+◌, ◌≤◌, List, [], ◌∷◌, ◌++◌, Option, Some, None, true, IsTrue, refl, sym, ap, subst, ◌∙◌, append-nil}
+use Rattle.std.proofs.Common.{◌≡◌, ◌↔◌, inl, inr, ⊎_elim, ℕ, ◌+◌, ◌≤◌, List, [], ◌++◌, Option, Some, None, true, IsTrue, refl, sym, ap, subst, ◌∙◌, append-nil}
 use Rattle.std.specs.declared.alloc.Global.{Global}
 use Rattle.std.specs.Prelude.{String}
 use Rattle.trap_bank.specs.Disks.{Contents, Disks, View}
@@ -8,12 +8,12 @@ use Rattle.trap_bank.specs.Steps.{Same}
 use Rattle.trap_bank.specs.Stream.{Stream}
 use Rattle.trap_bank.proofs.Moves.{nothing_done}
 use Rattle.trap_array.specs.Holding.{HoldsBy}
-use Rattle.trap_array.specs.Instants.{HasBadRecord}
 use Rattle.trap_array.specs.Mounting.{MountFails, MayPutHead}
 use Rattle.trap_mount.specs.declared.fault.CreateFault.TheVariants as creating
 use Rattle.trap_mount.specs.declared.fault.MountFault.{MountFault}
 use Rattle.trap_mount.specs.declared.fault.MountFault.TheVariants as mounting
 use Rattle.trap_array.specs.declared.fault.Denied.TheVariants as denied
+use Rattle.trap_session.specs.Store.{IsBadFor}
 use Rattle.trap_session.specs.declared.outcome.SessionFault.{SessionFault}
 use Rattle.trap_session.specs.declared.outcome.SessionFault.TheVariants as serving
 use Rattle.trap_cli.specs.declared.command.Command.{Command}
@@ -26,17 +26,17 @@ use Rattle.trap_cli.specs.Cause.{WantsMemory, CauseOf, SessionCause, HistoryCaus
 use Rattle.trap_cli.specs.Stopping.{StopCause}
 use Rattle.trap_cli.specs.Said.{SaidAndHeld}
 use Rattle.trap_cli.specs.Crash.{CommandLeaves, LeavesNow, LeavesWithFront}
-use Rattle.trap_cli.specs.Run.{CommandOutcome, EndsAs, ThenLastLine, SaysLast, LeavesUnmounted}
+use Rattle.trap_cli.specs.Run.{CommandOutcome, EndsAs, ThenLastLine, SaysLast}
 use Rattle.trap_cli.specs.Listing.{index_text}
 use Rattle.trap_cli.specs.Session.{MountsOnly, SaysRecords}
-use Rattle.trap_cli.specs.Frame.{MayChange, Frames, ChangesNothing, StaysHeld}
+use Rattle.trap_cli.specs.Frame.{MayChange, Frames, LeavesUnmounted, ChangesNothing, StaysHeld}
 use Rattle.trap_cli.proofs.Framing.{changes_none, changes_said, change_later, put_later}
 use Rattle.trap_cli.proofs.Heads.{held_same}
 use Rattle.trap_cli.proofs.Words.{one_command}
-use Rattle.trap_cli.proofs.Saying.{took_none}
-use Rattle.trap_cli.proofs.Saying.{Spoken, rose_later, last_since, run_leaves}
+use Rattle.trap_cli.proofs.Saying.{Spoken, nothing_more, last_since, run_leaves, took_none}
+use Rattle.trap_bank.proofs.Rising.{rose_later}
 use Rattle.trap_cli.proofs.Crashing.{no_front, mount_leaves}
-use Rattle.trap_cli.proofs.Creates.{entry_creates}
+use Rattle.trap_cli.proofs.Creates.{entry_creates, new_sizes_later}
 use Rattle.trap_cli.proofs.Histories.{mount_lists}
 
 -- causes stay
@@ -74,7 +74,16 @@ stopped_later (serving.Array (denied.Damaged offset)) old mid new from to later 
   by.0,
   λ told.
       let named = by.1 told in
-      (named.0, named.1, named.2, named.3, named.4, subst (λ (disks : Disks). HasBadRecord named.0 named.2 disks offset) (sym (same told)) named.5),
+      record {
+        g = named.g;
+        head = named.head;
+        index = named.index;
+        found = named.found;
+        since = named.since;
+        asked = named.asked;
+        line = named.line;
+        bad = subst (λ (disks : Disks). IsBadFor named.g named.index named.asked disks offset) (sym (same told)) named.bad;
+      },
 )
 stopped_later (serving.Array denied.Stopped) old mid new from to later port same by = absurd by
 stopped_later serving.ReadFault old mid new from to later port same by = by
@@ -82,37 +91,38 @@ stopped_later serving.WriteFault old mid new from to later port same by = rose_l
 stopped_later serving.TooLong old mid new from to later port same by = by
 
 cause_later : (command : Option Command) (ended : Ended) (old mid new : View) (from to : Stream)
-    → ((e : ℕ) → mid.faults e ≤ new.faults e) → mid.port_faults ≤ new.port_faults → new.sizes 0 ≡ mid.sizes 0 → (IsTrue old.tells → new.now.disks ≡ mid.now.disks)
+    → ((e : ℕ) → mid.faults e ≤ new.faults e) → mid.port_faults ≤ new.port_faults → ((e : ℕ) → new.sizes e ≡ mid.sizes e) → (IsTrue old.tells → new.now.disks ≡ mid.now.disks)
     → CauseOf command ended old mid from to → CauseOf command ended old new from to
-cause_later None ended old mid new from to later port size same by = by
-cause_later (Some Session) Done old mid new from to later port size same by = by
-cause_later (Some Session) Usage old mid new from to later port size same by = by
-cause_later (Some Session) (BadGeometry field) old mid new from to later port size same by = by
-cause_later (Some Session) (NotCreated why) old mid new from to later port size same by = by
-cause_later (Some Session) (NotMounted why) old mid new from to later port size same by = (by.0, mount_later why old mid new later by.1, wants_later why old mid new later by.2, by.3)
-cause_later (Some Session) (Stopped why) old mid new from to later port size same by = (by.0, stopped_later why old mid new from to later port same by.1)
-cause_later (Some Session) Port old mid new from to later port size same by = by
-cause_later (Some Session) Memory old mid new from to later port size same by = by
-cause_later (Some History) Done old mid new from to later port size same by = by
-cause_later (Some History) Usage old mid new from to later port size same by = by
-cause_later (Some History) (BadGeometry field) old mid new from to later port size same by = by
-cause_later (Some History) (NotCreated why) old mid new from to later port size same by = by
-cause_later (Some History) (NotMounted why) old mid new from to later port size same by = (by.0, mount_later why old mid new later by.1, wants_later why old mid new later by.2, by.3)
-cause_later (Some History) (Stopped why) old mid new from to later port size same by = by
-cause_later (Some History) Port old mid new from to later port size same by = (by.0, rose_later old.port_faults mid.port_faults new.port_faults by.1 port)
-cause_later (Some History) Memory old mid new from to later port size same by = by
-cause_later (Some (Create asked)) Done old mid new from to later port size same by = by
-cause_later (Some (Create asked)) Usage old mid new from to later port size same by = by
-cause_later (Some (Create asked)) (BadGeometry field) old mid new from to later port size same by = by
-cause_later (Some (Create asked)) (NotCreated (creating.Exists disk)) old mid new from to later port size same by = by
-cause_later (Some (Create asked)) (NotCreated creating.LogFault) old mid new from to later port size same by =
+cause_later None ended old mid new from to later port sizes same by = by
+cause_later (Some Session) Done old mid new from to later port sizes same by = by
+cause_later (Some Session) Usage old mid new from to later port sizes same by = by
+cause_later (Some Session) (BadGeometry field) old mid new from to later port sizes same by = by
+cause_later (Some Session) (NotCreated why) old mid new from to later port sizes same by = by
+cause_later (Some Session) (NotMounted why) old mid new from to later port sizes same by = (by.0, mount_later why old mid new later by.1, wants_later why old mid new later by.2, by.3)
+cause_later (Some Session) (Stopped why) old mid new from to later port sizes same by = (by.0, stopped_later why old mid new from to later port same by.1)
+cause_later (Some Session) Port old mid new from to later port sizes same by = by
+cause_later (Some Session) Memory old mid new from to later port sizes same by = by
+cause_later (Some History) Done old mid new from to later port sizes same by = by
+cause_later (Some History) Usage old mid new from to later port sizes same by = by
+cause_later (Some History) (BadGeometry field) old mid new from to later port sizes same by = by
+cause_later (Some History) (NotCreated why) old mid new from to later port sizes same by = by
+cause_later (Some History) (NotMounted why) old mid new from to later port sizes same by = (by.0, mount_later why old mid new later by.1, wants_later why old mid new later by.2, by.3)
+cause_later (Some History) (Stopped why) old mid new from to later port sizes same by = by
+cause_later (Some History) Port old mid new from to later port sizes same by = (by.0, rose_later old.port_faults mid.port_faults new.port_faults by.1 port)
+cause_later (Some History) Memory old mid new from to later port sizes same by = by
+cause_later (Some (Create asked)) Done old mid new from to later port sizes same by = (by.0, new_sizes_later asked mid new sizes by.1)
+cause_later (Some (Create asked)) Usage old mid new from to later port sizes same by = by
+cause_later (Some (Create asked)) (BadGeometry field) old mid new from to later port sizes same by = by
+cause_later (Some (Create asked)) (NotCreated (creating.Exists disk)) old mid new from to later port sizes same by = by
+cause_later (Some (Create asked)) (NotCreated creating.LogFault) old mid new from to later port sizes same by =
     (by.0, by.1, rose_later (old.faults 0) (mid.faults 0) (new.faults 0) by.2 (later 0))
-cause_later (Some (Create asked)) (NotCreated (creating.MemberFault first second)) old mid new from to later port size same by =
-    (by.0, by.1, (by.2.0, (by.2.1.0, rose_later (old.faults (second + 1)) (mid.faults (second + 1)) (new.faults (second + 1)) by.2.1.1 (later (second + 1))), size ∙ by.2.2))
-cause_later (Some (Create asked)) (NotMounted why) old mid new from to later port size same by = by
-cause_later (Some (Create asked)) (Stopped why) old mid new from to later port size same by = by
-cause_later (Some (Create asked)) Port old mid new from to later port size same by = rose_later old.port_faults mid.port_faults new.port_faults by port
-cause_later (Some (Create asked)) Memory old mid new from to later port size same by = by
+cause_later (Some (Create asked)) (NotCreated (creating.MemberFault first second)) old mid new from to later port sizes same by =
+    (by.0, by.1, (by.2.0, (by.2.1.0, rose_later (old.faults (second + 1)) (mid.faults (second + 1)) (new.faults (second + 1)) by.2.1.1 (later (second + 1))), sizes 0 ∙ by.2.2))
+cause_later (Some (Create asked)) (NotMounted why) old mid new from to later port sizes same by = by
+cause_later (Some (Create asked)) (Stopped why) old mid new from to later port sizes same by = by
+cause_later (Some (Create asked)) Port old mid new from to later port sizes same by =
+    (by.0, rose_later old.port_faults mid.port_faults new.port_faults by.1 port, new_sizes_later asked mid new sizes by.2)
+cause_later (Some (Create asked)) Memory old mid new from to later port sizes same by = by
 
 -- status 2 is that of one ending alone
 not_two : (ended : Ended) → (ended ≡ Usage → ⊥) → status_of ended ≡ 2 → ⊥
@@ -216,21 +226,21 @@ nothing_said line a b c stays spoken = record {
   changes = changes_said Same Same a b c line (λ x y same. same) stays.changes spoken.steps spoken.disks;
 }
 
--- no part of an empty line is said
-nothing_more : (b c : View) (part rest : List ℕ) → part ++ rest ≡ [] → c.now.said ≡ b.now.said ++ part → c.now.said ≡ b.now.said
-nothing_more b c [] rest none said = said ∙ append-nil b.now.said
-nothing_more b c (byte ∷ part) rest none said = absurd (cc none)
-
 -- what was said of the records stays so, since no line follows
 records_said : (ended : Ended) (text : List ℕ) (x : Contents) (b c : View) → SaysRecords ended text x b.now → SaysLast (last_line ended) b.now.said b c
     → SaysRecords ended text x c.now
-records_said Done text x b c says last = nothing_more b c last.part last.rest last.whole last.said ∙ says
+records_said Done text x b c says last = nothing_more c.now.said b.now.said last.part last.rest last.whole last.said ∙ says
 records_said Usage text x b c says last = tt
 records_said (BadGeometry field) text x b c says last = tt
 records_said (NotCreated why) text x b c says last = tt
 records_said (NotMounted why) text x b c says last = tt
 records_said (Stopped why) text x b c says last = tt
-records_said Port text x b c says last = record { part = says.part; rest = says.rest; whole = says.whole; said = nothing_more b c last.part last.rest last.whole last.said ∙ says.said }
+records_said Port text x b c says last = record {
+  part = says.part;
+  rest = says.rest;
+  whole = says.whole;
+  said = nothing_more c.now.said b.now.said last.part last.rest last.whole last.said ∙ says.said;
+}
 records_said Memory text x b c says last = tt
 
 -- the array was mounted, and then the last line was said
@@ -270,7 +280,7 @@ module _ (command : Option Command) (ended : Ended) (old mid new : View) (from t
   pub run_ends : (status : ℕ) → status ≡ status_of ended → EndsAs status command ended old new from to
   run_ends status is = record {
     number = is;
-    cause = cause_later command ended old mid new from to spoken.steps.faults spoken.steps.port_faults (spoken.sizes 0) (λ told. spoken.disks (told_mid told)) outcome.cause;
+    cause = cause_later command ended old mid new from to spoken.steps.faults spoken.steps.port_faults spoken.sizes (λ told. spoken.disks (told_mid told)) outcome.cause;
     first = outcome.first;
     unchanged = leaves;
     unmounted = found_none;

@@ -1,7 +1,9 @@
 -- What the last line does.
-use Rattle.std.proofs.Common.{◌≡◌, ◌⊎◌, inl, inr, ⊎_elim, ℕ, ◌≤◌, List, [], ◌++◌, Option, Some, None, Result, Ok, Err, IsTrue, refl, sym, ap₂, subst, append-nil, arith}
+use Rattle.std.proofs.Common.{◌≡◌, ◌⊎◌, inl, inr, ℕ, ◌<◌, ◌≤◌, List, [], ◌∷◌, ◌++◌, length, take, Option, Some, None, Result, Ok, Err, IsTrue, refl, sym, ap, ap₂, subst, ◌∙◌, append-nil, arith}
 use Rattle.std.specs.Io.KnownBytes.{Consumes}
+use Rattle.std.proofs.lemmas.List.{length-take-le}
 use Rattle.trap_bank.specs.Faults.{Rose}
+use Rattle.trap_bank.proofs.Rising.{rose_since}
 use Rattle.trap_bank.specs.Disks.{Contents, Disks, View}
 use Rattle.trap_bank.specs.Calls.{Says, MayLeave, IsLawful}
 use Rattle.trap_bank.specs.declared.disks.Failed.{Failed}
@@ -38,34 +40,43 @@ spoken_by result said line old new is call =
       last = says_last result line old new call;
     }
 
+-- some bytes of a line, if its length isn't 0
+pub some_taken : (len : ℕ) (line : List ℕ) → 0 < len → len ≤ length line → 0 < length (take len line)
+some_taken len line some short = omega (arith, some, length-take-le len line short)
+
 -- in one call of the bank
-pub said_by : {B : Type 0} (view : B → View) (result : Result (Unit {0}) Failed) (said line : List ℕ) (old new : B) → said ≡ line
+pub said_by : {B : Type 0} (view : B → View) (result : Result (Unit {0}) Failed) (said line : List ℕ) (old new : B) → 0 < length said → said ≡ line
     → Says said result (view old) (view new) → SaysInOne view line old new
-said_by view result said line old new is call = inr (result, subst (λ (line : List ℕ). Says line result (view old) (view new)) is call)
+said_by view result [] line old new some is call = absurd (omega (arith, some))
+said_by view result (byte ∷ said) line old new some is call = subst (λ (line : List ℕ). SaysInOne view line old new) is (result, call)
+
+-- or by none, where it is empty
+pub said_by_none : {B : Type 0} (view : B → View) (line : List ℕ) (bank : B) → line ≡ [] → SaysInOne view line bank bank
+said_by_none view line bank none = subst (λ (line : List ℕ). SaysInOne view line bank bank) (sym none) refl
 
 -- no line is said
-spoken_nothing : (line : List ℕ) (v : View) → line ≡ [] → Spoken line v v
-spoken_nothing line v none = subst (λ (line : List ℕ). Spoken line v v) (sym none) (record {
+spoken_nothing : (v : View) → Spoken [] v v
+spoken_nothing v = record {
   steps = nothing_done v (SpokePart []) (SpokePart [])
       (λ x was. record { disks = refl; says = record { part = []; rest = []; whole = refl; said = sym (append-nil x.said) } });
   sizes = λ e. refl;
   disks = λ told. refl;
   last = λ told. record { part = []; rest = []; whole = refl; said = sym (append-nil v.now.said); port = inl refl };
-})
+}
 
 -- a line that is said in one call, or an empty one, is said
 pub spoken_once : {B : Type 0} (view : B → View) (line : List ℕ) (old new : B) → SaysInOne view line old new → Spoken line (view old) (view new)
-spoken_once view line old new said = ⊎_elim
-    (λ (none : (line ≡ []) × (new ≡ old)). subst (λ (bank : _). Spoken line (view old) (view bank)) (sym none.1) (spoken_nothing line (view old) none.0))
-    (λ (some : (result : Result (Unit {0}) Failed) × Says line result (view old) (view new)). spoken_by some.0 line line (view old) (view new) refl some.1)
-    said
+spoken_once view [] old new said = subst (λ (bank : _). Spoken [] (view old) (view bank)) (sym said) (spoken_nothing (view old))
+spoken_once view (byte ∷ more) old new said = spoken_by said.0 (byte ∷ more) (byte ∷ more) (view old) (view new) refl said.1
 
--- a count that rose before a while, or since a while
-pub rose_later : (a b c : ℕ) → Rose a b → b ≤ c → Rose a c
-rose_later a b c rose later = omega (arith, rose, later)
+-- a part of an empty line is empty
+pub no_part : (part rest line : List ℕ) → line ≡ [] → part ++ rest ≡ line → part ≡ []
+no_part [] rest line none is = refl
+no_part (byte ∷ part) rest line none is = absurd (cc)
 
-pub rose_since : (a b c : ℕ) → a ≤ b → Rose b c → Rose a c
-rose_since a b c later rose = omega (arith, rose, later)
+-- and no more was said
+pub nothing_more : (said before part rest : List ℕ) → part ++ rest ≡ [] → said ≡ before ++ part → said ≡ before
+nothing_more said before part rest none is = is ∙ ap (λ (l : List ℕ). before ++ l) (no_part part rest [] refl none) ∙ append-nil before
 
 -- the last line of a run is said by it
 pub last_since : (old mid new : View) → old.port_faults ≤ mid.port_faults → {line before : List ℕ} → SaysLast line before mid new → SaysLast line before old new

@@ -13,7 +13,6 @@ use Rattle.trap_array.specs.Holding.{Holds, HoldsBy}
 use Rattle.trap_index.specs.Indexed.{Indexed}
 use Rattle.trap_raid.specs.Members.{Counts}
 use Rattle.trap_array.specs.Calls.{Mounted, StandsFor, IsReady, MemberFails}
-use Rattle.trap_array.specs.Instants.{HasBadRecord}
 use Rattle.trap_array.specs.MountEnds.{KnowsDisks}
 use Rattle.trap_array.specs.Reading.{ReadsIndex}
 use Rattle.trap_array.specs.Mounting.{Mounts, Refuses, MountFails, FoundLost, MayPutHead, WritesHead, HasFound, IsNoLog, is_refusal}
@@ -23,20 +22,21 @@ use Rattle.trap_mount.specs.declared.fault.MountFault.TheVariants.{NotAnArray, L
 use Rattle.trap_array.specs.declared.fault.Denied.TheVariants as denied
 use Rattle.trap_session.specs.declared.outcome.SessionFault.TheVariants as serving
 use Rattle.trap_session.specs.Changing.{DiffersIn, ChangesOnly}
+use Rattle.trap_session.specs.Store.{IsBadFor}
 use Rattle.trap_session.specs.Serving.{Serves, StandsAtEnd, Took}
 use Rattle.trap_cli.proofs.Saying.{took_none}
+use Rattle.trap_bank.proofs.Rising.{rose_since}
 use Rattle.trap_cli.specs.declared.outcome.Ended.{Ended}
 use Rattle.trap_cli.specs.declared.outcome.Ended.TheVariants.{Done, Usage, BadGeometry, NotCreated, NotMounted, Stopped, Port, Memory}
 use Rattle.trap_cli.specs.Command.{command_session}
 use Rattle.trap_cli.specs.Ended.{leaves_disks}
 use Rattle.trap_cli.specs.Cause.{SessionCause, WantsMemory, ShowsSizes}
 use Rattle.trap_cli.specs.Stopping.{MountPasses, MemberFaults, NamesRecord}
-use Rattle.trap_cli.specs.Said.{held_store, BeginsHeld, SessionSaid, ServedSaid, ServedCause, ServedBad}
+use Rattle.trap_cli.specs.Said.{held_store, BeginsHeld, SessionSaid, ServedSaid, ServedCause, FindsBad}
 use Rattle.trap_cli.specs.Run.{CommandOutcome, reads_input, only_mounts, ends_silent}
 use Rattle.trap_cli.specs.Listing.{index_text}
-use Rattle.trap_cli.specs.Session.{IsMounted, MountsOnly, SaysRecords}
+use Rattle.trap_cli.specs.Session.{MountsArray, MountsOnly, SaysRecords}
 use Rattle.trap_cli.specs.Frame.{MayChange, ChangesNothing, StaysHeld}
-use Rattle.trap_cli.proofs.Saying.{rose_since}
 use Rattle.trap_cli.proofs.Framing.{changes_wider, changes_none, changes_reads, no_log_fault, mount_changes, session_changes}
 use Rattle.trap_cli.proofs.Heads.{mounted_holds, held_mounted, keeps_found, keeps_like, found_out, mounting_moves}
 use Rattle.trap_cli.proofs.Stopping.{stops_held}
@@ -76,23 +76,26 @@ reads_by g h k i old same reads =
     record { of = by.of; first = by.first; base_time = by.base_time; offset = by.offset; end = by.end; time = by.time; read = by.read }
 
 -- the record that is damaged
-names_record : (array : Mounted) (offset : ℕ) (old mid new : View) → HasFound array old mid → KnowsDisks array old → new.tells ≡ old.tells
-    → ServedBad array (Stopped (serving.Array (denied.Damaged offset))) new → NamesRecord offset old new
-names_record array offset old mid new found knows now bad told =
-    let passed = found.passed told in (
-      array.g,
-      passed.0,
-      bad.0.index,
-      passed.1.records.slots.head,
-      record { read = array.index; reads = reads_by array.g passed.0 array.head array.index old passed.2.same knows.index; more = bad.2 },
-      subst (λ (g : Geometry). HasBadRecord g bad.0.index new.now.disks offset) bad.1 (bad.3 (subst IsTrue (sym now) told)),
-    )
+names_record : (array : Mounted) (offset : ℕ) (old mid new : View) (from : Stream) → HasFound array old mid → KnowsDisks array old → new.tells ≡ old.tells
+    → FindsBad array offset new from → IsTrue old.tells → NamesRecord offset old new from
+names_record array offset old mid new from found knows now bad told =
+    let passed = found.passed told in
+    record {
+      g = array.g;
+      head = passed.0;
+      index = bad.b.index;
+      found = passed.1.records.slots.head;
+      since = record { read = array.index; reads = reads_by array.g passed.0 array.head array.index old passed.2.same knows.index; more = bad.more };
+      asked = bad.asked;
+      line = bad.line;
+      bad = subst (λ (g : Geometry). IsBadFor g bad.b.index bad.asked new.now.disks offset) bad.same (bad.bad (subst IsTrue (sym now) told));
+    }
 
 -- why a mounted session ended so is why the command did
 ended_cause : (array : Mounted) (ended : Ended) (old mid new : View) (from to : Stream)
     → ((e : ℕ) → old.faults e ≤ mid.faults e) → old.port_faults ≤ mid.port_faults
     → ((g : Geometry) (s : State) → IsTrue old.tells → Holds g s old.now.disks → (array.g ≡ g) × Always mid (StandsFor array s))
-    → mid.tells ≡ old.tells → HasFound array old mid → KnowsDisks array old → ServedBad array ended new → new.tells ≡ old.tells
+    → mid.tells ≡ old.tells → HasFound array old mid → KnowsDisks array old → ((offset : ℕ) → ended ≡ Stopped (serving.Array (denied.Damaged offset)) → FindsBad array offset new from) → new.tells ≡ old.tells
     → array.is_stopped ≡ false → IsReady array mid → ((e : ℕ) → mid.sizes e ≡ old.sizes e)
     → ((g : Geometry) (h : Head) (s : State) → IsTrue old.tells → HoldsBy g h s old.now.disks → (array.g ≡ g) × FoundLost g h array.head old mid)
     → ServedCause array ended mid new from to
@@ -110,7 +113,7 @@ ended_cause array (Stopped (serving.Array (denied.MemberFault first second))) ol
     (λ told. (array.g, passes_found array old mid found told), member_faults array first second old mid new found (later (second + 1)) going ready sizes held by)
 ended_cause array (Stopped (serving.Array (denied.Damaged offset))) old mid new from to later port stands tells found knows bad now going ready sizes held by = (
   λ told. (array.g, passes_found array old mid found told),
-  (λ told g s holds. by (subst IsTrue (sym tells) told) s (stands g s told holds).1, names_record array offset old mid new found knows now bad),
+  (λ told g s holds. by (subst IsTrue (sym tells) told) s (stands g s told holds).1, names_record array offset old mid new from found knows now (bad offset refl)),
 )
 ended_cause array (Stopped (serving.Array denied.Stopped)) old mid new from to later port stands tells found knows bad now going ready sizes held by = absurd by
 ended_cause array (Stopped serving.ReadFault) old mid new from to later port stands tells found knows bad now going ready sizes held by = (λ told. (array.g, passes_found array old mid found told), by)
@@ -148,7 +151,7 @@ without_memory Port is = absurd (cc is)
 without_memory Memory is = refl
 
 -- and after mounting it makes no call
-pub session_mounts : {B : Type 0} (view : B → View) (a : Mounted) (first mounted last : B) (ended : Ended) → IsMounted a (view first) (view mounted)
+pub session_mounts : {B : Type 0} (view : B → View) (a : Mounted) (first mounted last : B) (ended : Ended) → MountsArray a (view first) (view mounted)
     → (ended ≡ Memory → last ≡ mounted) → only_mounts command_session ended ≡ true → MountsOnly view ended first last
 session_mounts view a first mounted last ended mounts idle is = record {
   a = a;
@@ -224,7 +227,7 @@ module _ (a b : View) (from : Stream) (mounted : Moves a b (Mounts a b) (Mounts 
       (same_sizes : (e : ℕ) → c.sizes e ≡ b.sizes e)
       (changes : ChangesOnly (MayTouch array) b c)
       (held : StandsAtEnd array b c)
-      (took : Took from to) (idle : ended ≡ Memory → (c.now ≡ b.now) × (to ≡ from)) (bad : ServedBad array ended c)
+      (took : Took from to) (idle : ended ≡ Memory → (c.now ≡ b.now) × (to ≡ from)) (bad : (offset : ℕ) → ended ≡ Stopped (serving.Array (denied.Damaged offset)) → FindsBad array offset c from)
       (going : array.is_stopped ≡ false) (ready : IsReady array b) where
     told_mid : IsTrue a.tells → IsTrue b.tells
     told_mid told = subst IsTrue (sym mounted.tells) told

@@ -11,7 +11,7 @@ use Rattle.trap_format.specs.declared.head.Head.{Head}
 use Rattle.trap_model.specs.declared.history.State.{State}
 use Rattle.trap_raid.specs.Members.{IsOut}
 use Rattle.trap_array.specs.Holding.{HoldsBy}
-use Rattle.trap_array.specs.Creating.{IsLowest}
+use Rattle.trap_array.specs.Creating.{IsLowest, AreSized}
 use Rattle.trap_array.specs.Mounting.{Refuses, MountFails, SizesShow, names_member}
 use Rattle.trap_mount.specs.declared.fault.CreateFault.{CreateFault}
 use Rattle.trap_mount.specs.declared.fault.CreateFault.TheVariants as creating
@@ -21,7 +21,8 @@ use Rattle.trap_cli.specs.Stopping.{IsMountable, TookAll, StopCause}
 use Rattle.trap_cli.specs.declared.command.Command.{Command}
 use Rattle.trap_cli.specs.declared.command.Command.TheVariants.{Create, Session, History}
 use Rattle.trap_cli.specs.declared.outcome.Ended.{Ended}
-use Rattle.trap_cli.specs.declared.outcome.Ended.TheVariants.{Done, Usage, BadGeometry, NotCreated, NotMounted, Stopped, Port, Memory}
+use Rattle.trap_cli.specs.declared.outcome.Ended.TheVariants.{Done, Usage, BadGeometry, NotCreated}
+use Rattle.trap_cli.specs.declared.outcome.Ended.TheVariants.{NotMounted, Stopped, Port, Memory}
 
 -- both numbers are those of a member whose count rose
 abbrev pub MemberRose : ℕ → ℕ → View → View → Type 0
@@ -80,16 +81,22 @@ HistoryCause (Stopped why) old new = ⊥
 HistoryCause Port old new = IsMountable old × Rose old.port_faults new.port_faults
 HistoryCause Memory old new = ⊥
 
--- why `create` ends so
+-- whatever the bank tells: disk 0 and each member's disk have the sizes of the array asked for
+abbrev pub HasNewSizes : Asked → View → Type 0
+HasNewSizes asked new = (g : Geometry) → HasNumbers g asked
+    → (new.sizes 0 ≡ Some (log_size g)) × AreSized g g.members new
+
+-- why `create` ends so, and what the sizes show where the array was made
 abbrev pub CreateCause : Asked → Ended → View → View → Type 0
-CreateCause asked Done old new = first_broken asked ≡ None
+CreateCause asked Done old new = (first_broken asked ≡ None) × HasNewSizes asked new
 CreateCause asked Usage old new = ⊥
 CreateCause asked (BadGeometry field) old new = first_broken asked ≡ Some field
 CreateCause asked (NotCreated why) old new =
     (g : Geometry) × HasNumbers g asked × CreateDenied g why old new
 CreateCause asked (NotMounted why) old new = ⊥
 CreateCause asked (Stopped why) old new = ⊥
-CreateCause asked Port old new = Rose old.port_faults new.port_faults
+CreateCause asked Port old new =
+    (first_broken asked ≡ None) × Rose old.port_faults new.port_faults × HasNewSizes asked new
 CreateCause asked Memory old new = ⊥
 
 abbrev pub CauseOf : Option Command → Ended → View → View → Stream → Stream → Type 0

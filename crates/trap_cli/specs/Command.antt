@@ -1,5 +1,6 @@
 -- What the words after the program's name are.
-use Rattle.std.specs.Prelude.{◌≡◌, ℕ, List, [], ◌∷◌, map, codes, string_bytes, String, Option, Some, None}
+use Rattle.std.specs.Prelude.{◌≡◌, ℕ, List, [], ◌∷◌, map, codes, string_bytes, String, Option, Some}
+use Rattle.std.specs.Prelude.{None}
 use Rattle.std.specs.declared.alloc.Global.{Global}
 use Rattle.trap_model.specs.declared.asked.Asked.{Asked}
 use Rattle.trap_script.specs.Numbers.{number_of}

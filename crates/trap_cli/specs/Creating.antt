@@ -12,7 +12,8 @@ use Rattle.trap_mount.specs.declared.fault.CreateFault.{CreateFault}
 use Rattle.trap_mount.specs.declared.fault.CreateFault.TheVariants as creating
 use Rattle.trap_cli.specs.Ended.{created_line}
 use Rattle.trap_cli.specs.declared.outcome.Ended.{Ended}
-use Rattle.trap_cli.specs.declared.outcome.Ended.TheVariants.{Done, Usage, BadGeometry, NotCreated, NotMounted, Stopped, Port, Memory}
+use Rattle.trap_cli.specs.declared.outcome.Ended.TheVariants.{Done, Usage, BadGeometry, NotCreated}
+use Rattle.trap_cli.specs.declared.outcome.Ended.TheVariants.{NotMounted, Stopped, Port, Memory}
 
 -- the disks hold the new array, whole: its head calls no member lost, and each member's disk is
 -- there

@@ -14,8 +14,11 @@ use Rattle.trap_array.specs.Calls.{Mounted}
 use Rattle.trap_mount.specs.CreateEnds.{StaysBeyond}
 use Rattle.trap_array.specs.Holding.{HoldsBy}
 use Rattle.trap_array.specs.Mounting.{HasFound, MayPutHead}
+use Rattle.trap_mount.specs.declared.fault.MountFault.{MountFault}
 use Rattle.trap_cli.specs.declared.command.Command.{Command}
 use Rattle.trap_cli.specs.declared.command.Command.TheVariants.{Create, Session, History}
+use Rattle.trap_cli.specs.declared.outcome.Ended.{Ended}
+use Rattle.trap_cli.specs.declared.outcome.Ended.TheVariants.{NotMounted}
 
 -- by this step of the disks, whatever was said
 abbrev pub ByDisks : (Disks → Disks → Type 0) → Contents → Contents → Type 0
@@ -56,6 +59,11 @@ MakesNone (Some (Create asked)) e = (g : Geometry) → HasNumbers g asked → g.
 pub record Frames (command : Option Command) (old new : View) : Type 0 where
   pub changes : ChangesBy (MayChange command old new) old new
   pub sizes : (e : ℕ) → MakesNone command e → new.sizes e ≡ old.sizes e
+
+-- where mounting ended in a fault, nothing was written, or the head that was found
+abbrev pub LeavesUnmounted : Ended → View → View → Type 0
+LeavesUnmounted ended old new =
+    (why : MountFault) → ended ≡ NotMounted why → ChangesBy (MayPutHead old new) old new
 
 -- no disk changed, at the end or at any moment
 pub record ChangesNothing (old new : View) : Type 0 where

@@ -1,17 +1,20 @@
 -- How the lines of a mounted array's entries are said, piece after piece.
-use Rattle.std.specs.Prelude.{◌≡◌, ℕ, ◌+◌, List, [], ◌∷◌, ◌++◌, take, flat_map, IsTrue, Result, Ok, Err}
+use Rattle.std.specs.Prelude.{◌≡◌, ℕ, ◌+◌, List, [], ◌∷◌, ◌++◌, take, flat_map, IsTrue, Result, Ok}
+use Rattle.std.specs.Prelude.{Err}
 use Rattle.trap_bank.specs.Disks.{Contents, View}
 use Rattle.trap_bank.specs.Calls.{SaysPart}
 use Rattle.trap_bank.specs.Steps.{SpokePart}
 use Rattle.trap_index.specs.Indexed.{Indexed, rec_len}
 use Rattle.trap_index.specs.declared.item.Item.{Item}
+use Rattle.trap_model.specs.Limits.{record_header_len}
 use Rattle.trap_model.specs.declared.log_record.LogRec.{LogRec}
 use Rattle.trap_array.specs.Calls.{Mounted}
 use Rattle.trap_cli.specs.History.{line_of}
 
--- the line of the entry with this item: a record has a header of 26 bytes
+-- the line of the entry with this item
 abbrev pub item_line : ℕ → Item → List ℕ
-item_line q item = line_of q item.time item.block (26 + item.plen + item.slen) item.snap
+item_line q item =
+    line_of q item.time item.block (record_header_len + item.plen + item.slen) item.snap
 
 -- the line of the record with this header and number
 abbrev pub record_line : ℕ → LogRec → List ℕ

@@ -1,5 +1,6 @@
 -- What a run says and leaves.
-use Rattle.std.specs.Prelude.{◌≡◌, ◌⊎◌, ℕ, ◌++◌, List, [], Option, Some, None, IsTrue, Bool, true, false}
+use Rattle.std.specs.Prelude.{◌≡◌, ◌⊎◌, ℕ, ◌++◌, List, [], Option, Some, None, IsTrue, Bool, true}
+use Rattle.std.specs.Prelude.{false}
 use Rattle.trap_bank.specs.Faults.{Rose}
 use Rattle.trap_bank.specs.Disks.{View}
 use Rattle.trap_bank.specs.Steps.{Steps}
@@ -8,21 +9,21 @@ use Rattle.trap_model.specs.declared.numbers.Geometry.{Geometry}
 use Rattle.trap_format.specs.Checked.{first_broken, HasNumbers}
 use Rattle.trap_format.specs.declared.limits.Field.{Field}
 use Rattle.trap_array.specs.Creating.{IsLowest}
-use Rattle.trap_array.specs.Mounting.{IsNoLog, MayPutHead}
+use Rattle.trap_array.specs.Mounting.{IsNoLog}
 use Rattle.trap_mount.specs.declared.fault.CreateFault.TheVariants.{Exists}
-use Rattle.trap_mount.specs.declared.fault.MountFault.{MountFault}
 use Rattle.trap_mount.specs.declared.fault.MountFault.TheVariants.{NotAnArray}
 use Rattle.trap_session.specs.Serving.{Took}
 use Rattle.trap_cli.specs.Ended.{status_of, last_line, leaves_disks}
-use Rattle.trap_cli.specs.Session.{GoesByLines, MountsOnly}
-use Rattle.trap_cli.specs.Frame.{Frames, ChangesBy, ChangesNothing, StaysHeld}
+use Rattle.trap_cli.specs.Session.{SaysInOne, GoesByLines, MountsOnly}
+use Rattle.trap_cli.specs.Frame.{Frames, LeavesUnmounted, ChangesNothing, StaysHeld}
 use Rattle.trap_cli.specs.Cause.{CauseOf}
 use Rattle.trap_cli.specs.Said.{SaidAndHeld}
 use Rattle.trap_cli.specs.Crash.{LeavesNow, LeavesWithFront}
 use Rattle.trap_cli.specs.declared.command.Command.{Command}
 use Rattle.trap_cli.specs.declared.command.Command.TheVariants.{Create, Session, History}
 use Rattle.trap_cli.specs.declared.outcome.Ended.{Ended}
-use Rattle.trap_cli.specs.declared.outcome.Ended.TheVariants.{Done, Usage, BadGeometry, NotCreated, NotMounted, Stopped, Port, Memory}
+use Rattle.trap_cli.specs.declared.outcome.Ended.TheVariants.{Done, Usage, BadGeometry, NotCreated}
+use Rattle.trap_cli.specs.declared.outcome.Ended.TheVariants.{NotMounted, Stopped, Port, Memory}
 
 -- those bytes were said, and then the line; or a first part of it, where the port failed
 pub record SaysLast (line before : List ℕ) (old new : View) : Type 0 where
@@ -66,11 +67,6 @@ only_mounts (Some History) (NotMounted why) = false
 only_mounts (Some History) (Stopped why) = false
 only_mounts (Some History) Port = true
 only_mounts (Some History) Memory = false
-
--- where mounting ended in a fault, nothing was written, or the head that was found
-abbrev pub LeavesUnmounted : Ended → View → View → Type 0
-LeavesUnmounted ended old new =
-    (why : MountFault) → ended ≡ NotMounted why → ChangesBy (MayPutHead old new) old new
 
 -- the command ended before it said anything
 abbrev pub ends_silent : Ended → Bool
@@ -131,6 +127,13 @@ pub record EndsAs (status : ℕ) (command : Option Command) (ended : Ended) (old
       → SaysLast (last_line ended) old.now.said old new
   pub told : IsTrue old.tells → ThenLastLine command ended old new from to
 
+-- The command ended so, and then its last line was said in one call, or in none where it is empty.
+pub record ThenSays {B : Type 0} (view : B → View) (command : Option Command) (ended : Ended)
+    (first last : B) (from to : Stream) : Type 0 where
+  pub done : B
+  pub outcome : CommandOutcome command ended (view first) (view done) from to
+  pub said : SaysInOne view (last_line ended) done last
+
 -- A run of the command ended in one of the ways. Where the input was read, its lines were answered
 -- one after another, each reply in one call of the bank. Where the array was mounted and no line
 -- was read, no disk changed after mounting.
@@ -140,3 +143,4 @@ pub record RunOutcome {B : Type 0} (view : B → View) (status : ℕ) (command :
   pub ends : EndsAs status command ended (view first) (view last) from to
   pub lines : reads_input command ended ≡ true → GoesByLines view ended first last from to
   pub mounted : only_mounts command ended ≡ true → MountsOnly view ended first last
+  pub says : ThenSays view command ended first last from to

@@ -1,5 +1,6 @@
 -- What was said and what the disks hold when a command is done, before its last line is said.
-use Rattle.std.specs.Prelude.{◌≡◌, ◌⊎◌, ℕ, ◌++◌, List, [], Some, None, Option, IsTrue, Err, true, false}
+use Rattle.std.specs.Prelude.{◌≡◌, ◌⊎◌, ℕ, ◌++◌, List, [], Some, None, Option, IsTrue, Err, true}
+use Rattle.std.specs.Prelude.{false}
 use Rattle.trap_bank.specs.Disks.{Contents, Disks, View}
 use Rattle.trap_bank.specs.Calls.{SaysPart}
 use Rattle.trap_bank.specs.Stream.{Stream}
@@ -9,18 +10,24 @@ use Rattle.trap_array.specs.Calls.{Mounted, StandsFor}
 use Rattle.trap_model.specs.ArrayStep.{step}
 use Rattle.trap_model.specs.declared.numbers.Geometry.{Geometry}
 use Rattle.trap_model.specs.declared.history.State.{State}
+use Rattle.trap_model.specs.declared.request.Request.{Request}
 use Rattle.trap_array.specs.Holding.{Holds}
+use Rattle.trap_array.specs.declared.fault.Denied.TheVariants as denied
 use Rattle.trap_array.specs.Mounting.{is_refusal}
 use Rattle.trap_session.specs.Changing.{ChangesOnly}
 use Rattle.trap_session.specs.Store.{Store, array_store, NamesBad}
 use Rattle.trap_session.specs.Leaving.{HasRecordsMore}
-use Rattle.trap_session.specs.Serving.{StopsDone, StopsAfter, StopsAs, StopsBy, StandsAtEnd, Took, TookQuit}
+use Rattle.trap_session.specs.declared.outcome.SessionFault.TheVariants as serving
+use Rattle.trap_session.specs.Serving.{StopsDone, StopsAfter, StopsAs, StopsBy, StandsAtEnd, Took}
+use Rattle.trap_session.specs.Serving.{TookQuit}
 use Rattle.trap_cli.specs.Creating.{CreateSaid}
 use Rattle.trap_cli.specs.History.{history_text}
+use Rattle.trap_cli.specs.Stopping.{IsLineOf}
 use Rattle.trap_cli.specs.declared.command.Command.{Command}
 use Rattle.trap_cli.specs.declared.command.Command.TheVariants.{Create, Session, History}
 use Rattle.trap_cli.specs.declared.outcome.Ended.{Ended}
-use Rattle.trap_cli.specs.declared.outcome.Ended.TheVariants.{Done, Usage, BadGeometry, NotCreated, NotMounted, Stopped, Port, Memory}
+use Rattle.trap_cli.specs.declared.outcome.Ended.TheVariants.{Done, Usage, BadGeometry, NotCreated}
+use Rattle.trap_cli.specs.declared.outcome.Ended.TheVariants.{NotMounted, Stopped, Port, Memory}
 
 -- The states of an array of these numbers, by how disks have them. Where a disk failed in a
 -- request, the disks have the state before it or the one after.
@@ -107,11 +114,15 @@ ServedCause a (Stopped why) old new from to = StopsBy a (Err why) old new from t
 ServedCause a Port old new from to = ⊥
 ServedCause a Memory old new from to = Unit {0}
 
--- the record that a mounted session found damaged, by what the array knows at its end
-abbrev pub ServedBad : Mounted → Ended → View → Type 0
-ServedBad a (Stopped why) new =
-    (b : Mounted) × (b.g ≡ a.g) × HasRecordsMore a.index b.index × NamesBad b why new
-ServedBad a ended new = Unit {0}
+-- a line of the input in which a mounted session found a record damaged, by what the array knows at
+-- its end
+pub record FindsBad (a : Mounted) (offset : ℕ) (new : View) (from : Stream) : Type 0 where
+  pub b : Mounted
+  pub same : b.g ≡ a.g
+  pub more : HasRecordsMore a.index b.index
+  pub asked : Request
+  pub line : IsLineOf a.g.block from asked
+  pub bad : NamesBad b asked (serving.Array (denied.Damaged offset)) new
 
 -- what a mounted session leaves: no size changed, nor any byte but what calls of the array may
 -- touch; a state that was held is held; the bytes taken are the next of the source's
@@ -121,4 +132,5 @@ pub record LeavesMounted (a : Mounted) (ended : Ended) (old new : View)
   pub changes : ChangesOnly (MayTouch a) old new
   pub held : StandsAtEnd a old new
   pub took : Took from to
-  pub bad : ServedBad a ended new
+  pub bad : (offset : ℕ) → ended ≡ Stopped (serving.Array (denied.Damaged offset))
+      → FindsBad a offset new from

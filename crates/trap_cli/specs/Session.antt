@@ -1,6 +1,6 @@
 -- What a run over a mounted array is. A session: the array is mounted, its lines are answered one
 -- after another, and the last line is said. No call of the bank comes between.
-use Rattle.std.specs.Prelude.{◌≡◌, ◌⊎◌, ℕ, List, [], ◌++◌, IsTrue, Result, Ok, Err}
+use Rattle.std.specs.Prelude.{◌≡◌, ℕ, List, [], ◌∷◌, ◌++◌, IsTrue, Result, Ok, Err}
 use Rattle.trap_bank.specs.Disks.{Contents, View}
 use Rattle.trap_bank.specs.Calls.{Says, SaysPart}
 use Rattle.trap_bank.specs.Stream.{Stream}
@@ -15,21 +15,23 @@ use Rattle.trap_cli.specs.Ended.{last_line}
 use Rattle.trap_cli.specs.Frame.{ChangesNothing}
 use Rattle.trap_cli.specs.Listing.{index_text}
 use Rattle.trap_cli.specs.declared.outcome.Ended.{Ended}
-use Rattle.trap_cli.specs.declared.outcome.Ended.TheVariants.{Done, Usage, BadGeometry, NotCreated, NotMounted, Stopped, Port, Memory}
+use Rattle.trap_cli.specs.declared.outcome.Ended.TheVariants.{Done, Usage, BadGeometry, NotCreated}
+use Rattle.trap_cli.specs.declared.outcome.Ended.TheVariants.{NotMounted, Stopped, Port, Memory}
 
 -- how a run ends whose lines were answered so
 abbrev pub ended_of : Result Answered SessionFault → Ended
 ended_of (Ok answered) = Done
 ended_of (Err why) = Stopped why
 
--- the line was said, whole or not, in one call of the bank; nothing was done where it is empty
+-- the line was said, whole or not, in one call of the bank; where it is empty, no call was made
 abbrev pub SaysInOne : {B : Type 0} → (B → View) → List ℕ → B → B → Type 0
-SaysInOne view line old new = ((line ≡ []) × (new ≡ old))
-    ⊎ ((result : Result (Unit {0}) Failed) × Says line result (view old) (view new))
+SaysInOne view [] old new = new ≡ old
+SaysInOne view (byte ∷ more) old new =
+    (result : Result (Unit {0}) Failed) × Says (byte ∷ more) result (view old) (view new)
 
 -- The array was mounted. What is known of it is what stands on the disks; each state that they held
 -- is kept, nothing was written but the head, and no size changed.
-pub record IsMounted (a : Mounted) (old new : View) : Type 0 where
+pub record MountsArray (a : Mounted) (old new : View) : Type 0 where
   pub mounts : MountsFor a old new
   pub keeps : KeepsEachState old new
   pub writes : WritesHead old new
@@ -51,7 +53,7 @@ SaysRecords Memory text old new = Unit {0}
 pub record MountsOnly {B : Type 0} (view : B → View) (ended : Ended) (first last : B) : Type 0 where
   pub a : Mounted
   pub mounted : B
-  pub mounts : IsMounted a (view first) (view mounted)
+  pub mounts : MountsArray a (view first) (view mounted)
   pub stays : ChangesNothing (view mounted) (view last)
   pub says : IsTrue (view first).tells
       → SaysRecords ended (index_text a.index) (view mounted).now (view last).now
@@ -69,7 +71,7 @@ pub record AnswersMounted {B : Type 0} (view : B → View) (ended : Ended) (firs
     (from to : Stream) : Type 0 where
   pub a : Mounted
   pub mounted : B
-  pub mounts : IsMounted a (view first) (view mounted)
+  pub mounts : MountsArray a (view first) (view mounted)
   pub lines : AnswersLines view a ended mounted last from to
 
 -- and then the last line was said

@@ -1,20 +1,23 @@
 -- Why a session stops, and what was mounted before it.
-use Rattle.std.specs.Prelude.{◌≡◌, ◌⊎◌, ℕ, ◌+◌, ◌^◌, ◌<◌, None, IsTrue, true, false}
+use Rattle.std.specs.Prelude.{◌≡◌, ◌⊎◌, ℕ, ◌+◌, ◌^◌, ◌<◌, List, Contains, Some, None, IsTrue, true}
+use Rattle.std.specs.Prelude.{false}
 use Rattle.trap_bank.specs.Faults.{Rose}
 use Rattle.trap_bank.specs.Disks.{Disks, View}
 use Rattle.trap_bank.specs.Stream.{Stream}
 use Rattle.trap_model.specs.declared.numbers.Geometry.{Geometry}
 use Rattle.trap_model.specs.declared.history.State.{State}
+use Rattle.trap_model.specs.declared.request.Request.{Request}
 use Rattle.trap_format.specs.declared.head.Head.{Head}
 use Rattle.trap_index.specs.Indexed.{Indexed}
 use Rattle.trap_raid.specs.Members.{IsMember, IsOut, Counts}
 use Rattle.trap_array.specs.Holding.{Holds, HoldsBy}
 use Rattle.trap_array.specs.Reading.{ReadsIndex}
 use Rattle.trap_array.specs.Mounting.{HasHead, HasMembers}
-use Rattle.trap_array.specs.Instants.{HasBadRecord}
 use Rattle.trap_array.specs.declared.fault.Denied.TheVariants as denied
+use Rattle.trap_script.specs.Lines.{lines}
 use Rattle.trap_session.specs.Leaving.{HasRecordsMore}
 use Rattle.trap_session.specs.Serving.{TookQuit}
+use Rattle.trap_session.specs.Store.{IsBadFor}
 use Rattle.trap_session.specs.declared.outcome.SessionFault.{SessionFault}
 use Rattle.trap_session.specs.declared.outcome.SessionFault.TheVariants as serving
 
@@ -37,11 +40,23 @@ pub record IndexSince (g : Geometry) (h : Head) (i : Indexed) (old : View) : Typ
   pub reads : ReadsIndex g h read old
   pub more : HasRecordsMore read i
 
--- Where the bank tells: of an entry that was retained on entry or written since, whose record
--- should begin at this byte of disk 0, no record with the header that the session knows is there.
-abbrev pub NamesRecord : ℕ → View → View → Type 0
-NamesRecord offset old new = IsTrue old.tells → (g : Geometry) × (h : Head) × (i : Indexed)
-    × HasHead g h old.now.disks × IndexSince g h i old × HasBadRecord g i new.now.disks offset
+-- where the input is known, the request is that of one of its lines
+abbrev pub IsLineOf : ℕ → Stream → Request → Type 0
+IsLineOf size from asked =
+    (input : List ℕ) → from.left ≡ Some input → Contains (lines size input) asked
+
+-- A line of the input looked back at a block. On the way to its instant, of an entry of that block
+-- which was retained on entry or written since, and whose record should begin at this byte of disk
+-- 0, no record with the header that the session knows is there.
+pub record NamesRecord (offset : ℕ) (old new : View) (from : Stream) : Type 0 where
+  pub g : Geometry
+  pub head : Head
+  pub index : Indexed
+  pub found : HasHead g head old.now.disks
+  pub since : IndexSince g head index old
+  pub asked : Request
+  pub line : IsLineOf g.block from asked
+  pub bad : IsBadFor g index asked new.now.disks offset
 
 -- every step of mounting an array of these numbers passes: nothing on the disks is refused
 pub record MountPasses (g : Geometry) (disks : Disks) : Type 0 where
@@ -70,7 +85,7 @@ StopCause (serving.Array denied.LogFault) old new from to = Rose (old.faults 0) 
 StopCause (serving.Array (denied.MemberFault first second)) old new from to =
     MemberFaults first second old new
 StopCause (serving.Array (denied.Damaged offset)) old new from to =
-    HeldNone old × NamesRecord offset old new
+    HeldNone old × (IsTrue old.tells → NamesRecord offset old new from)
 StopCause (serving.Array denied.Stopped) old new from to = ⊥
 StopCause serving.ReadFault old new from to = Rose from.faults to.faults
 StopCause serving.WriteFault old new from to = Rose old.port_faults new.port_faults

@@ -1,7 +1,9 @@
 //! The texts of a run: its last line, and what `create` says.
 
 ghost use Rattle.std.specs.Prelude.{◌≡◌, ◌+◌, ◌≤◌, ◌++◌, length, take, codes};
-ghost use Rattle.trap_cli.specs.Ended.{status_of, create_status, mount_status, session_status, field_name, pair, create_text, mount_text, session_line, last_line, created_line};
+ghost use Rattle.trap_cli.specs.Ended.{status_of, create_status, mount_status, session_status};
+ghost use Rattle.trap_cli.specs.Ended.{field_name, pair, create_text, mount_text, session_line};
+ghost use Rattle.trap_cli.specs.Ended.{last_line, created_line};
 
 use crate::outcome::Ended;
 use trap_array::{CreateFault, Denied, MountFault};
@@ -66,7 +68,7 @@ fn session_status(why: SessionFault) -> u8
     }
 }
 
-// Writes both numbers with a space between them.
+// Each number has at most 20 digits, and the space takes one byte more.
 fn put_pair(out: &mut [u8], at: usize, first: u8, second: u8) -> usize
     requires { at + 41 ≤ length out.old }
     ensures end { result ≤ at + 41 }

@@ -1,6 +1,7 @@
 //! Laws of runs, one after the other: functions with no body, whose contracts are the laws.
 
-ghost use Rattle.std.specs.Prelude.{◌≡◌, ◌+◌, ◌^◌, ◌<◌, ℕ, List, length, Option, Some, None, IsTrue};
+ghost use Rattle.std.specs.Prelude.{◌≡◌, ◌+◌, ◌^◌, ◌<◌, ℕ, List, length, Option, Some, None};
+ghost use Rattle.std.specs.Prelude.{IsTrue};
 ghost use Rattle.trap_bank.specs.Disks.{Disks};
 ghost use Rattle.trap_bank.specs.Steps.{Always};
 ghost use Rattle.trap_bank.specs.Stream.{Stream};

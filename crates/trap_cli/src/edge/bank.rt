@@ -172,8 +172,8 @@ fn blame(faults: &mut [u64], d: u8)
 // What a call on the disk answers. Where it failed, the disk has one more fault.
 fn settle(done: io::Result<()>, faults: &mut [u64], d: u8) -> Result<(), Failed>
     requires { d < length faults.old }
-    ensures err { OnErr result (Blames d faults.old faults.new) }
     ensures ok { OnOk result (faults.new ≡ faults.old) }
+    ensures err { OnErr result (Blames d faults.old faults.new) }
 {
     match done {
         Ok(()) => Ok(()),

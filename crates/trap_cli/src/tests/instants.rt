@@ -97,5 +97,7 @@ fn a_stop_leaves_an_instant_or_none(rt: HostRuntime) -> Result<(), Fail> {
     }
     // The head's last gate was written, and not yet synced.
     assert!(rt; is_torn[0] && is_torn[1] && is_torn[2] && is_torn[3]);
+    // The longest fuse outlasts the write: no call of it is left out above.
+    assert!(rt; is_instant(&rt, rt.alloc(), 40, 1, 3)?);
     Ok(())
 }

@@ -27,6 +27,7 @@ returns-clause-runs g c command is =
       lines = λ reads. record { answered = done; lines = c.run_command-ended.ensures.lines reads; said = c.say_last.ensures.said };
       mounted = λ is. mounts_said view ended c.args.bank.now done c.say_last.new.bank (c.run_command-ended.ensures.mounted is)
           c.run_command-ended.ensures.outcome.steps.tells spoken;
+      says = record { done = done; outcome = c.run_command-ended.ensures.outcome; said = c.say_last.ensures.said };
     })
 
 pub returns-clause-usage : goal.returns-clause-usage

@@ -1,5 +1,6 @@
 use Rattle.std.proofs.Common.{refl, sym, ap}
 use Rattle.trap_cli.specs.Session.{ended_of}
+use Rattle.trap_cli.proofs.LookingBack.{finds_bad}
 use Rattle.trap_cli.proofs.Saying.{took_none}
 use Rattle.trap_cli.proofs.Sessions.{memory_steps, memory_held, nothing_changes}
 use Rattle.trap_cli.proofs.session.answer_lines.Goals as goal
@@ -16,7 +17,7 @@ returns-in_default-clause-leaves g c = record {
   changes = nothing_changes c.args.array (g.B.Bank.view c.args.bank.now);
   held = memory_held c.args.array (g.B.Bank.view c.args.bank.now);
   took = took_none (g.S.Source.stream c.args.source.now);
-  bad = tt;
+  bad = λ offset is. absurd (cc is);
 }
 
 pub returns-in-Ok-serve-clause-leaves : goal.returns-in-Ok-serve-clause-leaves
@@ -25,7 +26,7 @@ returns-in-Ok-serve-clause-leaves g c = record {
   changes = c.serve.ensures.leaves.changes;
   held = c.serve.ensures.held;
   took = c.serve.ensures.leaves.took;
-  bad = tt;
+  bad = λ offset is. absurd (cc is);
 }
 
 pub returns-clause-leaves : goal.returns-clause-leaves
@@ -34,7 +35,9 @@ returns-clause-leaves g c = record {
   changes = c.serve.ensures.leaves.changes;
   held = c.serve.ensures.held;
   took = c.serve.ensures.leaves.took;
-  bad = (c.serve.new.array, c.serve.ensures.leaves.goes_on.g, c.serve.ensures.leaves.index, c.in-Err.ensures.bad);
+  bad = finds_bad g.B.Bank.view c.args.array c.serve.new.array c.serve.result c.args.bank.now c.serve.new.bank
+      (g.S.Source.stream c.args.source.now) (g.S.Source.stream c.serve.new.source)
+      c.serve.ensures.leaves.goes_on.g c.serve.ensures.leaves.index c.serve.ensures.exchange c.in-Err.why c.in-Err.is;
 }
 
 pub returns-in_default-clause-idle : goal.returns-in_default-clause-idle

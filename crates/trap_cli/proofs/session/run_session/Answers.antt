@@ -1,13 +1,13 @@
 use Rattle.std.proofs.Common.{◌≡◌, Ok, Err, sym, ap, ◌∙◌}
 use Rattle.trap_mount.specs.declared.fault.MountFault.TheVariants.{NotAnArray}
-use Rattle.trap_cli.specs.Session.{IsMounted}
+use Rattle.trap_cli.specs.Session.{MountsArray}
 use Rattle.trap_cli.proofs.Sessions.{unmounted_outcome, session_outcome, session_mounts}
 use Rattle.trap_cli.proofs.session.run_session.Goals as goal
 
 pub returns-in-Ok : goal.returns-in-Ok
 returns-in-Ok g c =
     let view = g.B.Bank.view in
-    let mounts : IsMounted c.in-Ok.array (view c.args.bank.now) (view c.mount.new.bank) = record {
+    let mounts : MountsArray c.in-Ok.array (view c.args.bank.now) (view c.mount.new.bank) = record {
       mounts = c.in-Ok.ensures.mounted;
       keeps = c.mount.ensures.keeps;
       writes = c.mount.ensures.writes;
