@@ -57,7 +57,7 @@ taken_frame size f buf head code u v w s t r len there begins first second =
       begins = both.1;
       len = length-append head code ∙ ap (λ (n : ℕ). n + length code) len;
       took = took_then head code u v w s t r first second;
-      earlier = first.faults;
+      earlier = first.counts.faults;
     }
 
 -- the code stands after the header

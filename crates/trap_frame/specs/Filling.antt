@@ -1,30 +1,19 @@
--- What was taken of a source.
-use Rattle.std.specs.Prelude.{◌≡◌, ℕ, ◌+◌, ◌^◌, ◌<◌, ◌≤◌, List, length, true, None, Result, MatchResult}
-use Rattle.std.specs.Io.KnownBytes.{Consumes, IsAtEnd}
+-- What was taken of a source for a frame, within what a reader takes.
+use Rattle.std.specs.Prelude.{◌≡◌, ℕ, ◌^◌, ◌<◌, ◌≤◌, List, length, Result, MatchResult}
 use Rattle.trap_bank.specs.Faults.{Rose}
-use Rattle.trap_bank.specs.Stream.{Stream, GaveNothing}
+use Rattle.trap_bank.specs.Filling.{CountsBytes, IsInputEnd}
+use Rattle.trap_bank.specs.Stream.{Stream}
 use Rattle.trap_frame.specs.declared.filling.Stop.{Stop}
 use Rattle.trap_frame.specs.declared.filling.Stop.TheVariants.{Source, TooLong}
 
--- the source gave nothing: it failed, or as many bytes as a reader takes were taken
-abbrev pub GivesNothing : Stop → ℕ → Stream → Stream → Type 0
-GivesNothing Source used old new = GaveNothing old new × Rose old.faults new.faults
-GivesNothing TooLong used old new = (used ≡ 2 ^ 40) × (new ≡ old)
-
 -- these bytes were taken of the source, and counted
 pub record TakesBytes (bytes : List ℕ) (used used' : ℕ) (s s' : Stream) : Type 0 where
-  pub left : Consumes s.left s'.left bytes
-  pub counted : used' ≡ used + length bytes
-  pub given : s'.given ≡ s.given + length bytes
-  pub faults : s.faults ≤ s'.faults
+  pub counts : CountsBytes bytes used used' s s'
   pub most : used' ≤ 2 ^ 40
-  -- a source that doesn't tell its bytes never begins to
-  pub untold : s.left ≡ None → s'.left ≡ None
 
 -- nothing is left, the source has said so, and more could have been taken
 pub record IsStreamEnd (used : ℕ) (s : Stream) : Type 0 where
-  pub left : IsAtEnd s.left
-  pub ended : s.ended ≡ true
+  pub ends : IsInputEnd s
   pub more : used < 2 ^ 40
 
 -- why no more bytes were taken

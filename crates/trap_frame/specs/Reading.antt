@@ -9,7 +9,8 @@ use Rattle.trap_frame.specs.declared.filling.Stop.TheVariants as Stopped
 use Rattle.trap_frame.specs.declared.found.Next.{Next}
 use Rattle.trap_frame.specs.declared.found.Next.TheVariants as Found
 use Rattle.trap_frame.specs.declared.found.FrameFault.{FrameFault}
-use Rattle.trap_frame.specs.declared.found.FrameFault.TheVariants.{BadFrame, Cut, ReadFault, TooLong}
+use Rattle.trap_frame.specs.declared.found.FrameFault.TheVariants.{BadFrame, Cut, ReadFault}
+use Rattle.trap_frame.specs.declared.found.FrameFault.TheVariants.{TooLong}
 
 -- what was found: a frame, of which all bytes were taken and no other, or the end of the stream
 abbrev pub FindsFrame : ℕ → Next → List ℕ → ℕ → ℕ → Stream → Stream → Type 0

@@ -1,10 +1,9 @@
-//! Takes bytes from a source.
+//! Takes the bytes of a frame, within what a reader takes in all.
 
-ghost use Rattle.std.specs.Prelude.{◌≡◌, ◌+◌, ◌-◌, ◌^◌, ◌<◌, ◌≤◌, List, ℕ, length, take, drop, IfOk, IfErr};
-ghost use Rattle.trap_bank.specs.Stream.{Gave};
-ghost use Rattle.trap_frame.specs.Filling.{GivesNothing, FillsBuffer};
+ghost use Rattle.std.specs.Prelude.{◌≡◌, ◌+◌, ◌-◌, ◌^◌, ◌<◌, ◌≤◌, List, ℕ, length, take, drop};
+ghost use Rattle.trap_frame.specs.Filling.{FillsBuffer};
 
-use trap_bank::Source;
+use trap_bank::{Source, fill};
 
 /// How many bytes a reader takes at most.
 const MOST_BYTES: u64 = 1 << 40;
@@ -18,41 +17,9 @@ pub enum Stop {
     TooLong,
 }
 
-// Takes the next piece into the buffer from a place on, of no more bytes than may still be taken.
-fn take_some<S: Source>(
-    source: &mut S,
-    buf: &mut [u8],
-    at: usize,
-    end: usize,
-    used: u64,
-) -> Result<usize, Stop>
-    requires room { at < end }
-    requires inside { end ≤ length buf.old }
-    requires used { used ≤ 2 ^ 40 }
-    requires below { (S.stream source.old).given < 2 ^ 63 }
-    ensures ok { IfOk result (λ count. Gave (take count (drop at buf.new)) count
-        (S.stream source.old) (S.stream source.new)) }
-    ensures bound { IfOk result (λ count. at + count ≤ end) }
-    ensures most { IfOk result (λ count. (used < 2 ^ 40) × (used + count ≤ 2 ^ 40)) }
-    ensures err { IfErr result (λ stop. GivesNothing stop used (S.stream source.old)
-        (S.stream source.new)) }
-    ensures faults { (S.stream source.old).faults ≤ (S.stream source.new).faults }
-    ensures front { take at buf.new ≡ take at buf.old }
-    ensures beyond { drop end buf.new ≡ drop end buf.old }
-{
-    if used >= MOST_BYTES {
-        return Err(Stop::TooLong);
-    }
-    let most = ((end - at) as u64).min(MOST_BYTES - used) as usize;
-    match source.take(&mut buf[at..at + most]) {
-        Ok(count) => Ok(count),
-        Err(_) => Err(Stop::Source),
-    }
-}
-
 /// Fills the buffer between two places from the source, unless the input ends before, and answers
 /// how many bytes that are. `used` counts the bytes that were taken, and no others are.
-pub fn fill<S: Source>(
+pub fn fill_between<S: Source>(
     source: &mut S,
     buf: &mut [u8],
     start: usize,
@@ -69,14 +36,14 @@ pub fn fill<S: Source>(
     ensures front { take start buf.new ≡ take start buf.old }
     ensures beyond { drop end buf.new ≡ drop end buf.old }
 {
-    let mut at = start;
-    'pieces: while at < end {
-        let count = take_some(source, buf, at, end, *used)?;
-        if count == 0 {
-            return Ok(at - start);
-        }
-        at += count;
-        *used += count as u64;
+    let room = end - start;
+    let most = (room as u64).min(MOST_BYTES - *used) as usize;
+    let have = match fill(source, &mut buf[start..start + most], used) {
+        Ok(have) => have,
+        Err(_) => return Err(Stop::Source),
+    };
+    if have == most && most < room {
+        return Err(Stop::TooLong);
     }
-    Ok(end - start)
+    Ok(have)
 }

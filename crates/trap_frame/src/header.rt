@@ -1,6 +1,7 @@
 //! The 34 bytes that head a frame.
 
-ghost use Rattle.std.specs.Prelude.{◌≡◌, ◌+◌, ◌^◌, ◌<◌, ◌≤◌, ◌↔◌, List, ◌++◌, length, take, drop, IsTrue, IfSome, IfNone};
+ghost use Rattle.std.specs.Prelude.{◌≡◌, ◌+◌, ◌^◌, ◌<◌, ◌≤◌, ◌↔◌, List, ◌++◌, length, take, drop};
+ghost use Rattle.std.specs.Prelude.{IsTrue, IfSome, IfNone};
 ghost use Rattle.trap_model.specs.Frame.{frame_magic, frame_header, BeginsFrame, IsFrameInRange};
 ghost use Rattle.trap_frame.specs.Headers.{HasFrameFields};
 

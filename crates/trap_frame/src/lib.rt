@@ -8,7 +8,6 @@ mod header;
 mod reader;
 mod writer;
 
-pub use filling::{Stop, fill};
 pub use found::{FrameFault, Next};
 pub use reader::Frames;
 pub use trap_model::Frame;

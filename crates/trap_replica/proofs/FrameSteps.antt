@@ -1,5 +1,5 @@
 -- How one frame is applied, call by call.
-use Rattle.std.proofs.Common.{◌≡◌, ⊎_elim, ℕ, ◌+◌, ◌^◌, ◌<◌, ◌≤◌, List, [], length, IsTrue, inl, sym, ap, subst, ◌∙◌, arith}
+use Rattle.std.proofs.Common.{◌≡◌, ℕ, ◌+◌, ◌^◌, ◌<◌, ◌≤◌, List, [], length, IsTrue, inl, sym, ap, subst, ◌∙◌, arith}
 use Rattle.std.proofs.lemmas.List.{get_or-set_same}
 use Rattle.trap_bank.specs.Disks.{View, Disks, Within, Differs, region}
 use Rattle.trap_bank.specs.Steps.{Moves, Same, Always, PlacedThrough}

@@ -1,18 +1,20 @@
 -- What becomes of a frame that a replica takes.
-use Rattle.std.proofs.Common.{◌≡◌, ℕ, zero, suc, ◌+◌, ◌^◌, ◌<◌, ◌≤◌, ◌==◌, ◌||◌, if◌then◌else◌, Bool, true, false, List, [], ◌∷◌, length, Option, Some, None, refl, sym, ap, subst, ◌∙◌, arith}
-use Rattle.std.specs.Prelude.{nat_lt, nat_le, not}
+use Rattle.std.proofs.Common.{◌≡◌, ℕ, zero, suc, ◌+◌, ◌-◌, ◌<◌, ◌≤◌, ◌==◌, ◌||◌, if◌then◌else◌, Bool, true, false, List, [], ◌∷◌, length, Option, Some, None, refl, sym, ap, subst, ◌∙◌, arith}
+use Rattle.std.specs.Prelude.{nat_lt, nat_le, not, Result, Ok}
 use Rattle.std.proofs.lemmas.Bool.Decides.{nat_tests}
 use Rattle.std.specs.List.{All}
 use Rattle.std.proofs.lemmas.List.Elements.{All-nil, All-cons, All-head, All-tail}
+use Rattle.trap_bank.specs.Called.{CalledTimes}
 use Rattle.trap_bank.specs.Disks.{View, Disks}
+use Rattle.trap_bank.proofs.Called.{not_called}
 use Rattle.trap_format.specs.declared.shape.Shape.{Shape}
-use Rattle.trap_model.specs.Receiver.{Receiver, hold, is_held, applied, settled, window, is_known, is_beyond, with_frame, taken, answer}
+use Rattle.trap_model.specs.Receiver.{Receiver, hold, is_held, applied, settled, window, is_known, is_beyond, with_frame, after_frame, answer}
 use Rattle.trap_model.specs.declared.arrival.Arrival.{Arrival}
 use Rattle.trap_model.specs.declared.arrival.Taken.{Taken}
 use Rattle.trap_model.specs.declared.arrival.Taken.TheVariants.{Applied, Held, Repeat, Beyond}
 use Rattle.trap_replica.specs.Holding.{HeldFrames, holding, Ascends, Suits, SuitAll}
 use Rattle.trap_replica.specs.OnDisk.{HoldsImageBy, ReplicaHolds}
-use Rattle.trap_replica.specs.Applying.{Leaves}
+use Rattle.trap_replica.specs.Applying.{Leaves, take_calls}
 use Rattle.trap_replica.specs.Mounted.{MountedReplica, frame_refusal, left_out, Receives}
 use Rattle.trap_replica.specs.declared.fault.ReplicaFault.{ReplicaFault}
 use Rattle.trap_replica.specs.declared.fault.ReplicaFault.TheVariants.{Stranger, NoBlock, Stopped}
@@ -20,6 +22,9 @@ use Rattle.trap_model.specs.declared.frame.Frame.{Frame}
 use Rattle.trap_replica.specs.Standing.{Mirrors, step_from, steps, seen, HoldsPassed, arrived, Passed}
 use Rattle.trap_replica.specs.declared.store.Store.{Store}
 use Rattle.trap_replica.proofs.OneFrame.{leaves_none}
+
+counted : (n q p : ℕ) → q ≡ p + n → n ≡ q - p
+counted n q p is = omega (arith, is)
 
 -- a list that rises within bounds is no longer than they are apart
 held_few : (low high : ℕ) (frames : List Arrival) → low ≤ high → Ascends low frames → All (λ f. f.seq ≤ high) frames → length frames + low ≤ high
@@ -83,6 +88,9 @@ known_false false true b none = cc
 known_false false false true none = cc
 known_false false false false none = (refl, refl, refl)
 
+above_next : (seq n : ℕ) → n < seq → (seq == n + 1) ≡ false → n + 1 < seq
+above_next seq n less other = grind (arith, nat_tests)
+
 module _ (p : Store) (h : HeldFrames) (f : Arrival) (none : left_out p h f ≡ None) where
   parts : (nat_le f.seq p.number ≡ false) × (is_held f.seq h.frames ≡ false) × (nat_lt (p.number + window) f.seq ≡ false)
   parts = known_false (nat_le f.seq p.number) (is_held f.seq h.frames) (nat_lt (p.number + window) f.seq) none
@@ -107,6 +115,21 @@ module _ (p : Store) (h : HeldFrames) (f : Arrival) (none : left_out p h f ≡ N
     each = each_held (Suits s p.number) f h.frames fits suit.each;
   }
 
+  -- and so that the next isn't among them, where this one isn't
+  pub held_waits : (s : Shape) → (f.seq == p.number + 1) ≡ false → Suits s p.number f → SuitAll s (p.number + 1) p.number h → SuitAll s (p.number + 1) p.number (holding h f)
+  held_waits s next fits suit = record {
+    size = suit.size;
+    order = rises (p.number + 1) f h.frames (above_next f.seq p.number above next) parts.1 suit.order;
+    each = each_held (Suits s p.number) f h.frames fits suit.each;
+  }
+
+  pub waits : (image : List (List ℕ)) → (f.seq == p.number + 1) ≡ false → Held ≡ answer (seen p h image) f
+  waits image next =
+      sym (ap (λ (x : Bool). if x then Applied (with_frame (seen p h image) f).number else Held) next)
+      ∙ sym (ap (λ (x : Bool). if x then Beyond else (if f.seq == p.number + 1 then Applied (with_frame (seen p h image) f).number else Held)) (left_beyond image))
+      ∙ sym (ap (λ (x : Bool). if x then Repeat else (if is_beyond (seen p h image) f then Beyond else
+      (if f.seq == p.number + 1 then Applied (with_frame (seen p h image) f).number else Held))) (left_known image))
+
   pub near : f.seq ≤ p.number + window
   near = let test = parts.2 in grind (arith, nat_tests)
 
@@ -123,7 +146,7 @@ settled_once : (r : Receiver) (held : List Arrival) → r.held ≡ held → sett
 settled_once r [] is = ap (settled r) is
 settled_once r (f ∷ held) is = settled_test r f held is (f.seq == r.number + 1) refl
 
-settled_steps : (k : ℕ) (r : Receiver) → settled (steps k r) (steps k r).held ≡ settled r r.held
+pub settled_steps : (k : ℕ) (r : Receiver) → settled (steps k r) (steps k r).held ≡ settled r r.held
 settled_steps zero r = refl
 settled_steps (suc k) r = settled_once (steps k r) (steps k r).held refl ∙ settled_steps k r
 
@@ -135,7 +158,7 @@ settled_done r (f ∷ held) order = ap (λ (b : Bool). if b then settled (applie
     other : (g : Arrival) → r.number + 1 < g.seq → (g.seq == r.number + 1) ≡ false
     other g less = grind (arith, nat_tests)
 
-settled_held : (r : Receiver) (l held : List Arrival) → settled (record r { held = l }) held ≡ settled r held
+pub settled_held : (r : Receiver) (l held : List Arrival) → settled (record r { held = l }) held ≡ settled r held
 settled_held r l [] = refl
 settled_held r l (f ∷ held) = refl
 
@@ -152,7 +175,7 @@ module _ (p q : Store) (h k : HeldFrames) (f : Arrival) (a b : View) (passed : P
   number_passed image = ap (λ (r : Receiver). r.number) (passed.is image ∙ all_passed image)
 
   module _ (none : left_out p h f ≡ None) where
-    is_taken : (image : List (List ℕ)) → taken (seen p h image) f ≡ with_frame (seen p h image) f
+    is_taken : (image : List (List ℕ)) → after_frame (seen p h image) f ≡ with_frame (seen p h image) f
     is_taken image = ap (λ (x : Bool). if x then seen p h image else with_frame (seen p h image) f)
         (ap (λ (x : Bool). x || is_beyond (seen p h image) f) (left_known p h f none image) ∙ left_beyond p h f none image)
 
@@ -160,6 +183,7 @@ module _ (p q : Store) (h k : HeldFrames) (f : Arrival) (a b : View) (passed : P
     receives s t = record {
       numbers = λ image. subst (λ (r : Receiver). seen q k r.image ≡ r) (all_passed image ∙ sym (is_taken image)) (passed.is image);
       mirrors = λ image mirrors. subst (λ (r : Receiver). Mirrors q b r.image) (all_passed image ∙ sym (is_taken image)) (passed.mirrors image mirrors);
+      calls = subst (λ (n : ℕ). CalledTimes (take_calls p.cell n) a b) (counted passed.count q.number p.number passed.number) passed.calls;
     }
 
     -- the next frame is applied
@@ -186,13 +210,14 @@ module _ (p : Store) (h : HeldFrames) (f : Arrival) (t : Taken) (is : left_out p
   pub leaves_out : (image : List (List ℕ)) → t ≡ answer (seen p h image) f
   leaves_out image = left_answer (is_known (seen p h image) f) (is_beyond (seen p h image) f) (if f.seq == p.number + 1 then Applied (with_frame (seen p h image) f).number else Held) t is
 
-  same_taken : (image : List (List ℕ)) → taken (seen p h image) f ≡ seen p h image
+  same_taken : (image : List (List ℕ)) → after_frame (seen p h image) f ≡ seen p h image
   same_taken image = left_same (is_known (seen p h image) f) (is_beyond (seen p h image) f) (seen p h image) (with_frame (seen p h image) f) t is
 
   pub receives_nothing : (s : Bool) (a : View) → Receives (record { store = p; held = h; is_stopped = s }) (record { store = p; held = h; is_stopped = s }) f a a
   receives_nothing s a = record {
     numbers = λ image. subst (λ (r : Receiver). seen p h r.image ≡ r) (sym (same_taken image)) refl;
     mirrors = λ image mirrors. subst (λ (r : Receiver). Mirrors p a r.image) (sym (same_taken image)) mirrors;
+    calls = subst (λ (n : ℕ). CalledTimes (take_calls p.cell n) a a) (counted 0 p.number p.number (omega arith)) (not_called a);
   }
 
 -- nothing was done
@@ -215,8 +240,15 @@ none_refused true true s x y z none = refl
 none_refused true false s x y z none = cc
 none_refused false b s x y z none = cc
 
-pub block_inside : (m : MountedReplica) (f : Frame) → frame_refusal m f ≡ None → f.block < m.store.shape.volume
-block_inside m f none =
+pub named_inside : (m : MountedReplica) (f : Frame) → frame_refusal m f ≡ None → f.block < m.store.shape.volume
+named_inside m f none =
     let test : nat_lt f.block m.store.shape.volume ≡ true = none_refused (f.id == m.store.shape.id) (nat_lt f.block m.store.shape.volume) m.is_stopped (Stranger f.id) (NoBlock f.block)
     Stopped none in
     grind (arith, nat_tests)
+
+-- what becomes of a frame is one thing
+pub one_answer : (o : Option Taken) (x y : Taken) → o ≡ Some x → o ≡ Some y → ◌≡◌ {A = Result Taken ReplicaFault} (Ok x) (Ok y)
+one_answer o x y first second = cc (first, second)
+
+pub not_left : (o : Option Taken) (x : Taken) → o ≡ None → o ≡ Some x → ⊥
+not_left o x none some = cc (none, some)

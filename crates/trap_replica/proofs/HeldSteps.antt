@@ -1,18 +1,22 @@
 -- How held frames are applied, one after the other.
-use Rattle.std.proofs.Common.{◌≡◌, ◌⊎◌, ⊎_elim, ℕ, zero, suc, ◌+◌, ◌^◌, ◌<◌, ◌≤◌, ◌==◌, if◌then◌else◌, Bool, true}
-use Rattle.std.proofs.Common.{false, List, [], ◌∷◌, length, drop, IsTrue, inl, inr, refl, sym, ap, subst, ◌∙◌, arith}
+use Rattle.std.proofs.Common.{◌≡◌, ⊎_elim, ℕ, zero, suc, ◌+◌, ◌^◌, ◌<◌, if◌then◌else◌, Bool, true}
+use Rattle.std.proofs.Common.{List, ◌∷◌, IsTrue, refl, sym, ap, subst, ◌∙◌, arith}
 use Rattle.std.proofs.lemmas.Bool.Decides.{nat_tests}
 use Rattle.std.specs.List.{All}
 use Rattle.std.proofs.lemmas.List.Elements.{All-head, All-tail, All-weaker}
 use Rattle.trap_bank.specs.Disks.{View, Disks, Quiet}
-use Rattle.trap_bank.specs.Steps.{Moves, Always}
+use Rattle.trap_bank.specs.Steps.{Moves}
+use Rattle.trap_bank.specs.Called.{CalledTimes}
+use Rattle.trap_bank.proofs.Called.{not_called, called_then}
 use Rattle.trap_bank.proofs.Moves.{no_moves, moves_then, moves_weaken}
+use Rattle.trap_cell.specs.Slots.{Slots, turned}
+use Rattle.trap_cell.specs.Steps.{put_calls}
 use Rattle.trap_format.specs.declared.shape.Shape.{Shape}
-use Rattle.trap_model.specs.Receiver.{Receiver, applied, settled, xored}
+use Rattle.trap_model.specs.Receiver.{Receiver, applied, xored}
 use Rattle.trap_model.specs.declared.arrival.Arrival.{Arrival}
 use Rattle.trap_replica.specs.Holding.{HeldFrames, Ascends, has_next, Suits, SuitAll}
 use Rattle.trap_replica.specs.OnDisk.{HoldsImageBy, ReplicaHolds}
-use Rattle.trap_replica.specs.Applying.{Elsewhere, Leaves, HoldsEither}
+use Rattle.trap_replica.specs.Applying.{Elsewhere, Leaves, HoldsEither, take_calls, cell_after}
 use Rattle.trap_replica.specs.Standing.{IsStoreReady, Mirrors, step_from, steps, seen, HoldsPassed, Passed, PassesHeld}
 use Rattle.trap_replica.specs.declared.store.Store.{Store}
 use Rattle.trap_replica.proofs.OneFrame.{leaves_none, else_then, touch_then}
@@ -43,9 +47,36 @@ leaves_wider a b first both one less = moves_weaken a b (λ x y. first y) (λ x 
     (λ x y was left. less y.disks left)
     (λ x y was mid left. less y.disks left)
 
+-- the cell after some puts, and then more
+cells_add : (c : Slots) (m n : ℕ) → cell_after (cell_after c n) m ≡ cell_after c (m + n)
+cells_add c zero n = let e : n ≡ 0 + n = omega arith in ap (cell_after c) e
+cells_add c (suc m) n =
+    let e : suc (m + n) ≡ suc m + n = omega arith in
+    ap turned (cells_add c m n) ∙ ap (cell_after c) e
+
+-- and the calls for them
+calls_add : (c : Slots) (m n : ℕ) → take_calls c n + take_calls (cell_after c n) m ≡ take_calls c (m + n)
+calls_add c m zero = let e : m ≡ m + 0 = omega arith in omega (arith, ap (take_calls c) e)
+calls_add c zero (suc n) = let e : suc n ≡ 0 + suc n = omega arith in omega (arith, ap (take_calls c) e)
+calls_add c (suc m) (suc n) =
+    let e : suc (m + suc n) ≡ suc m + suc n = omega arith in
+    omega (arith, ap (take_calls c) e)
+
+one_call : (c : Slots) → 3 + put_calls c ≡ take_calls c 1
+one_call c = omega arith
+
 -- nothing was applied yet
 pub passed_none : (p : Store) (h : HeldFrames) (a : View) → IsStoreReady p a → SuitAll p.shape p.number p.number h → Passed p p h h a a
-passed_none p h a ready suit = record { count = 0; is = λ image. refl; mirrors = λ image mirrors. mirrors; ready = ready; suit = suit }
+passed_none p h a ready suit = record {
+  count = 0;
+  is = λ image. refl;
+  mirrors = λ image mirrors. mirrors;
+  ready = ready;
+  suit = suit;
+  number = omega arith;
+  cell = refl;
+  calls = not_called a;
+}
 
 pub passes_none : (p : Store) (h : HeldFrames) (a : View) → PassesHeld p p h a a
 passes_none p h a = record {
@@ -65,6 +96,10 @@ passed_then p q s h k l a b c first second = record {
   mirrors = λ image mirrors. subst (λ (r : Receiver). Mirrors s c r.image) (all image) (second.mirrors (steps first.count (seen p h image)).image (first.mirrors image mirrors));
   ready = second.ready;
   suit = second.suit;
+  number = omega (arith, first.number, second.number);
+  cell = second.cell ∙ ap (λ (x : Slots). cell_after x second.count) first.cell ∙ cells_add p.cell second.count first.count;
+  calls = subst (λ (n : ℕ). CalledTimes n a c) (ap (λ (x : Slots). take_calls p.cell first.count + take_calls x second.count) first.cell ∙ calls_add p.cell second.count first.count)
+      (called_then (take_calls p.cell first.count) (take_calls q.cell second.count) a b c first.calls second.calls);
 }
   where
     all : (image : List (List ℕ)) → steps second.count (seen q k (steps first.count (seen p h image)).image) ≡ steps (second.count + first.count) (seen p h image)
@@ -118,12 +153,16 @@ module _ (p q : Store) (h k : HeldFrames) (f : Arrival) (rest : List Arrival) (a
   }
 
   pub first_passed : q.shape ≡ p.shape → q.number ≡ p.number + 1 → q.time ≡ f.time → k.size ≡ h.size → k.frames ≡ rest → IsStoreReady q b → SuitAll p.shape p.number p.number h
+      → q.cell ≡ turned p.cell → CalledTimes (3 + put_calls p.cell) a b
       → ((image : List (List ℕ)) → Mirrors p a image → Mirrors q b (xored image f)) → Passed p q h k a b
-  first_passed shape number time size frames ready suit mirrors = record {
+  first_passed shape number time size frames ready suit cell calls mirrors = record {
     count = 1;
     is = λ image. subst (λ (r : Receiver). seen q k r.image ≡ r) (sym (one_step image)) (same image);
     mirrors = λ image mirrors_old. subst (λ (r : Receiver). Mirrors q b r.image) (sym (one_step image)) (mirrors image mirrors_old);
     ready = ready;
+    number = number;
+    cell = cell;
+    calls = subst (λ (n : ℕ). CalledTimes n a b) (one_call p.cell) calls;
     suit = record {
       size = size ∙ suit.size ∙ ap (λ (t : Shape). t.block) (sym shape);
       order = order;

@@ -1,18 +1,17 @@
 -- What a mount finds on disk 17, and that it is what a crash leaves from then on.
-use Rattle.std.proofs.Common.{◌≡◌, ◌⊎◌, ℕ, ◌+◌, ◌^◌, ◌<◌, ◌≤◌, List, [], ◌++◌, length, take, drop, Option, Some, None, Ok, IsTrue, Bool, refl, sym, ap, subst, ◌∙◌, arith}
-use Rattle.std.specs.Int.{w32, w64, to_be_bytes}
+use Rattle.std.proofs.Common.{◌≡◌, ℕ, ◌+◌, ◌^◌, ◌<◌, List, take, drop, Option, Some, None, Ok, IsTrue, Bool, refl, sym, ap, subst, ◌∙◌, arith}
 use Rattle.trap_bank.specs.Disks.{Contents, View, Disks, bytes_of, size_of, region}
-use Rattle.trap_bank.specs.Calls.{Syncs, MayLeave}
+use Rattle.trap_bank.specs.Calls.{Syncs}
 use Rattle.trap_bank.specs.Steps.{Moves, Same, OnlyReads, Always}
 use Rattle.trap_bank.proofs.Moves.{synced_steps}
 use Rattle.trap_cell.specs.Slots.{Place, slot_at, current_slot, value_at, cell_value}
-use Rattle.trap_format.specs.ReplicaDisk.{replica_size, replica_header, home_at}
+use Rattle.trap_format.specs.ReplicaDisk.{home_at}
 use Rattle.trap_format.specs.declared.shape.Shape.{Shape}
 use Rattle.trap_format.proofs.BigEndian.{same_of_4, same_of_8}
 use Rattle.trap_format.proofs.ReplicaHeaders.{shapes_same}
 use Rattle.trap_model.specs.Image.{block_of}
 use Rattle.trap_replica.specs.OnDisk.{cell_place, value_bytes, HoldsImageBy, ReplicaHolds}
-use Rattle.trap_replica.specs.Standing.{IsStoreReady, Mirrors}
+use Rattle.trap_replica.specs.Standing.{IsStoreReady}
 use Rattle.trap_replica.specs.Mounting.{HasReplicaHeader, IsNoValue, IsCellDamaged, IsReplicaStable, IsStoreFound, Knows, Opens}
 use Rattle.trap_replica.specs.declared.store.Store.{Store}
 

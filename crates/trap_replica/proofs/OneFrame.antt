@@ -1,18 +1,18 @@
 -- What one frame leaves on the replica's disk.
-use Rattle.std.proofs.Common.{◌≡◌, ◌≢◌, ◌⊎◌, ℕ, ◌+◌, ◌*◌, ◌^◌, ◌<◌, ◌≤◌, List, [], length, Option, Some, IsTrue, inl, inr, ⊎_elim, refl, sym, ap, subst, ◌∙◌, arith}
+use Rattle.std.proofs.Common.{◌≡◌, ◌≢◌, ◌⊎◌, ℕ, ◌+◌, ◌*◌, ◌^◌, ◌<◌, ◌≤◌, List, [], length, Some, IsTrue, inl, inr, ⊎_elim, sym, ap, subst, ◌∙◌, arith}
 use Rattle.std.proofs.lemmas.Bool.{cases_eq, cases_lt}
 use Rattle.std.proofs.lemmas.List.{length-set, get_or-set_same, get_or-set_other}
 use Rattle.trap_bank.specs.Disks.{View, Disks, Area, Contents, Within, Quiet, Differs, Torn, region}
-use Rattle.trap_bank.specs.Calls.{MayLeave, Fits}
+use Rattle.trap_bank.specs.Calls.{Fits}
 use Rattle.trap_bank.specs.Steps.{Moves, Same, Always, PlacedThrough}
 use Rattle.trap_bank.proofs.Regions.{region_beside, disk_apart}
-use Rattle.trap_bank.proofs.Moves.{moves_then, moves_weaken, no_moves, always_after, always_same, read_is_left}
+use Rattle.trap_bank.proofs.Moves.{moves_then, moves_weaken, no_moves}
 use Rattle.trap_block.specs.Xor.{xor}
 use Rattle.trap_block.proofs.XorLemmas.{length-xor}
 use Rattle.trap_cell.specs.Slots.{Place, Slots, Stands, cell_value, cell_len, cell_area, other_slot}
-use Rattle.trap_cell.specs.Steps.{PutsIn, IsPut}
+use Rattle.trap_cell.specs.Steps.{PutsIn}
 use Rattle.trap_cell.proofs.Beside.{Apart, range_apart, cell_beside, stands_after, within_cell}
-use Rattle.trap_format.specs.ReplicaDisk.{home_at, replica_size, replica_value_len, replica_header}
+use Rattle.trap_format.specs.ReplicaDisk.{home_at, replica_size}
 use Rattle.trap_format.specs.declared.shape.Shape.{Shape}
 use Rattle.trap_model.specs.Image.{block_of}
 use Rattle.trap_model.specs.Receiver.{xored}
@@ -21,11 +21,11 @@ use Rattle.trap_replica.specs.OnDisk.{cell_place, home, value_bytes, HoldsImageB
 use Rattle.trap_replica.specs.Applying.{Elsewhere, Leaves, HoldsEither}
 
 -- a block ends where the next one begins, or before
-block_inside : (a b n : ℕ) → a < b → a * n + n ≤ b * n
+pub block_inside : (a b n : ℕ) → a < b → a * n + n ≤ b * n
 block_inside a b n less = grind arith
 
 -- two blocks have no position in common
-homes_apart : (s : Shape) (b c : ℕ) → b ≢ c → (home_at s b + s.block ≤ home_at s c) ⊎ (home_at s c + s.block ≤ home_at s b)
+pub homes_apart : (s : Shape) (b c : ℕ) → b ≢ c → (home_at s b + s.block ≤ home_at s c) ⊎ (home_at s c + s.block ≤ home_at s b)
 homes_apart s b c other = ⊎_elim
     (λ (less : b < c). inl (omega (arith, block_inside b c s.block less)))
     (λ (most : c ≤ b). let less : c < b = omega arith in inr (omega (arith, block_inside c b s.block less)))

@@ -1,5 +1,5 @@
 -- A receiver follows its primary.
-use Rattle.std.proofs.Common.{◌≡◌, ◌≢◌, ◌⊎◌, ⊎_elim, ℕ, zero, suc, ◌+◌, ◌-◌, ◌<◌, ◌≤◌, List, [], ◌∷◌, ◌++◌, length, take, drop, refl, sym, ap, subst, ◌∙◌, arith, length-append}
+use Rattle.std.proofs.Common.{◌≡◌, ◌≢◌, ⊎_elim, ℕ, zero, suc, ◌+◌, ◌-◌, ◌<◌, ◌≤◌, List, [], ◌∷◌, ◌++◌, length, take, drop, refl, sym, ap, subst, ◌∙◌, arith, length-append}
 use Rattle.std.specs.List.{All}
 use Rattle.std.proofs.Math.ListN.{set}
 use Rattle.std.proofs.Math.Seq.{drop-append_seam}
@@ -12,7 +12,7 @@ use Rattle.trap_model.specs.Image.{block_of, written, image_after}
 use Rattle.trap_model.specs.Receiver.{gapless}
 use Rattle.trap_model.specs.declared.history.Entry.{Entry}
 use Rattle.trap_model.proofs.Windows.{gapless-longest}
-use Rattle.trap_replica.specs.World.{World, primary, entry_parity, with_parity, delivered, IsVolume, WritesWithin, FollowsPrimary, Event, Commit, Deliver, Happens, HappenAll}
+use Rattle.trap_replica.specs.World.{World, primary, with_parity, delivered, IsVolume, WritesWithin, FollowsPrimary, Event, Commit, Deliver, Happens, HappenAll}
 
 -- a parity undoes the block that it was made with
 undo : (xs ys : List ℕ) → length ys ≡ length xs → xor xs (xor xs ys) ≡ ys

@@ -1,5 +1,6 @@
 -- The frames that a replica holds until those before them have come.
-use Rattle.std.specs.Prelude.{◌≡◌, ℕ, ◌+◌, ◌^◌, ◌<◌, ◌≤◌, ◌==◌, List, [], ◌∷◌, All, length, Bool, false}
+use Rattle.std.specs.Prelude.{◌≡◌, ℕ, ◌+◌, ◌^◌, ◌<◌, ◌≤◌, ◌==◌, List, [], ◌∷◌, All, length, Bool}
+use Rattle.std.specs.Prelude.{false}
 use Rattle.trap_format.specs.declared.shape.Shape.{Shape}
 use Rattle.trap_model.specs.Receiver.{window, hold}
 use Rattle.trap_model.specs.declared.arrival.Arrival.{Arrival}

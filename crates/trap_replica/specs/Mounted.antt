@@ -1,16 +1,21 @@
 -- What a contract sees of a mounted replica, and what becomes of a frame there.
-use Rattle.std.specs.Prelude.{◌≡◌, ℕ, List, [], ◌+◌, ◌==◌, ◌||◌, Bool, false, not, nat_lt, if◌then◌else◌, Option, Some, None}
-use Rattle.trap_bank.specs.Disks.{View}
-use Rattle.trap_format.specs.declared.shape.Shape.{Shape}
-use Rattle.trap_model.specs.Receiver.{Receiver, taken, is_known, is_beyond}
+use Rattle.std.specs.Prelude.{◌≡◌, ℕ, List, [], ◌+◌, ◌-◌, ◌==◌, Bool, false, not, nat_lt}
+use Rattle.std.specs.Prelude.{if◌then◌else◌, Option, Some, None, Result, IfErr, is_err, IsTrue}
+use Rattle.trap_bank.specs.Called.{CalledTimes}
+use Rattle.trap_bank.specs.Disks.{Quiet, View}
+use Rattle.trap_bank.specs.Faults.{Rose}
+use Rattle.trap_bank.specs.Steps.{Moves}
+use Rattle.trap_model.specs.Receiver.{Receiver, after_frame, is_known, is_beyond}
 use Rattle.trap_model.specs.declared.arrival.Arrival.{Arrival}
 use Rattle.trap_model.specs.declared.arrival.Taken.{Taken}
 use Rattle.trap_model.specs.declared.arrival.Taken.TheVariants.{Repeat, Beyond}
 use Rattle.trap_model.specs.declared.frame.Frame.{Frame}
+use Rattle.trap_replica.specs.Applying.{Elsewhere, take_calls}
 use Rattle.trap_replica.specs.Holding.{HeldFrames, SuitAll}
 use Rattle.trap_replica.specs.Standing.{IsStoreReady, Mirrors, seen}
 use Rattle.trap_replica.specs.declared.fault.ReplicaFault.{ReplicaFault}
-use Rattle.trap_replica.specs.declared.fault.ReplicaFault.TheVariants.{Stranger, NoBlock, Stopped}
+use Rattle.trap_replica.specs.declared.fault.ReplicaFault.TheVariants.{DiskFault, Stranger, NoBlock}
+use Rattle.trap_replica.specs.declared.fault.ReplicaFault.TheVariants.{Stopped}
 use Rattle.trap_replica.specs.declared.store.Store.{Store}
 
 -- the image on the disk by its cell, the frames that wait, and whether the replica is of no further
@@ -50,9 +55,25 @@ left_out p h f =
     if is_known (seen p h []) f then Some Repeat
     else (if is_beyond (seen p h []) f then Some Beyond else None)
 
--- the replica is the receiver after the frame, and every crash leaves that receiver's image
+-- the replica is the receiver after the frame, and every crash leaves that receiver's image; the
+-- bank was called for each frame that was applied, and no more
 pub record Receives (p q : MountedReplica) (f : Arrival) (a b : View) : Type 0 where
-  pub numbers : (image : List (List ℕ)) → receiver q (taken (receiver p image) f).image
-      ≡ taken (receiver p image) f
+  pub numbers : (image : List (List ℕ)) → receiver q (after_frame (receiver p image) f).image
+      ≡ after_frame (receiver p image) f
   pub mirrors : (image : List (List ℕ)) → Mirrors p.store a image
-      → Mirrors q.store b (taken (receiver p image) f).image
+      → Mirrors q.store b (after_frame (receiver p image) f).image
+  pub calls : CalledTimes (take_calls p.store.cell (q.store.number - p.store.number)) a b
+
+-- no frame changes the shape, a disk's size, or a disk but 17, and the replica may be called again
+pub record StaysBeside (p q : MountedReplica) (a b : View) : Type 0 where
+  pub usable : IsUsable q b
+  pub shape : q.store.shape ≡ p.store.shape
+  pub sizes : (e : ℕ) → b.sizes e ≡ a.sizes e
+  pub elsewhere : Moves a b Elsewhere Elsewhere
+  pub touches : IsTrue a.tells → Quiet Elsewhere a.now b.now
+
+-- nothing fails but disk 17, whose count rose, and then the replica is stopped
+pub record FailsByDisk {T : Type 0} (result : Result T ReplicaFault) (q : MountedReplica)
+    (a b : View) : Type 0 where
+  pub cause : IfErr result (λ why. (why ≡ DiskFault) × Rose (a.faults 17) (b.faults 17))
+  pub stops : q.is_stopped ≡ is_err result

@@ -10,7 +10,11 @@ use Rattle.trap_replica.specs.Creating.{BeginsReplica, IsNoReplica}
 use Rattle.trap_replica.specs.Standing.{IsStoreReady, Mirrors}
 use Rattle.trap_replica.specs.Mounted.{MountedReplica}
 use Rattle.trap_replica.specs.declared.fault.ReplicaFault.{ReplicaFault}
-use Rattle.trap_replica.specs.declared.fault.ReplicaFault.TheVariants.{Exists, NotAReplica, Damaged, DiskFault, ReadFault, ShortImage, LongImage, Stranger, NoBlock, Stopped, OutOfMemory}
+use Rattle.trap_replica.specs.declared.fault.ReplicaFault.TheVariants.{Exists, NotAReplica, Damaged}
+use Rattle.trap_replica.specs.declared.fault.ReplicaFault.TheVariants.{DiskFault, ReadFault}
+use Rattle.trap_replica.specs.declared.fault.ReplicaFault.TheVariants.{ShortImage, LongImage}
+use Rattle.trap_replica.specs.declared.fault.ReplicaFault.TheVariants.{Stranger, NoBlock, Stopped}
+use Rattle.trap_replica.specs.declared.fault.ReplicaFault.TheVariants.{OutOfMemory}
 use Rattle.trap_replica.specs.declared.store.Store.{Store}
 
 -- disk 17 has the header of this shape, and its size
@@ -50,6 +54,20 @@ IsRefusedAs disks (Stranger id) = ⊥
 IsRefusedAs disks (NoBlock block) = ⊥
 IsRefusedAs disks Stopped = ⊥
 IsRefusedAs disks OutOfMemory = Unit {0}
+
+-- the answers of a mount that isn't done
+abbrev pub IsMountFault : ReplicaFault → Type 0
+IsMountFault (Exists disk) = ⊥
+IsMountFault NotAReplica = Unit {0}
+IsMountFault (Damaged offset) = (offset ≡ 0) ⊎ (offset ≡ 32)
+IsMountFault DiskFault = Unit {0}
+IsMountFault ReadFault = ⊥
+IsMountFault (ShortImage at) = ⊥
+IsMountFault (LongImage at) = ⊥
+IsMountFault (Stranger id) = ⊥
+IsMountFault (NoBlock block) = ⊥
+IsMountFault Stopped = ⊥
+IsMountFault OutOfMemory = Unit {0}
 
 -- every crash leaves of disk 17 what a read gives
 abbrev pub IsReplicaStable : View → Type 0

@@ -1,9 +1,10 @@
 -- What a replica holds on disk 17: its number, its time and its image.
-use Rattle.std.specs.Prelude.{◌≡◌, ◌≢◌, ℕ, ◌+◌, ◌^◌, ◌<◌, ◌≤◌, List, ◌++◌, length, Some}
+use Rattle.std.specs.Prelude.{◌≡◌, ◌≢◌, ℕ, ◌^◌, ◌<◌, ◌≤◌, List, ◌++◌, length, Some}
 use Rattle.std.specs.Int.{w32, w64, to_be_bytes}
 use Rattle.trap_bank.specs.Disks.{Disks, Area, Within, region, size_of}
 use Rattle.trap_cell.specs.Slots.{Place, place_of, cell_value}
-use Rattle.trap_format.specs.ReplicaDisk.{replica_cell_at, replica_value_len, home_at, replica_size, replica_header}
+use Rattle.trap_format.specs.ReplicaDisk.{replica_cell_at, replica_value_len, home_at, replica_size}
+use Rattle.trap_format.specs.ReplicaDisk.{replica_header}
 use Rattle.trap_format.specs.declared.shape.Shape.{Shape}
 use Rattle.trap_model.specs.Image.{block_of}
 

@@ -1,9 +1,11 @@
 -- What a mounted replica stands for: what is known of its disk, and the frames it holds.
-use Rattle.std.specs.Prelude.{◌≡◌, ℕ, zero, suc, ◌+◌, List, [], ◌∷◌, IsTrue, ◌==◌, if◌then◌else◌, Result, OnOk, OnErr, ◌||◌}
+use Rattle.std.specs.Prelude.{◌≡◌, ℕ, zero, suc, ◌+◌, List, [], ◌∷◌, IsTrue, ◌==◌, if◌then◌else◌}
+use Rattle.std.specs.Prelude.{Result, OnOk, OnErr, ◌||◌}
 use Rattle.trap_bank.specs.Disks.{Disks, View, Quiet}
+use Rattle.trap_bank.specs.Called.{CalledTimes}
 use Rattle.trap_bank.specs.Calls.{Fits}
 use Rattle.trap_bank.specs.Steps.{Always, Moves}
-use Rattle.trap_cell.specs.Slots.{Stands}
+use Rattle.trap_cell.specs.Slots.{Stands, turned}
 use Rattle.trap_format.specs.ReplicaDisk.{replica_size}
 use Rattle.trap_format.specs.declared.shape.Shape.{Shape}
 use Rattle.trap_model.specs.Image.{block_of}
@@ -11,7 +13,7 @@ use Rattle.trap_model.specs.Receiver.{Receiver, applied, hold, is_known, is_beyo
 use Rattle.trap_model.specs.declared.arrival.Arrival.{Arrival}
 use Rattle.trap_replica.specs.Holding.{HeldFrames, SuitAll}
 use Rattle.trap_replica.specs.OnDisk.{HoldsImageBy, ReplicaHolds}
-use Rattle.trap_replica.specs.Applying.{Elsewhere, Leaves}
+use Rattle.trap_replica.specs.Applying.{Elsewhere, Leaves, take_calls, cell_after}
 use Rattle.trap_replica.specs.declared.store.Store.{Store}
 
 -- the disk is there, and every crash leaves its cell as the program knows it
@@ -24,12 +26,13 @@ pub record Mirrors (p : Store) (v : View) (image : List (List ℕ)) : Type 0 whe
   pub holds : Always v (HoldsImageBy p.shape p.block p.number p.time image)
   pub contents : IsTrue v.tells → p.contents.items ≡ block_of image p.block
 
--- the numbers after a frame was applied; after a fault those from before
+-- the numbers and the cell after a frame was applied; after a fault the number from before
 pub record HasApplied {T E : Type 0} (result : Result T E) (f : Arrival) (p q : Store)
     : Type 0 where
   pub shape : q.shape ≡ p.shape
   pub number : OnOk result (q.number ≡ p.number + 1)
   pub time : OnOk result (q.time ≡ f.time)
+  pub cell : OnOk result (q.cell ≡ turned p.cell)
   pub stays : OnErr result (q.number ≡ p.number)
 
 -- the first held frame applied, where it is the next; else nothing
@@ -64,6 +67,9 @@ pub record Passed (p q : Store) (h k : HeldFrames) (a b : View) : Type 0 where
       → Mirrors q b (steps count (seen p h image)).image
   pub ready : IsStoreReady q b
   pub suit : SuitAll q.shape q.number q.number k
+  pub number : q.number ≡ p.number + count
+  pub cell : q.cell ≡ cell_after p.cell count
+  pub calls : CalledTimes (take_calls p.cell count) a b
 
 -- The held frames that follow are being applied. Stopped at any moment, the disk holds the image
 -- after some of them.

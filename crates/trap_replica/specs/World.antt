@@ -1,6 +1,7 @@
 -- A primary that commits entries, and a receiver of their parities, whatever is lost, repeated,
 -- reordered or stopped.
-use Rattle.std.specs.Prelude.{◌≡◌, ℕ, ◌-◌, ◌<◌, ◌≤◌, List, [], ◌∷◌, ◌++◌, All, length, take, drop, set}
+use Rattle.std.specs.Prelude.{◌≡◌, ℕ, ◌-◌, ◌<◌, ◌≤◌, List, [], ◌∷◌, ◌++◌, All, length, take, drop}
+use Rattle.std.specs.Prelude.{set}
 use Rattle.trap_block.specs.Xor.{xor}
 use Rattle.trap_model.specs.Image.{block_of, written, image_after}
 use Rattle.trap_model.specs.Receiver.{gapless}

@@ -2,15 +2,16 @@
 
 ghost use Rattle.std.specs.Prelude.{◌≡◌, ℕ, ◌+◌, ◌^◌, ◌<◌, ◌≤◌, List, length, IsTrue, OnOk, OnErr};
 ghost use Rattle.trap_bank.specs.Faults.{Rose};
-ghost use Rattle.trap_bank.specs.Disks.{Quiet, region};
+ghost use Rattle.trap_bank.specs.Called.{CalledTimes};
 ghost use Rattle.trap_bank.specs.Calls.{Fits};
-ghost use Rattle.trap_bank.specs.Steps.{Moves, Same, Always};
+ghost use Rattle.trap_bank.specs.Steps.{Always};
 ghost use Rattle.trap_cell.specs.Slots.{Stands};
+ghost use Rattle.trap_cell.specs.Steps.{put_calls};
 ghost use Rattle.trap_format.specs.ReplicaDisk.{home_at, replica_size, replica_value_len};
 ghost use Rattle.trap_model.specs.Image.{block_of};
 ghost use Rattle.trap_model.specs.Receiver.{xored};
 ghost use Rattle.trap_replica.specs.OnDisk.{HoldsImageBy, cell_place};
-ghost use Rattle.trap_replica.specs.Applying.{Elsewhere, Leaves, HoldsEither};
+ghost use Rattle.trap_replica.specs.Applying.{Leaves, LeavesOthers, HoldsEither, TurnsCell};
 
 use crate::layout::{DISK, home_at, spell_value};
 use trap_bank::{Bank, DiskFault, write_through};
@@ -39,23 +40,6 @@ pub(crate) fn apply<B: Bank>(
     requires sized { length frame.now.parity ≡ s.now.block }
     requires contents { length contents.old ≡ s.now.block }
     requires value { length value.old ≡ replica_value_len s.now }
-    ensures place { cell.new.place ≡ cell.old.place }
-    ensures stands { OnOk result (Always (B.view bank.new) (Stands cell.new)) }
-    ensures sizes { (e : ℕ) → (B.view bank.new).sizes e ≡ (B.view bank.old).sizes e }
-    ensures cause { OnErr result
-        (Rose ((B.view bank.old).faults 17) ((B.view bank.new).faults 17)) }
-
-    // Nothing but disk 17 changes.
-    ensures elsewhere { Moves (B.view bank.old) (B.view bank.new) Elsewhere Elsewhere }
-    ensures touches { IsTrue (B.view bank.old).tells
-        → Quiet Elsewhere (B.view bank.old).now (B.view bank.new).now }
-
-    // Stopped at any moment, the disk holds the image before the frame or the one after it.
-    ensures any_moment { (number time : ℕ) (image : List (List ℕ)) → number + 1 ≡ seq → seq ≤ 2 ^ 40
-        → (IsTrue (B.view bank.old).tells → contents.old ≡ block_of image block)
-        → Always (B.view bank.old) (HoldsImageBy s.now block number time image)
-        → Leaves (B.view bank.old) (B.view bank.new)
-        (HoldsEither s.now number time image frame.now) }
     ensures ok { (number time : ℕ) (image : List (List ℕ)) → number + 1 ≡ seq → seq ≤ 2 ^ 40
         → (IsTrue (B.view bank.old).tells → contents.old ≡ block_of image block)
         → Always (B.view bank.old) (HoldsImageBy s.now block number time image)
@@ -66,6 +50,22 @@ pub(crate) fn apply<B: Bank>(
         → Always (B.view bank.old) (HoldsImageBy s.now block number time image)
         → OnOk result (IsTrue (B.view bank.old).tells
         → contents.new ≡ block_of (xored image frame.now) frame.now.block) }
+    ensures cell { OnOk result (TurnsCell cell.old cell.new (B.view bank.new)) }
+    ensures calls { OnOk result (CalledTimes (3 + put_calls cell.old) (B.view bank.old)
+        (B.view bank.new)) }
+    ensures place { cell.new.place ≡ cell.old.place }
+
+    // Nothing but disk 17 changes.
+    ensures beside { LeavesOthers (B.view bank.old) (B.view bank.new) }
+    ensures cause { OnErr result
+        (Rose ((B.view bank.old).faults 17) ((B.view bank.new).faults 17)) }
+
+    // Stopped at any moment, the disk holds the image before the frame or the one after it.
+    ensures any_moment { (number time : ℕ) (image : List (List ℕ)) → number + 1 ≡ seq → seq ≤ 2 ^ 40
+        → (IsTrue (B.view bank.old).tells → contents.old ≡ block_of image block)
+        → Always (B.view bank.old) (HoldsImageBy s.now block number time image)
+        → Leaves (B.view bank.old) (B.view bank.new)
+        (HoldsEither s.now number time image frame.now) }
 {
     // What the cell alone holds is stable at home before the put takes it away.
     write_through(bank, DISK, home_at(s, block), contents)?;

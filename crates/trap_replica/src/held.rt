@@ -1,6 +1,7 @@
 //! The frames that are held until those before them have come.
 
-ghost use Rattle.std.specs.Prelude.{◌≡◌, ◌↔◌, ◌+◌, ◌<◌, ◌≤◌, List, [], ◌∷◌, ◌++◌, ℕ, All, length, take, drop, IfOk, IfSome, IfNone};
+ghost use Rattle.std.specs.Prelude.{◌≡◌, ◌↔◌, ◌+◌, ◌<◌, ◌≤◌, List, [], ◌∷◌, ◌++◌, ℕ, All, length};
+ghost use Rattle.std.specs.Prelude.{take, drop, IfOk, IfSome, IfNone};
 ghost use Rattle.std.specs.List.{slice_rotate_right};
 ghost use Rattle.trap_model.specs.Receiver.{hold, is_held};
 ghost use Rattle.trap_model.specs.declared.arrival.Arrival.{Arrival};

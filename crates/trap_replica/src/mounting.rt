@@ -1,6 +1,8 @@
 //! Mounting: the replica is found again, whatever a crash left.
 
-ghost use Rattle.std.specs.Prelude.{◌≡◌, ◌+◌, ◌^◌, ◌≤◌, ◌<◌, ◌≢◌, ℕ, length, drop, vec_len, IsTrue, IsErrOf, IfOk, IfErr, OnOk, OnErr, IfSome, IfNone};
+ghost use Rattle.std.specs.Prelude.{◌≡◌, ◌+◌, ◌^◌, ◌≤◌, ◌<◌, ◌≢◌, ℕ, length, drop, vec_len, IsTrue};
+ghost use Rattle.std.specs.Prelude.{IsErrOf, IfOk, IfErr, OnOk, OnErr, Err, Some, IfSome, IfNone};
+ghost use Rattle.trap_bank.specs.Called.{TakesCalls};
 ghost use Rattle.trap_bank.specs.Calls.{Fits};
 ghost use Rattle.trap_bank.specs.Disks.{region};
 ghost use Rattle.trap_bank.specs.Faults.{Rose};
@@ -8,7 +10,9 @@ ghost use Rattle.trap_bank.specs.Steps.{OnlyReads};
 ghost use Rattle.trap_cell.specs.Steps.{IsMounted};
 ghost use Rattle.trap_format.specs.ReplicaDisk.{replica_size, replica_value_len};
 ghost use Rattle.trap_replica.specs.OnDisk.{cell_place, value_bytes};
-ghost use Rattle.trap_replica.specs.Mounting.{HasReplicaHeader, IsNoValue, IsRefusedAs, IsReplicaStable, ReadsReplicaHeader, Opens, MountsReplica};
+ghost use Rattle.trap_replica.specs.Mounting.{HasReplicaHeader, IsMountFault, IsNoValue};
+ghost use Rattle.trap_replica.specs.Mounting.{IsRefusedAs, IsReplicaStable, ReadsReplicaHeader};
+ghost use Rattle.trap_replica.specs.Mounting.{Opens, MountsReplica};
 ghost use Rattle.trap_replica.specs.declared.fault.ReplicaFault.TheVariants as fault;
 
 use crate::held::Held;
@@ -38,6 +42,7 @@ fn read_first<B: Bank>(bank: &mut B, into: &mut [u8]) -> Result<(), DiskFault>
     ensures bytes { IsTrue (B.view bank.old).tells
         → OnOk result (into.new ≡ region (B.view bank.old).now.disks 17 0 (length into.old)) }
     ensures stable { OnOk result (IsReplicaStable (B.view bank.new)) }
+    ensures calls { TakesCalls 2 result (B.view bank.old) (B.view bank.new) }
     ensures reads { OnlyReads (B.view bank.old) (B.view bank.new) }
     ensures cause { OnErr result
         (Rose ((B.view bank.old).faults 17) ((B.view bank.new).faults 17)) }
@@ -51,6 +56,10 @@ fn read_first<B: Bank>(bank: &mut B, into: &mut [u8]) -> Result<(), DiskFault>
 /// Reads the numbers of the replica from its header.
 fn read_header<B: Bank>(bank: &mut B) -> Result<Shape, ReplicaFault>
     ensures ok { IfOk result (λ s. ReadsReplicaHeader s (B.view bank.old) (B.view bank.new)) }
+    ensures calls { TakesCalls 2 result (B.view bank.old) (B.view bank.new) }
+    ensures kinds { IfErr result IsMountFault }
+    ensures absent { ((n : ℕ) → (B.view bank.old).sizes 17 ≡ Some n → n < 32)
+        → (result ≡ Err fault.NotAReplica) × (bank.new ≡ bank.old) }
     ensures reads { OnlyReads (B.view bank.old) (B.view bank.new) }
     ensures refused { IfErr result (λ why. IsTrue (B.view bank.old).tells
         → IsRefusedAs (B.view bank.old).now.disks why) }
@@ -84,6 +93,8 @@ fn read_cell<B: Bank>(bank: &mut B, s: &Shape, value: &mut [u8]) -> Result<Cell,
     requires long { length value.old ≡ replica_value_len s.now }
     ensures mounted { IfOk result (IsMounted (B.view bank.old) (B.view bank.new)
         (cell_place s.now) value.new) }
+    ensures calls { TakesCalls 3 result (B.view bank.old) (B.view bank.new) }
+    ensures kinds { IfErr result IsMountFault }
     ensures reads { OnlyReads (B.view bank.old) (B.view bank.new) }
     ensures refused { IfErr result (λ why. IsTrue (B.view bank.old).tells
         → HasReplicaHeader s.now (B.view bank.old).now.disks
@@ -137,6 +148,8 @@ fn open_store<B: Bank>(alloc: Global, bank: &mut B, s: &Shape) -> Result<Store, 
     requires has { IsTrue (B.view bank.old).tells
         → HasReplicaHeader s.now (B.view bank.old).now.disks }
     ensures ok { IfOk result (λ store. Opens store (B.view bank.old) (B.view bank.new)) }
+    ensures calls { TakesCalls 3 result (B.view bank.old) (B.view bank.new) }
+    ensures kinds { IfErr result IsMountFault }
     ensures shape { IfOk result (λ store. store.shape ≡ s.now) }
     ensures reads { OnlyReads (B.view bank.old) (B.view bank.new) }
     ensures refused { IfErr result (λ why. IsTrue (B.view bank.old).tells
@@ -168,6 +181,10 @@ impl Replica {
     /// Mounts the replica that disk 17 holds. Nothing is written.
     pub fn mount<B: Bank>(alloc: Global, bank: &mut B) -> Result<Replica, ReplicaFault>
         ensures ok { IfOk result (λ r. MountsReplica r (B.view bank.old) (B.view bank.new)) }
+        ensures calls { TakesCalls 5 result (B.view bank.old) (B.view bank.new) }
+        ensures kinds { IfErr result IsMountFault }
+        ensures absent { ((n : ℕ) → (B.view bank.old).sizes 17 ≡ Some n → n < 32)
+            → (result ≡ Err fault.NotAReplica) × (bank.new ≡ bank.old) }
         ensures refused { IfErr result (λ why. IsTrue (B.view bank.old).tells
             → IsRefusedAs (B.view bank.old).now.disks why) }
         ensures cause { IsErrOf result fault.DiskFault

@@ -1,6 +1,8 @@
 //! A mounted replica.
 
-ghost use Rattle.std.specs.Prelude.{◌≡◌, ◌↔◌, ◌<◌, ◌||◌, ℕ, List, length, false, is_err, IsTrue, IsErrOf, OnOk, IfErr};
+ghost use Rattle.std.specs.Prelude.{◌≡◌, ◌==◌, ◌↔◌, ◌<◌, ◌||◌, ℕ, List, length, true, false};
+ghost use Rattle.std.specs.Prelude.{is_err, IsTrue, IsErrOf, OnOk, IfErr, if◌then◌else◌};
+ghost use Rattle.trap_bank.specs.Called.{TakesCalls};
 ghost use Rattle.trap_bank.specs.Faults.{Rose};
 ghost use Rattle.trap_bank.specs.Steps.{OnlyReads};
 ghost use Rattle.trap_model.specs.Image.{block_of};
@@ -81,7 +83,11 @@ impl Replica {
         ensures same { self.new
             ≡ record self.old { is_stopped = self.old.is_stopped || is_err result } }
         ensures ready { IsUsable self.new (B.view bank.new) }
+        ensures calls { self.old.is_stopped ≡ false
+            → TakesCalls (if block == self.old.store.block then 0 else 1) result
+            (B.view bank.old) (B.view bank.new) }
         ensures stopped { IsErrOf result fault.Stopped ↔ IsTrue self.old.is_stopped }
+        ensures untouched { self.old.is_stopped ≡ true → bank.new ≡ bank.old }
         ensures cause { self.old.is_stopped ≡ false → IfErr result (λ why. (why ≡ fault.DiskFault)
             × Rose ((B.view bank.old).faults 17) ((B.view bank.new).faults 17)) }
 

@@ -1,15 +1,20 @@
 //! A frame is taken: applied, held, or left out.
 
-ghost use Rattle.std.specs.Prelude.{◌≡◌, ◌≢◌, ◌+◌, ◌<◌, ◌≤◌, ◌^◌, ℕ, List, length, false, None, Some, OnOk, OnErr, IfOk, IfErr, IsTrue, ◌||◌, is_err};
+ghost use Rattle.std.specs.Prelude.{◌≡◌, ◌≢◌, ◌+◌, ◌<◌, ◌≤◌, ◌^◌, ℕ, List, length, false, None};
+ghost use Rattle.std.specs.Prelude.{Some, Ok, Err, OnOk, OnErr, IfOk, IfErr, IsTrue, ◌||◌, is_err};
 ghost use Rattle.trap_bank.specs.Faults.{Rose};
 ghost use Rattle.trap_bank.specs.Disks.{Quiet};
 ghost use Rattle.trap_bank.specs.Steps.{Moves};
 ghost use Rattle.trap_model.specs.Receiver.{answer};
 ghost use Rattle.trap_model.specs.declared.arrival.Arrival.{Arrival};
+ghost use Rattle.trap_model.specs.declared.arrival.Taken.{Taken};
+ghost use Rattle.trap_model.specs.declared.arrival.Taken.TheVariants as taken;
 ghost use Rattle.trap_replica.specs.Applying.{Elsewhere, Leaves};
 ghost use Rattle.trap_replica.specs.Holding.{SuitAll, Suits, holding};
-ghost use Rattle.trap_replica.specs.Mounted.{IsUsable, Receives, arrival, receiver, frame_refusal, left_out};
-ghost use Rattle.trap_replica.specs.Standing.{IsStoreReady, Mirrors, Passed, PassesHeld, HoldsPassed, arrived, seen};
+ghost use Rattle.trap_replica.specs.Mounted.{IsUsable, Receives, StaysBeside, FailsByDisk, arrival};
+ghost use Rattle.trap_replica.specs.Mounted.{receiver, frame_refusal, left_out};
+ghost use Rattle.trap_replica.specs.Standing.{IsStoreReady, Mirrors, Passed, PassesHeld};
+ghost use Rattle.trap_replica.specs.Standing.{HoldsPassed, arrived, seen};
 ghost use Rattle.trap_replica.specs.declared.fault.ReplicaFault.TheVariants as fault;
 ghost use Rattle.trap_replica.specs.declared.fault.ReplicaFault.{ReplicaFault};
 
@@ -56,17 +61,18 @@ fn admit<B: Bank>(
         (B.view bank.new)) }
     ensures done { OnOk result (SuitAll store.new.shape (store.new.number + 1) store.new.number
         held.new) }
+    ensures waits { result ≡ Ok taken.Held → (store.new ≡ store.old) × (bank.new ≡ bank.old) }
     ensures cause { OnErr result (Rose ((B.view bank.old).faults 17)
         ((B.view bank.new).faults 17)) }
     ensures passes { PassesHeld store.old store.new
         (holding held.old (arrival frame.now parity.now)) (B.view bank.old) (B.view bank.new) }
 {
-    let is_next = frame.seq == store.number + 1;
     held.insert(frame.seq, frame.time, frame.block, parity);
-    settle(bank, store, held)?;
-    if !is_next {
+    if frame.seq != store.number + 1 {
+        // It waits for those before it, which no held frame stands for.
         return Ok(Taken::Held);
     }
+    settle(bank, store, held)?;
     Ok(Taken::Applied { upto: store.number })
 }
 
@@ -104,23 +110,22 @@ impl Replica {
             ≡ answer (receiver self.old image) (arrival frame.now parity.now)) }
         ensures ok { OnOk result (Receives self.old self.new (arrival frame.now parity.now)
             (B.view bank.old) (B.view bank.new)) }
-        ensures ready { IsUsable self.new (B.view bank.new) }
-        ensures shape { self.new.store.shape ≡ self.old.store.shape }
-        ensures sizes { (e : ℕ) → (B.view bank.new).sizes e ≡ (B.view bank.old).sizes e }
-        ensures elsewhere { Moves (B.view bank.old) (B.view bank.new) Elsewhere Elsewhere }
-        ensures touches { IsTrue (B.view bank.old).tells
-            → Quiet Elsewhere (B.view bank.old).now (B.view bank.new).now }
+        ensures stays { StaysBeside self.old self.new (B.view bank.old) (B.view bank.new) }
+
+        // What is left out, and what waits, makes no call of the bank.
+        ensures left_out { frame_refusal self.old frame.now ≡ None → (given : Taken)
+            → left_out self.old.store self.old.held (arrival frame.now parity.now) ≡ Some given
+            → (result ≡ Ok given) × (self.new ≡ self.old) × (bank.new ≡ bank.old) }
+        ensures waits { result ≡ Ok taken.Held
+            → (self.new.store ≡ self.old.store) × (bank.new ≡ bank.old) }
 
         // What is refused changes nothing.
         ensures refused { (why : ReplicaFault) → frame_refusal self.old frame.now ≡ Some why
             → (result ≡ Err why) × (self.new ≡ self.old) × (bank.new ≡ bank.old) }
 
         // Nothing else fails but the disk, which stops the replica.
-        ensures cause { frame_refusal self.old frame.now ≡ None → IfErr result (λ why.
-            (why ≡ fault.DiskFault)
-            × Rose ((B.view bank.old).faults 17) ((B.view bank.new).faults 17)) }
-        ensures stops { frame_refusal self.old frame.now ≡ None
-            → self.new.is_stopped ≡ is_err result }
+        ensures cause { frame_refusal self.old frame.now ≡ None
+            → FailsByDisk result self.new (B.view bank.old) (B.view bank.new) }
 
         // Stopped at any moment, the disk holds the image after some of the frames that are to be
         // applied.

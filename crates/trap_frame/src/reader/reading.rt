@@ -1,12 +1,13 @@
 //! How a reader finds frames.
 
-ghost use Rattle.std.specs.Prelude.{◌≡◌, ◌+◌, ◌^◌, ◌<◌, ◌≤◌, ◌-◌, List, ℕ, length, take, drop, slice_range, Some, None, Err, IfOk, IfErr, OnOk};
+ghost use Rattle.std.specs.Prelude.{◌≡◌, ◌+◌, ◌^◌, ◌<◌, ◌≤◌, ◌-◌, List, ℕ, length, take, drop};
+ghost use Rattle.std.specs.Prelude.{slice_range, Some, None, Err, IfOk, IfErr, OnOk};
 ghost use Rattle.trap_frame.specs.Reading.{FindsFrame, FindsNoFrame, IsFaultAtStop};
 ghost use Rattle.trap_frame.specs.Filling.{FillsBuffer};
 ghost use Rattle.trap_frame.specs.declared.found.FrameFault.{FrameFault};
 
 use super::Frames;
-use crate::filling::{Stop, fill};
+use crate::filling::{Stop, fill_between};
 use crate::found::{FrameFault, Next};
 use crate::header::{HEADER, read_header};
 use std::alloc::{AllocError as OutOfMemory, Global};
@@ -79,7 +80,7 @@ impl Frames {
             (S.stream source.old) (S.stream source.new)
             × (take (length front) (drop start self.new.buf.items) ≡ front) }
     {
-        fill(source, self.buf.as_mut_slice(), start, end, &mut self.used)
+        fill_between(source, self.buf.as_mut_slice(), start, end, &mut self.used)
     }
 
     // The next frame, where there was no fault before.

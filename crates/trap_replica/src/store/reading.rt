@@ -1,6 +1,8 @@
 //! How a block of the image is read.
 
-ghost use Rattle.std.specs.Prelude.{◌≡◌, ℕ, ◌<◌, List, length, IsTrue, OnOk, OnErr};
+ghost use Rattle.std.specs.Prelude.{◌≡◌, ◌==◌, ℕ, ◌<◌, List, length, IsTrue, OnOk, OnErr};
+ghost use Rattle.std.specs.Prelude.{if◌then◌else◌};
+ghost use Rattle.trap_bank.specs.Called.{TakesCalls};
 ghost use Rattle.trap_bank.specs.Faults.{Rose};
 ghost use Rattle.trap_bank.specs.Calls.{Fits};
 ghost use Rattle.trap_bank.specs.Steps.{OnlyReads};
@@ -25,6 +27,8 @@ impl Store {
         requires sized { length into.old ≡ self.now.shape.block }
         ensures bytes { (image : List (List ℕ)) → Mirrors self.now (B.view bank.old) image
             → IsTrue (B.view bank.old).tells → OnOk result (into.new ≡ block_of image block) }
+        ensures calls { TakesCalls (if block == self.now.block then 0 else 1) result
+            (B.view bank.old) (B.view bank.new) }
         ensures reads { OnlyReads (B.view bank.old) (B.view bank.new) }
         ensures cause { OnErr result (Rose ((B.view bank.old).faults 17)
             ((B.view bank.new).faults 17)) }

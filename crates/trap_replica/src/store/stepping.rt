@@ -1,11 +1,11 @@
 //! How the image on the disk moves on by one frame.
 
-ghost use Rattle.std.specs.Prelude.{◌≡◌, ℕ, ◌^◌, ◌<◌, List, length, IsTrue, OnOk, OnErr};
+ghost use Rattle.std.specs.Prelude.{◌≡◌, ℕ, ◌+◌, ◌^◌, ◌<◌, List, length, OnOk, OnErr};
+ghost use Rattle.trap_bank.specs.Called.{CalledTimes};
 ghost use Rattle.trap_bank.specs.Faults.{Rose};
-ghost use Rattle.trap_bank.specs.Disks.{Quiet};
-ghost use Rattle.trap_bank.specs.Steps.{Moves};
+ghost use Rattle.trap_cell.specs.Steps.{put_calls};
 ghost use Rattle.trap_model.specs.Receiver.{xored};
-ghost use Rattle.trap_replica.specs.Applying.{Elsewhere, Leaves, HoldsEither};
+ghost use Rattle.trap_replica.specs.Applying.{Leaves, LeavesOthers, HoldsEither};
 ghost use Rattle.trap_replica.specs.Standing.{IsStoreReady, Mirrors, HasApplied};
 
 use super::Store;
@@ -20,19 +20,18 @@ impl Store {
         requires room { self.old.number < 2 ^ 40 }
         requires inside { frame.now.block < self.old.shape.volume }
         requires sized { length frame.now.parity ≡ self.old.shape.block }
+        ensures ok { (image : List (List ℕ)) → Mirrors self.old (B.view bank.old) image
+            → OnOk result (Mirrors self.new (B.view bank.new) (xored image frame.now)) }
         ensures fields { HasApplied result frame.now self.old self.new }
         ensures ready { OnOk result (IsStoreReady self.new (B.view bank.new)) }
-        ensures sizes { (e : ℕ) → (B.view bank.new).sizes e ≡ (B.view bank.old).sizes e }
+        ensures calls { OnOk result (CalledTimes (3 + put_calls self.old.cell) (B.view bank.old)
+            (B.view bank.new)) }
+        ensures beside { LeavesOthers (B.view bank.old) (B.view bank.new) }
         ensures cause { OnErr result (Rose ((B.view bank.old).faults 17)
             ((B.view bank.new).faults 17)) }
-        ensures elsewhere { Moves (B.view bank.old) (B.view bank.new) Elsewhere Elsewhere }
-        ensures touches { IsTrue (B.view bank.old).tells
-            → Quiet Elsewhere (B.view bank.old).now (B.view bank.new).now }
         ensures any_moment { (image : List (List ℕ)) → Mirrors self.old (B.view bank.old) image
             → Leaves (B.view bank.old) (B.view bank.new)
             (HoldsEither self.old.shape self.old.number self.old.time image frame.now) }
-        ensures ok { (image : List (List ℕ)) → Mirrors self.old (B.view bank.old) image
-            → OnOk result (Mirrors self.new (B.view bank.new) (xored image frame.now)) }
     {
         apply(
             bank,

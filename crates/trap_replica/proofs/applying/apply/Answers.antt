@@ -1,34 +1,36 @@
-use Rattle.std.proofs.Common.{◌≡◌, ◌^◌, ◌<◌, IsTrue, sym, subst, ◌∙◌, arith}
+use Rattle.std.proofs.Common.{IsTrue, sym, subst, ◌∙◌, arith}
 use Rattle.trap_bank.proofs.Moves.{read_steps, always_same}
 use Rattle.trap_cell.specs.Slots.{Stands}
 use Rattle.trap_cell.proofs.Beside.{stands_put}
 use Rattle.trap_replica.proofs.OneFrame.{home_fits, cell_fits, home_part, stands_home, else_moves, else_same, else_put, else_then, touch_torn, touch_same, touch_put, touch_then}
-use Rattle.trap_replica.proofs.FrameSteps.{frame_block, AtHome, sent_part, sent_home, read_part, read_home, got, put_part, put_home}
+use Rattle.trap_replica.proofs.FrameSteps.{frame_block, sent_part, sent_home, read_part, read_home, got, put_part, put_home}
 use Rattle.trap_bank.proofs.Moves.{read_is_left}
 use Rattle.trap_replica.proofs.applying.apply.Goals as goal
 
 pub write_through-requires-clause-room : goal.write_through-requires-clause-room
 write_through-requires-clause-room g c = home_fits c.args.s.now c.args.block _ _ (g.B.Bank.view c.args.bank.now) c.requires.named c.home_at.ensures c.requires.contents c.requires.there
 
-pub returns-in_err-write_through-clause-elsewhere : goal.returns-in_err-write_through-clause-elsewhere
-returns-in_err-write_through-clause-elsewhere g c = else_moves _ _ _ _ c.write_through.ensures.any_moment
-
-pub returns-in_err-write_through-clause-touches : goal.returns-in_err-write_through-clause-touches
-returns-in_err-write_through-clause-touches g c = touch_torn _ _ (g.B.Bank.view c.args.bank.now) (g.B.Bank.view c.write_through.new.bank) c.write_through.ensures.contents
+pub returns-in_err-write_through-clause-beside : goal.returns-in_err-write_through-clause-beside
+returns-in_err-write_through-clause-beside g c = record {
+  sizes = c.write_through.ensures.sizes;
+  elsewhere = else_moves _ _ _ _ c.write_through.ensures.any_moment;
+  touches = touch_torn _ _ (g.B.Bank.view c.args.bank.now) (g.B.Bank.view c.write_through.new.bank) c.write_through.ensures.contents;
+}
 
 pub returns-in_err-write_through-clause-any_moment : goal.returns-in_err-write_through-clause-any_moment
 returns-in_err-write_through-clause-any_moment g c = λ number time image next last same always.
     sent_part c.args.s.now c.args.block number time image (g.B.Bank.view c.args.bank.now) (g.B.Bank.view c.write_through.new.bank) c.home_at.result c.args.contents.now
     c.home_at.ensures c.requires.contents same always c.args.frame.now c.write_through.ensures.any_moment
 
-pub returns-in_err-read-clause-elsewhere : goal.returns-in_err-read-clause-elsewhere
-returns-in_err-read-clause-elsewhere g c = else_then (g.B.Bank.view c.args.bank.now) (g.B.Bank.view c.write_through.new.bank) (g.B.Bank.view c.read.new.self)
-    (else_moves _ _ _ _ c.write_through.ensures.any_moment) (else_same _ _ (read_steps _ _ _ _ _ _ _ c.read.ensures.call))
-
-pub returns-in_err-read-clause-touches : goal.returns-in_err-read-clause-touches
-returns-in_err-read-clause-touches g c = touch_then (g.B.Bank.view c.args.bank.now) (g.B.Bank.view c.write_through.new.bank) (g.B.Bank.view c.read.new.self) c.write_through.ensures.any_moment.tells
-    (touch_torn _ _ (g.B.Bank.view c.args.bank.now) (g.B.Bank.view c.write_through.new.bank) c.write_through.ensures.contents)
-    (touch_same (g.B.Bank.view c.write_through.new.bank) (g.B.Bank.view c.read.new.self) c.read.ensures.call.same)
+pub returns-in_err-read-clause-beside : goal.returns-in_err-read-clause-beside
+returns-in_err-read-clause-beside g c = record {
+  sizes = λ e. c.read.ensures.call.sizes e ∙ c.write_through.ensures.sizes e;
+  elsewhere = else_then (g.B.Bank.view c.args.bank.now) (g.B.Bank.view c.write_through.new.bank) (g.B.Bank.view c.read.new.self)
+      (else_moves _ _ _ _ c.write_through.ensures.any_moment) (else_same _ _ (read_steps _ _ _ _ _ _ _ c.read.ensures.call));
+  touches = touch_then (g.B.Bank.view c.args.bank.now) (g.B.Bank.view c.write_through.new.bank) (g.B.Bank.view c.read.new.self) c.write_through.ensures.any_moment.tells
+      (touch_torn _ _ (g.B.Bank.view c.args.bank.now) (g.B.Bank.view c.write_through.new.bank) c.write_through.ensures.contents)
+      (touch_same (g.B.Bank.view c.write_through.new.bank) (g.B.Bank.view c.read.new.self) c.read.ensures.call.same);
+}
 
 pub returns-in_err-read-clause-any_moment : goal.returns-in_err-read-clause-any_moment
 returns-in_err-read-clause-any_moment g c = λ number time image next last same always.
@@ -44,33 +46,35 @@ put-requires-clause-stands g c = always_same (g.B.Bank.view c.write_through.new.
     (stands_home c.args.s.now c.args.cell.now c.args.block (g.B.Bank.view c.args.bank.now) (g.B.Bank.view c.write_through.new.bank) c.requires.place
     (home_part c.args.s.now c.args.block _ _ (g.B.Bank.view c.args.bank.now) (g.B.Bank.view c.write_through.new.bank) c.home_at.ensures c.requires.contents c.write_through.ensures.any_moment) c.requires.stands)
 
-pub returns-in_err-put-clause-elsewhere : goal.returns-in_err-put-clause-elsewhere
-returns-in_err-put-clause-elsewhere g c = else_then (g.B.Bank.view c.args.bank.now) (g.B.Bank.view c.read.new.self) (g.B.Bank.view c.put.new.bank)
-    (else_then (g.B.Bank.view c.args.bank.now) (g.B.Bank.view c.write_through.new.bank) (g.B.Bank.view c.read.new.self)
-    (else_moves _ _ _ _ c.write_through.ensures.any_moment) (else_same _ _ (read_steps _ _ _ _ _ _ _ c.read.ensures.call)))
-    (else_put c.args.s.now c.args.cell.now _ _ _ c.requires.place c.put.ensures.any_moment)
+pub returns-in_err-put-clause-beside : goal.returns-in_err-put-clause-beside
+returns-in_err-put-clause-beside g c = record {
+  sizes = λ e. c.put.ensures.sizes e ∙ c.read.ensures.call.sizes e ∙ c.write_through.ensures.sizes e;
+  elsewhere = else_then (g.B.Bank.view c.args.bank.now) (g.B.Bank.view c.read.new.self) (g.B.Bank.view c.put.new.bank)
+      (else_then (g.B.Bank.view c.args.bank.now) (g.B.Bank.view c.write_through.new.bank) (g.B.Bank.view c.read.new.self)
+      (else_moves _ _ _ _ c.write_through.ensures.any_moment) (else_same _ _ (read_steps _ _ _ _ _ _ _ c.read.ensures.call)))
+      (else_put c.args.s.now c.args.cell.now _ _ _ c.requires.place c.put.ensures.any_moment);
+  touches = touch_then (g.B.Bank.view c.args.bank.now) (g.B.Bank.view c.read.new.self) (g.B.Bank.view c.put.new.bank)
+      (c.read.ensures.call.goes.tells ∙ c.write_through.ensures.any_moment.tells)
+      (touch_then (g.B.Bank.view c.args.bank.now) (g.B.Bank.view c.write_through.new.bank) (g.B.Bank.view c.read.new.self) c.write_through.ensures.any_moment.tells
+      (touch_torn _ _ (g.B.Bank.view c.args.bank.now) (g.B.Bank.view c.write_through.new.bank) c.write_through.ensures.contents)
+      (touch_same (g.B.Bank.view c.write_through.new.bank) (g.B.Bank.view c.read.new.self) c.read.ensures.call.same))
+      (touch_put c.args.s.now c.args.cell.now _ (g.B.Bank.view c.read.new.self) (g.B.Bank.view c.put.new.bank) c.requires.place c.put.ensures.contents);
+}
 
-pub returns-clause-elsewhere : goal.returns-clause-elsewhere
-returns-clause-elsewhere g c = else_then (g.B.Bank.view c.args.bank.now) (g.B.Bank.view c.read.new.self) (g.B.Bank.view c.put.new.bank)
-    (else_then (g.B.Bank.view c.args.bank.now) (g.B.Bank.view c.write_through.new.bank) (g.B.Bank.view c.read.new.self)
-    (else_moves _ _ _ _ c.write_through.ensures.any_moment) (else_same _ _ (read_steps _ _ _ _ _ _ _ c.read.ensures.call)))
-    (else_put c.args.s.now c.args.cell.now _ _ _ c.requires.place c.put.ensures.any_moment)
-
-pub returns-in_err-put-clause-touches : goal.returns-in_err-put-clause-touches
-returns-in_err-put-clause-touches g c = touch_then (g.B.Bank.view c.args.bank.now) (g.B.Bank.view c.read.new.self) (g.B.Bank.view c.put.new.bank)
-    (c.read.ensures.call.goes.tells ∙ c.write_through.ensures.any_moment.tells)
-    (touch_then (g.B.Bank.view c.args.bank.now) (g.B.Bank.view c.write_through.new.bank) (g.B.Bank.view c.read.new.self) c.write_through.ensures.any_moment.tells
-    (touch_torn _ _ (g.B.Bank.view c.args.bank.now) (g.B.Bank.view c.write_through.new.bank) c.write_through.ensures.contents)
-    (touch_same (g.B.Bank.view c.write_through.new.bank) (g.B.Bank.view c.read.new.self) c.read.ensures.call.same))
-    (touch_put c.args.s.now c.args.cell.now _ (g.B.Bank.view c.read.new.self) (g.B.Bank.view c.put.new.bank) c.requires.place c.put.ensures.contents)
-
-pub returns-clause-touches : goal.returns-clause-touches
-returns-clause-touches g c = touch_then (g.B.Bank.view c.args.bank.now) (g.B.Bank.view c.read.new.self) (g.B.Bank.view c.put.new.bank)
-    (c.read.ensures.call.goes.tells ∙ c.write_through.ensures.any_moment.tells)
-    (touch_then (g.B.Bank.view c.args.bank.now) (g.B.Bank.view c.write_through.new.bank) (g.B.Bank.view c.read.new.self) c.write_through.ensures.any_moment.tells
-    (touch_torn _ _ (g.B.Bank.view c.args.bank.now) (g.B.Bank.view c.write_through.new.bank) c.write_through.ensures.contents)
-    (touch_same (g.B.Bank.view c.write_through.new.bank) (g.B.Bank.view c.read.new.self) c.read.ensures.call.same))
-    (touch_put c.args.s.now c.args.cell.now _ (g.B.Bank.view c.read.new.self) (g.B.Bank.view c.put.new.bank) c.requires.place c.put.ensures.contents)
+pub returns-clause-beside : goal.returns-clause-beside
+returns-clause-beside g c = record {
+  sizes = λ e. c.put.ensures.sizes e ∙ c.read.ensures.call.sizes e ∙ c.write_through.ensures.sizes e;
+  elsewhere = else_then (g.B.Bank.view c.args.bank.now) (g.B.Bank.view c.read.new.self) (g.B.Bank.view c.put.new.bank)
+      (else_then (g.B.Bank.view c.args.bank.now) (g.B.Bank.view c.write_through.new.bank) (g.B.Bank.view c.read.new.self)
+      (else_moves _ _ _ _ c.write_through.ensures.any_moment) (else_same _ _ (read_steps _ _ _ _ _ _ _ c.read.ensures.call)))
+      (else_put c.args.s.now c.args.cell.now _ _ _ c.requires.place c.put.ensures.any_moment);
+  touches = touch_then (g.B.Bank.view c.args.bank.now) (g.B.Bank.view c.read.new.self) (g.B.Bank.view c.put.new.bank)
+      (c.read.ensures.call.goes.tells ∙ c.write_through.ensures.any_moment.tells)
+      (touch_then (g.B.Bank.view c.args.bank.now) (g.B.Bank.view c.write_through.new.bank) (g.B.Bank.view c.read.new.self) c.write_through.ensures.any_moment.tells
+      (touch_torn _ _ (g.B.Bank.view c.args.bank.now) (g.B.Bank.view c.write_through.new.bank) c.write_through.ensures.contents)
+      (touch_same (g.B.Bank.view c.write_through.new.bank) (g.B.Bank.view c.read.new.self) c.read.ensures.call.same))
+      (touch_put c.args.s.now c.args.cell.now _ (g.B.Bank.view c.read.new.self) (g.B.Bank.view c.put.new.bank) c.requires.place c.put.ensures.contents);
+}
 
 pub returns-in_err-put-clause-any_moment : goal.returns-in_err-put-clause-any_moment
 returns-in_err-put-clause-any_moment g c = λ number time image next last same always.
@@ -104,8 +108,11 @@ returns-clause-any_moment g c = λ number time image next last same always.
     (λ told. got c.args.s.now c.args.block number time image c.args.frame.now (g.B.Bank.view c.write_through.new.bank) _ _ _ _ _ c.home_at-2.ensures c.requires.contents
     c.requires.inside home c.in_ok-read.ensures.call.bytes c.xor_into.ensures c.as_slice.ensures (subst IsTrue c.read.ensures.call.goes.tells told))
 
-pub returns-clause-stands : goal.returns-clause-stands
-returns-clause-stands g c = stands_put c.args.cell.now c.put.new.self c.spell_value.new.value (g.B.Bank.view c.read.new.self) (g.B.Bank.view c.put.new.bank) _ c.in_ok-put.ensures.ok
+pub returns-clause-cell : goal.returns-clause-cell
+returns-clause-cell g c = record {
+  turned = c.in_ok-put.ensures.cell.ok;
+  stands = stands_put c.args.cell.now c.put.new.self c.spell_value.new.value (g.B.Bank.view c.read.new.self) (g.B.Bank.view c.put.new.bank) _ c.in_ok-put.ensures.ok;
+}
 
 pub returns-clause-ok : goal.returns-clause-ok
 returns-clause-ok g c = λ number time image next last same always.

@@ -1,4 +1,4 @@
-use Rattle.std.proofs.Common.{◌+◌, arith}
+use Rattle.std.proofs.Common.{arith}
 use Rattle.trap_replica.proofs.NewReplica.{fresh_is}
 use Rattle.trap_replica.proofs.creating.fresh_value.Goals as goal
 

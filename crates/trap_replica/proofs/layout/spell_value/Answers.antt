@@ -1,4 +1,4 @@
-use Rattle.std.proofs.Common.{ℕ, length, refl, sym, subst, ◌+◌, arith}
+use Rattle.std.proofs.Common.{ℕ, length, refl, sym, subst, arith}
 use Rattle.std.specs.Int.{w32, w64, to_be_bytes}
 use Rattle.trap_format.proofs.Written.{Written, written_none, written_more, written_all}
 use Rattle.trap_replica.specs.OnDisk.{value_bytes}

@@ -1,4 +1,4 @@
-use Rattle.std.proofs.Common.{◌≡◌, List, ℕ, length, drop, inr, refl, ap, sym, subst, ◌∙◌, arith}
+use Rattle.std.proofs.Common.{length, inr, refl, ap, subst, ◌∙◌, arith}
 use Rattle.std.proofs.lemmas.List.{with_items_is}
 use Rattle.trap_replica.specs.Mounting.{IsNoValue}
 use Rattle.trap_replica.proofs.MountedDisk.{stable_reads, wrong_value, found_value, opens}

@@ -1,4 +1,4 @@
-use Rattle.std.proofs.Common.{◌≡◌, ℕ, ◌+◌, length, None, Result, Err, inr, refl, ap, subst, arith}
+use Rattle.std.proofs.Common.{◌≡◌, ℕ, None, Result, Err, inr, refl, ap, subst}
 use Rattle.trap_cell.specs.Slots.{place_of, cell_value}
 use Rattle.trap_cell.specs.declared.fault.CellFault.{CellFault}
 use Rattle.trap_cell.specs.declared.fault.CellFault.TheVariants as cell

@@ -1,4 +1,4 @@
-use Rattle.std.proofs.Common.{◌≡◌, ◌<◌, ◌≤◌, List, length, take, ap, sym, ◌∙◌, arith}
+use Rattle.std.proofs.Common.{◌≡◌, ◌<◌, ◌≤◌, length, ap, arith}
 use Rattle.trap_model.specs.declared.arrival.Arrival.{Arrival}
 use Rattle.trap_replica.specs.Holding.{HeldFrames}
 use Rattle.trap_replica.proofs.HeldSlots.{dropped, dropped_all}

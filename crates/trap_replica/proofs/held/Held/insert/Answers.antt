@@ -1,4 +1,4 @@
-use Rattle.std.proofs.Common.{◌≡◌, ◌<◌, ◌≤◌, ◌+◌, ◌++◌, ◌∷◌, List, length, take, drop, ap, sym, ◌∙◌, arith}
+use Rattle.std.proofs.Common.{◌≡◌, ◌≤◌, ◌+◌, ◌++◌, ◌∷◌, List, length, take, drop, ap, sym, ◌∙◌, arith}
 use Rattle.trap_model.specs.Receiver.{hold}
 use Rattle.trap_model.specs.declared.arrival.Arrival.{Arrival}
 use Rattle.trap_replica.specs.Holding.{HeldFrames}

@@ -1,4 +1,4 @@
-use Rattle.std.proofs.Common.{◌≡◌, refl, ap}
+use Rattle.std.proofs.Common.{refl, ap}
 use Rattle.trap_bank.proofs.OnlyReads.{reads_then}
 use Rattle.trap_replica.specs.Holding.{HeldFrames}
 use Rattle.trap_replica.proofs.MountedDisk.{opens_before}
@@ -6,6 +6,9 @@ use Rattle.trap_replica.proofs.replica.Replica.mount.Goals as goal
 
 pub returns-clause-any_moment : goal.returns-clause-any_moment
 returns-clause-any_moment g c = reads_then _ _ _ c.read_header.ensures.reads c.open_store.ensures.reads
+
+pub returns-in_err-store-clause-any_moment : goal.returns-in_err-store-clause-any_moment
+returns-in_err-store-clause-any_moment g c = reads_then _ _ _ c.read_header.ensures.reads c.open_store.ensures.reads
 
 pub returns-clause-ok : goal.returns-clause-ok
 returns-clause-ok g c = record {

@@ -1,9 +1,9 @@
-use Rattle.std.proofs.Common.{◌≡◌, ◌<◌, length, List, ℕ, None, refl, ◌∙◌, subst, sym, arith}
+use Rattle.std.proofs.Common.{◌≡◌, ◌<◌, length, None, Some, refl, subst, sym}
 use Rattle.trap_model.specs.Receiver.{Receiver, answer}
 use Rattle.trap_replica.specs.Mounted.{MountedReplica, arrival, receiver, frame_refusal, Receives, left_out}
 use Rattle.trap_replica.specs.Applying.{Leaves}
 use Rattle.trap_replica.specs.Standing.{Mirrors, HoldsPassed, arrived}
-use Rattle.trap_replica.proofs.FrameTaken.{leaves_kept, leaves_out, receives_nothing, receives, is_arrived, near, block_inside}
+use Rattle.trap_replica.proofs.FrameTaken.{leaves_kept, leaves_out, receives_nothing, receives, is_arrived, near, named_inside, one_answer, not_left}
 use Rattle.trap_replica.proofs.replica.Replica.take.Goals as goal
 
 pub returns-in-Some-clause-any_moment : goal.returns-in-Some-clause-any_moment
@@ -38,7 +38,7 @@ admit-requires-clause-fits g c =
     record {
       near = near c.self.inside.store c.self.inside.held f fresh;
       last = c.requires.last;
-      inside = subst (λ (m : MountedReplica). c.args.frame.now.block < m.store.shape.volume) (sym c.self.view_is) (block_inside c.args.self.now c.args.frame.now none);
+      inside = subst (λ (m : MountedReplica). c.args.frame.now.block < m.store.shape.volume) (sym c.self.view_is) (named_inside c.args.self.now c.args.frame.now none);
       sized = subst (λ (m : MountedReplica). length c.args.parity.now ≡ m.store.shape.block) (sym c.self.view_is) c.requires.sized;
     }
 
@@ -71,3 +71,23 @@ returns-in-Err-clause-any_moment g c = λ image mirrors.
     (HoldsPassed m.store.shape (arrived (receiver m image) f))) c.self.view_is
     (λ was. subst (λ (r : Receiver). Leaves (g.B.Bank.view c.args.bank.now) (g.B.Bank.view c.admit.new.bank) (HoldsPassed c.self.inside.store.shape r))
     (is_arrived c.self.inside.store c.self.inside.held f image fresh) (c.admit.ensures.passes.any_moment image was)) mirrors
+
+pub returns-in-Some-left_out-clause-left_out : goal.returns-in-Some-left_out-clause-left_out
+returns-in-Some-left_out-clause-left_out g c = λ none given is.
+    let f = arrival c.args.frame.now c.args.parity.now in
+    let was = subst (λ (m : MountedReplica). left_out m.store m.held f ≡ Some c.in-Some-left_out.taken) c.self.view_is (sym (c.in-Some-left_out.ensures f refl)) in
+    (one_answer (left_out c.args.self.now.store c.args.self.now.held f) c.in-Some-left_out.taken given was is, refl, refl)
+
+pub returns-in-Ok-clause-left_out : goal.returns-in-Ok-clause-left_out
+returns-in-Ok-clause-left_out g c = λ none given is.
+    let f = arrival c.args.frame.now c.args.parity.now in
+    let e = c.left_out.ensures f refl in
+    let fresh : left_out c.self.inside.store c.self.inside.held f ≡ None = cc in
+    absurd (not_left (left_out c.args.self.now.store c.args.self.now.held f) given (subst (λ (m : MountedReplica). left_out m.store m.held f ≡ None) c.self.view_is fresh) is)
+
+pub returns-in-Err-clause-left_out : goal.returns-in-Err-clause-left_out
+returns-in-Err-clause-left_out g c = λ none given is.
+    let f = arrival c.args.frame.now c.args.parity.now in
+    let e = c.left_out.ensures f refl in
+    let fresh : left_out c.self.inside.store c.self.inside.held f ≡ None = cc in
+    absurd (not_left (left_out c.args.self.now.store c.args.self.now.held f) given (subst (λ (m : MountedReplica). left_out m.store m.held f ≡ None) c.self.view_is fresh) is)

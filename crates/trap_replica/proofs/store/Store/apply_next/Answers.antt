@@ -15,5 +15,5 @@ returns-clause-ok g c = λ image mirrors. record {
   holds = c.in_ok-apply.ensures.ok c.args.self.now.number c.args.self.now.time image refl (omega arith) (λ told. c.as_mut_slice.ensures.value ∙ mirrors.contents told) mirrors.holds;
   contents = λ told. with_items_is c.args.self.now.contents c.apply.new.contents (omega (arith, c.apply.auto.contents, ap length c.as_mut_slice.ensures.value, c.args.self.now.contents.ok.0))
       ∙ c.in_ok-apply.ensures.kept c.args.self.now.number c.args.self.now.time image (λ was. c.as_mut_slice.ensures.value ∙ mirrors.contents was) mirrors.holds
-      (subst IsTrue c.apply.ensures.elsewhere.tells told);
+      (subst IsTrue c.apply.ensures.beside.elsewhere.tells told);
 }

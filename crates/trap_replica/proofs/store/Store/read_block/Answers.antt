@@ -1,8 +1,7 @@
-use Rattle.std.proofs.Common.{◌≡◌, ℕ, ap, subst, sym, ◌∙◌, arith}
+use Rattle.std.proofs.Common.{ℕ, ap, ◌∙◌, arith}
 use Rattle.trap_bank.specs.Disks.{region}
 use Rattle.trap_bank.proofs.Moves.{read_is_left}
-use Rattle.trap_bank.proofs.OnlyReads.{reads_none, reads_once}
-use Rattle.trap_format.specs.ReplicaDisk.{home_at}
+use Rattle.trap_bank.proofs.OnlyReads.{reads_once}
 use Rattle.trap_replica.proofs.OneFrame.{home_fits}
 use Rattle.trap_replica.proofs.store.Store.read_block.Goals as goal
 
