@@ -23,7 +23,7 @@ def make(folder):
 
 
 def alone(folder, depth, is_write):
-    """Microseconds a line, so many under way at a time."""
+    """Microseconds a line, with `depth` lines under way at a time."""
     session = subprocess.Popen([PROGRAM, 'session'], cwd=folder, stdin=subprocess.PIPE, stdout=subprocess.PIPE)
     session.stdin.write(b'I\n')
     session.stdin.flush()

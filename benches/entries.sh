@@ -16,7 +16,7 @@ SMALL = 'create 7 5 16 16 16 1 2 8 2048'
 
 
 def write(folder, step):
-    """Writes each block once, each so many blocks behind the one before."""
+    """Writes each block once, each `step` blocks after the one before."""
     with open(f'{folder}/lines', 'w') as lines:
         for number in range(MOST):
             lines.write(f'W {number} {number * step % MOST} {"00" * 8}{"ab" * 8}\n')
@@ -48,8 +48,8 @@ def mounting(folder):
 
 for name, words, step in [('64 blocks, at most 8 entries, none there', SMALL, 0),
                           ('2^20 blocks, at most 2^20 entries, none there', BIG, 0),
-                          ('the same with 2^20 entries, one block behind the other', BIG, 1),
-                          ('the same with 2^20 entries, far from one another', BIG, 514229)]:
+                          ('the same with 2^20 entries, of blocks one after the other', BIG, 1),
+                          ('the same with 2^20 entries, of blocks far from one another', BIG, 514229)]:
     with tempfile.TemporaryDirectory(dir='/dev/shm') as folder:
         subprocess.run([program] + words.split(), cwd=folder, check=True, stdout=subprocess.DEVNULL)
         if step:

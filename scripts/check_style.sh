@@ -8,20 +8,20 @@ complain() {
   echo "style: $1"
   failed=$((failed + 1))
 }
-# Lines of src/ and specs/ that are wider than 100 columns. A list of imports, or of bytes, may be wider.
+# Lines of src/ and specs/ that are wider than 100 columns. A string of bytes may be wider.
 wider() { # file, columns
-  LC_ALL=C.UTF-8 grep -nE "^.{$(($2 + 1)),}$" "$1" | grep -vE '^[0-9]+: *((pub )?(ghost )?use |\*?b?".*";$)' | cut -d: -f1 |
+  LC_ALL=C.UTF-8 grep -nE "^.{$(($2 + 1)),}$" "$1" | grep -vE '^[0-9]+: *\*?b?".*";?$' | cut -d: -f1 |
     while read -r line; do echo "$1:$line is wider than $2 columns"; done
 }
 too_wide() { # crate
   find "$1/src" "$1/specs" -name '*.rt' -o -name '*.antt' | while read -r file; do wider "$file" 100; done
 }
 # Functions whose body has more than 40 lines, or more than three levels within one another; tests may be longer. And functions
-# with more clauses of one kind (`ensures`) than the limit that docs/CONTRIBUTING.md states.
+# with more than eight `ensures`.
 too_long() { # crate
   find "$1/src" -name '*.rt' ! -path '*test*' | while read -r file; do
     awk -v file="$file" '
-      /^ *(pub(\([a-z]*\))? )?(const )?fn [a-z]/ && !body { match($0, /^ */); indent = RLENGTH; name = $0; sub(/.*fn /, "", name); sub(/[(<].*/, "", name); inside = 1; clauses = 0; ensured = 0; most = $0 ~ /^ *pub fn/ ? 11 : 13 }
+      /^ *(pub(\([a-z]*\))? )?(const )?fn [a-z]/ && !body { match($0, /^ */); indent = RLENGTH; name = $0; sub(/.*fn /, "", name); sub(/[(<].*/, "", name); inside = 1; clauses = 0; ensured = 0; most = 8 }
       body { level = match($0, /[^ ]/) - 1 - indent; if (level == 0 && $0 ~ /^ *}/) {
           if (NR - start - 1 > 40) print file ": " name " has " NR - start - 1 " lines, more than 40"
           if (deepest > 16) print file ": " name " has more than three levels"

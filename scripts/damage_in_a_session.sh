@@ -82,7 +82,7 @@ def case(folder, line, record, place):
     exchange(folder, record + place, old)
     if got != wanted:
         return f'{got}, wanted {wanted}'
-    # Mounting finds a time that is too high by the record behind, whose time is below it.
+    # Mounting finds a time that is too high by the next record, whose time is below it.
     found = record + 35 if place in TIME and record != THIRD else record
     if mounted != (f'fault damaged {found}\n', 4):
         return f'mounting said {mounted}'

@@ -34,6 +34,8 @@ try() { # name, then the program's words
       failed=$((failed + 1))
     fi
   done
+  echo "no_memory: $name makes more than 200 requests"
+  failed=$((failed + 1))
 }
 printf 'R 0\nQ\n' >"$folder/lines"
 try session session

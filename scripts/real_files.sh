@@ -57,7 +57,7 @@ class Folder:
         return os.path.join(self.path, name)
 
     def bytes(self):
-        """What stands in each file, and where each link leads."""
+        """What is in each file, and where each link leads."""
         found = {}
         for name in os.listdir(self.path):
             if os.path.islink(self.at(name)):
