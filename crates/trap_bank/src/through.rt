@@ -18,11 +18,11 @@ pub fn write_through<B: Bank>(bank: &mut B, d: u8, at: u64, bytes: &[u8]) -> Res
         (PlacedThrough (B.view bank.new) d at bytes.now)) }
     ensures written { IsTrue (B.view bank.old).tells
         → OnOk result (region (B.view bank.new).now.disks d at (length bytes.now) ≡ bytes.now) }
-    ensures calls { TakesCalls 2 result (B.view bank.old) (B.view bank.new) }
     ensures contents { IsTrue (B.view bank.old).tells
         → Torn (Within d at (length bytes.now)) (B.view bank.old).now (B.view bank.new).now }
     ensures sizes { (e : ℕ) → (B.view bank.new).sizes e ≡ (B.view bank.old).sizes e }
     ensures cause { OnErr result (Rose ((B.view bank.old).faults d) ((B.view bank.new).faults d)) }
+    ensures calls { TakesCalls 2 result (B.view bank.old) (B.view bank.new) }
 
     // Stopped at any moment, nothing outside the range has changed.
     ensures any_moment { Moves (B.view bank.old) (B.view bank.new)

@@ -65,10 +65,10 @@ impl Cell {
             → Torn (cell_area (place_of disk at (length value.now))) (B.view bank.old).now
             (B.view bank.new).now }
         ensures cell { IfOk result (λ cell. cell ≡ begun (place_of disk at (length value.now))) }
-        ensures calls { TakesCalls 4 result (B.view bank.old) (B.view bank.new) }
         ensures sizes { (e : ℕ) → (B.view bank.new).sizes e ≡ (B.view bank.old).sizes e }
         ensures cause { OnErr result (Rose ((B.view bank.old).faults disk)
             ((B.view bank.new).faults disk)) }
+        ensures calls { TakesCalls 4 result (B.view bank.old) (B.view bank.new) }
 
         // Stopped at any moment, nothing outside the cell has changed.
         ensures any_moment { Moves (B.view bank.old) (B.view bank.new)
@@ -114,12 +114,12 @@ impl Cell {
             → (IsErrOf result CellFault.NoValue
             ↔ (cell_value (place_of disk at (length value.old)) (B.view bank.old).now.disks
             ≡ None)) }
-        ensures calls { MountCalls result (B.view bank.old) (B.view bank.new) }
         ensures same { IsTrue (B.view bank.old).tells
             → (B.view bank.new).now ≡ (B.view bank.old).now }
         ensures sizes { (e : ℕ) → (B.view bank.new).sizes e ≡ (B.view bank.old).sizes e }
         ensures cause { IsErrOf result CellFault.DiskFault
             → Rose ((B.view bank.old).faults disk) ((B.view bank.new).faults disk) }
+        ensures calls { MountCalls result (B.view bank.old) (B.view bank.new) }
         ensures any_moment { Moves (B.view bank.old) (B.view bank.new) Same Same }
     {
         let size = value.len() as u64;
@@ -187,18 +187,18 @@ impl Cell {
         requires stands { Always (B.view bank.old) (Stands self.now) }
         ensures ok { OnOk result
             (Moves (B.view bank.old) (B.view bank.new) (Keeps self.now) (Shuts self.now)) }
-        ensures calls { TakesCalls (if self.now.other_open then 2 else 0) result
-            (B.view bank.old) (B.view bank.new) }
         ensures contents { IsTrue (B.view bank.old).tells
             → Quiet (Keeps self.now) (B.view bank.old).now (B.view bank.new).now }
         ensures sizes { (e : ℕ) → (B.view bank.new).sizes e ≡ (B.view bank.old).sizes e }
+        ensures gate { Moves (B.view bank.old) (B.view bank.new)
+            (Differs (other_gate self.now)) (Differs (other_gate self.now)) }
         ensures cause { OnErr result
             (Rose ((B.view bank.old).faults self.now.place.disk)
             ((B.view bank.new).faults self.now.place.disk)) }
+        ensures calls { TakesCalls (if self.now.other_open then 2 else 0) result
+            (B.view bank.old) (B.view bank.new) }
         ensures any_moment { Moves (B.view bank.old) (B.view bank.new) (Keeps self.now)
             (Keeps self.now) }
-        ensures gate { Moves (B.view bank.old) (B.view bank.new)
-            (Differs (other_gate self.now)) (Differs (other_gate self.now)) }
     {
         let is_open = self.is_other_open();
         let disk = self.disk();
@@ -222,13 +222,13 @@ impl Cell {
             (FillsSlot self.now fresh.now)) }
         ensures stable { OnOk result (Always (B.view bank.new) (λ disks. disks self.now.place.disk
             ≡ (B.view bank.new).now.disks self.now.place.disk)) }
-        ensures calls { TakesCalls 3 result (B.view bank.old) (B.view bank.new) }
         ensures contents { IsTrue (B.view bank.old).tells
             → Quiet (StaysShut self.now) (B.view bank.old).now (B.view bank.new).now }
         ensures sizes { (e : ℕ) → (B.view bank.new).sizes e ≡ (B.view bank.old).sizes e }
         ensures cause { OnErr result
             (Rose ((B.view bank.old).faults self.now.place.disk)
             ((B.view bank.new).faults self.now.place.disk)) }
+        ensures calls { TakesCalls 3 result (B.view bank.old) (B.view bank.new) }
         ensures any_moment { Moves (B.view bank.old) (B.view bank.new) (StaysShut self.now)
             (StaysShut self.now) }
     {
@@ -250,17 +250,17 @@ impl Cell {
         ensures ok { OnOk result (Moves (B.view bank.old) (B.view bank.new)
             (PutsIn self.now fresh.now) (IsPut (B.view bank.new) self.now (turned self.now)
             fresh.now)) }
-        ensures calls { TakesCalls 2 result (B.view bank.old) (B.view bank.new) }
         ensures contents { IsTrue (B.view bank.old).tells
             → Quiet (PutsIn self.now fresh.now) (B.view bank.old).now (B.view bank.new).now }
         ensures sizes { (e : ℕ) → (B.view bank.new).sizes e ≡ (B.view bank.old).sizes e }
+        ensures gate { Moves (B.view bank.old) (B.view bank.new)
+            (Differs (other_gate self.now)) (Differs (other_gate self.now)) }
         ensures cause { OnErr result
             (Rose ((B.view bank.old).faults self.now.place.disk)
             ((B.view bank.new).faults self.now.place.disk)) }
+        ensures calls { TakesCalls 2 result (B.view bank.old) (B.view bank.new) }
         ensures any_moment { Moves (B.view bank.old) (B.view bank.new)
             (PutsIn self.now fresh.now) (PutsIn self.now fresh.now) }
-        ensures gate { Moves (B.view bank.old) (B.view bank.new)
-            (Differs (other_gate self.now)) (Differs (other_gate self.now)) }
     {
         let disk = self.disk();
         let start = self.other_start();

@@ -54,12 +54,12 @@ impl Heads {
         requires room { Fits (B.view bank.old) disk (at + 2 * (2 + size)) }
         ensures heads { IfOk result (λ heads. IsTrue (B.view bank.old).tells
             → AreAt heads (place_of disk at size) (B.view bank.old).now.disks) }
-        ensures calls { TakesCalls 2 result (B.view bank.old) (B.view bank.new) }
         ensures same { IsTrue (B.view bank.old).tells
             → (B.view bank.new).now ≡ (B.view bank.old).now }
         ensures sizes { (e : ℕ) → (B.view bank.new).sizes e ≡ (B.view bank.old).sizes e }
         ensures cause { OnErr result (Rose ((B.view bank.old).faults disk)
             ((B.view bank.new).faults disk)) }
+        ensures calls { TakesCalls 2 result (B.view bank.old) (B.view bank.new) }
         ensures any_moment { Moves (B.view bank.old) (B.view bank.new) Same Same }
     {
         let mut first = [0; 2];

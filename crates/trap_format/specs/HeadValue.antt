@@ -11,7 +11,11 @@ abbrev pub lost_byte : Option ℕ → ℕ
 lost_byte None = 0
 lost_byte (Some member) = member + 1
 
--- the 62 bytes of the head's value
+-- how many bytes the head's value has
+abbrev pub head_value_len : ℕ
+head_value_len = 62
+
+-- the bytes of the head's value
 abbrev pub head_value : Head → List ℕ
 head_value h =
     h.version ∷ lost_byte h.lost ∷ to_be_bytes w32 h.rebuilt ++ to_be_bytes w64 h.first

@@ -21,9 +21,13 @@ slot_len g = 12 + 2 * g.block
 abbrev pub ring_at : Geometry → ℕ
 ring_at g = slots_at + g.slots * slot_len g
 
+-- how many bytes the ring has there
+abbrev pub ring_len : Geometry → ℕ
+ring_len g = g.ring
+
 -- the size of the log's disk: the header, the head's cell, the slots, the ring
 abbrev pub log_size : Geometry → ℕ
-log_size g = ring_at g + g.ring
+log_size g = ring_at g + ring_len g
 
 -- an open gate and the magic bytes
 abbrev pub log_start : List ℕ

@@ -8,6 +8,7 @@ ghost use Rattle.trap_format.specs.HeadValue.{KeepsOffsets, IsEmpty, IsHead, IsH
 ghost use Rattle.trap_format.specs.HeadValue.{HeadStandsIn, HeadFits};
 
 use crate::head::Head;
+use crate::layout::HEAD_VALUE_BYTES;
 use crate::limits::greatest_record;
 use crate::pieces::put_byte;
 use trap_block::{get_u32, get_u64, put_u32, put_u64};
@@ -38,7 +39,7 @@ const LAST_TIME_AT: usize = 54;
 const LAST_NUMBER: u64 = 1 << 40;
 
 /// Writes the value. A lost member is below 16.
-pub fn spell_head(h: &Head, out: &mut [u8; 62])
+pub fn spell_head(h: &Head, out: &mut [u8; HEAD_VALUE_BYTES])
     requires { ForSome h.now.lost (λ member. member < 16) }
     ensures { out.new ≡ head_value h.now }
 {
@@ -55,7 +56,7 @@ pub fn spell_head(h: &Head, out: &mut [u8; 62])
 }
 
 /// The head, where the bytes are the value of one of such an array.
-pub fn read_head(g: &Geometry, bytes: &[u8; 62]) -> Option<Head>
+pub fn read_head(g: &Geometry, bytes: &[u8; HEAD_VALUE_BYTES]) -> Option<Head>
     ensures some { IfSome result (λ h. IsHeadValue g.now h bytes.now) }
     ensures none { IfNone result ((h : Head) → ¬ IsHeadValue g.now h bytes.now) }
 {
@@ -82,7 +83,7 @@ fn lost_of(byte: u8) -> Option<u8>
 }
 
 /// The numbers at their places, whatever they are.
-fn head_in(bytes: &[u8; 62]) -> Head
+fn head_in(bytes: &[u8; HEAD_VALUE_BYTES]) -> Head
     ensures stands { HeadStandsIn bytes.now result }
     ensures fits { HeadFits result }
 {

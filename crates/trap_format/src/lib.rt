@@ -16,8 +16,9 @@ mod shape;
 pub use head::Head;
 pub use head_value::{read_head, spell_head};
 pub use limits::{BadGeometry, Field, check};
-pub use log_disk::{is_log, log_len, read_log, spell_log};
+pub use log_disk::{is_log, log_len, read_log, ring_len, ring_start, spell_log};
 pub use member_disk::{member_len, read_member, spell_member};
+pub use pieces::put_bytes;
 pub use replica_disk::{check_shape, is_replica, read_replica, replica_len, spell_replica};
 pub use shape::Shape;
 

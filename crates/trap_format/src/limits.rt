@@ -104,7 +104,7 @@ fn is_between(least: u64, most: u64, n: u64) -> bool
 }
 
 /// Whether it is a power of two from 16 to 4096.
-fn is_block_size(size: u64) -> bool
+pub(crate) fn is_block_size(size: u64) -> bool
     ensures { result ≡ is_block_size size }
 {
     matches!(size, 16 | 32 | 64 | 128 | 256 | 512 | 1024 | 2048 | 4096)

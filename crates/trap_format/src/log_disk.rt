@@ -2,7 +2,9 @@
 
 ghost use Rattle.std.specs.Prelude.{◌≡◌, ◌↔◌, take, IsTrue, IfSome, IfNone};
 ghost use Rattle.trap_model.specs.declared.numbers.Geometry.{Geometry};
-ghost use Rattle.trap_format.specs.LogDisk.{log_size, log_start, log_header, IsLogHeader, StandsIn};
+ghost use Rattle.trap_format.specs.LogDisk as disk;
+ghost use Rattle.trap_format.specs.LogDisk.{log_size, log_start, log_header, ring_at, IsLogHeader};
+ghost use Rattle.trap_format.specs.LogDisk.{StandsIn};
 
 use crate::layout::{OPEN_GATE, SLOT_NUMBERS_BYTES, SLOTS_AT};
 use crate::limits::check;
@@ -38,7 +40,21 @@ const ZEROS_AT: usize = 35;
 pub fn log_len(g: &Geometry) -> u64
     ensures { result ≡ log_size g.now }
 {
-    SLOTS_AT + g.slots as u64 * (SLOT_NUMBERS_BYTES + 2 * g.block as u64) + g.ring
+    ring_start(g) + ring_len(g)
+}
+
+/// Where the ring begins on the log's disk, after the staging slots.
+pub fn ring_start(g: &Geometry) -> u64
+    ensures { result ≡ ring_at g.now }
+{
+    SLOTS_AT + g.slots as u64 * (SLOT_NUMBERS_BYTES + 2 * g.block as u64)
+}
+
+/// How many bytes the ring has on the log's disk.
+pub fn ring_len(g: &Geometry) -> u64
+    ensures { result ≡ disk.ring_len g.now }
+{
+    g.ring
 }
 
 /// Whether these are the first bytes of a log: the gate is open, and the magic bytes stand.

@@ -30,7 +30,7 @@ pub(crate) fn put_byte(out: &mut [u8], at: usize, byte: u8)
 }
 
 /// Writes bytes from a place on.
-pub(crate) fn put_bytes(out: &mut [u8], at: usize, bytes: &[u8])
+pub fn put_bytes(out: &mut [u8], at: usize, bytes: &[u8])
     requires { at + length bytes.now ≤ length out.old }
     ensures { out.new ≡ put_over at bytes.now out.old }
 {

@@ -2,12 +2,11 @@
 
 ghost use Rattle.std.specs.Prelude.{◌≡◌, ◌≢◌, ◌↔◌, ◌^◌, ◌<◌, take, None, Some, IsOk, IfOk, IfErr};
 ghost use Rattle.std.specs.Prelude.{IsTrue, IfSome, IfNone};
-ghost use Rattle.trap_model.specs.Limits.{is_block_size};
 ghost use Rattle.trap_format.specs.ReplicaDisk.{first_broken_shape, HasShape, replica_size};
 ghost use Rattle.trap_format.specs.ReplicaDisk.{replica_start, replica_header};
 
-use crate::layout::OPEN_GATE;
-use crate::limits::{BadGeometry, Field};
+use crate::layout::{OPEN_GATE, REPLICA_CELL_AT, REPLICA_NUMBERS_BYTES};
+use crate::limits::{BadGeometry, Field, is_block_size};
 use crate::pieces::{begins_with, ends_in_zeros, put_byte, put_bytes};
 use crate::shape::Shape;
 use trap_block::{get_u16, get_u32, get_u64, put_u16, put_u32, put_u64};
@@ -17,6 +16,17 @@ const START: [u8; 5] = [OPEN_GATE, b'T', b'R', b'P', b'R'];
 
 /// The version of the format.
 const VERSION: u8 = 1;
+
+// Where each number begins in the header; zeros follow the last one.
+const VERSION_AT: usize = 5;
+
+const ID_AT: usize = 6;
+
+const BLOCK_AT: usize = 14;
+
+const VOLUME_AT: usize = 16;
+
+const ZEROS_AT: usize = 20;
 
 /// The numbers as a replica's, where each keeps its limit. A sequence number is at most 2^40.
 pub fn check_shape(id: u64, block: u64, volume: u64, seq: u64) -> Result<Shape, BadGeometry>
@@ -44,18 +54,13 @@ pub fn check_shape(id: u64, block: u64, volume: u64, seq: u64) -> Result<Shape, 
     })
 }
 
-// Whether it is a power of two from 16 to 4096.
-fn is_block_size(size: u64) -> bool
-    ensures { result ≡ is_block_size size }
-{
-    matches!(size, 16 | 32 | 64 | 128 | 256 | 512 | 1024 | 2048 | 4096)
-}
-
 /// The size of the replica's disk in bytes.
 pub fn replica_len(s: &Shape) -> u64
     ensures { result ≡ replica_size s.now }
 {
-    32 + 2 * (22 + s.block as u64) + s.volume as u64 * s.block as u64
+    REPLICA_CELL_AT
+        + 2 * (2 + REPLICA_NUMBERS_BYTES + s.block as u64)
+        + s.volume as u64 * s.block as u64
 }
 
 /// Whether these are the first bytes of a replica: the gate is open, and the magic bytes stand.
@@ -70,11 +75,11 @@ pub fn spell_replica(s: &Shape, out: &mut [u8; 32])
     ensures { out.new ≡ replica_header s.now }
 {
     put_bytes(out, 0, &START);
-    put_byte(out, 5, VERSION);
-    put_u64(out, 6, s.id);
-    put_u16(out, 14, s.block);
-    put_u32(out, 16, s.volume);
-    put_bytes(out, 20, &[0; 12]);
+    put_byte(out, VERSION_AT, VERSION);
+    put_u64(out, ID_AT, s.id);
+    put_u16(out, BLOCK_AT, s.block);
+    put_u32(out, VOLUME_AT, s.volume);
+    put_bytes(out, ZEROS_AT, &[0; 12]);
 }
 
 /// The numbers of the header, where the bytes are one.
@@ -85,15 +90,15 @@ pub fn read_replica(bytes: &[u8; 32]) -> Option<Shape>
     if !is_replica(bytes) {
         return None;
     }
-    if bytes[5] != VERSION {
+    if bytes[VERSION_AT] != VERSION {
         return None;
     }
-    if !ends_in_zeros(bytes, 20) {
+    if !ends_in_zeros(bytes, ZEROS_AT) {
         return None;
     }
-    let id = get_u64(bytes, 6);
-    let block = get_u16(bytes, 14);
-    let volume = get_u32(bytes, 16);
+    let id = get_u64(bytes, ID_AT);
+    let block = get_u16(bytes, BLOCK_AT);
+    let volume = get_u32(bytes, VOLUME_AT);
     match check_shape(id, block as u64, volume as u64, 0) {
         Ok(shape) => Some(shape),
         Err(_) => None,

@@ -1,6 +1,7 @@
 -- Images of a volume, and entries written over them.
 use Rattle.std.specs.Prelude.{◌≡◌, ℕ, ◌-◌, ◌*◌, ◌<◌, List, [], length, replicate, set, fold}
 use Rattle.std.specs.Prelude.{slice_index_or}
+use Rattle.trap_block.specs.Xor.{xor}
 use Rattle.trap_model.specs.declared.numbers.Geometry.{Geometry}
 use Rattle.trap_model.specs.declared.history.Entry.{Entry}
 
@@ -24,6 +25,10 @@ zero_image g = replicate (volume g) (replicate g.block 0)
 -- the image with the entry's bytes as its block
 abbrev pub written : List (List ℕ) → Entry → List (List ℕ)
 written image entry = set image entry.block entry.bytes
+
+-- the parity of an entry over an image: the block's old contents xor its new ones
+abbrev pub entry_parity : List (List ℕ) → Entry → List ℕ
+entry_parity image entry = xor (block_of image entry.block) entry.bytes
 
 -- the image after these entries, each in turn
 abbrev pub image_after : List (List ℕ) → List Entry → List (List ℕ)

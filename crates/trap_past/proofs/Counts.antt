@@ -26,7 +26,8 @@ linked i block k (suc n) is =
     ap (λ (m : ℕ). (item_at i (nth_newest i block m)).prev) same
 
 -- one parity more
-pub undoes_more : (i : Indexed) (turns block seq : ℕ) (old mid new : Past) → seq ≡ nth_newest i block turns → Undoes i turns block old mid → GivesParity seq mid new → Undoes i (turns + 1) block old new
+pub undoes_more : (i : Indexed) (turns block seq : ℕ) (old mid new : Past) → seq ≡ nth_newest i block turns → Undoes i turns block old mid → GivesParity seq mid new
+    → Undoes i (turns + 1) block old new
 undoes_more i turns block seq old mid new next before here =
     let one = before.parities in
     let two = here.parities in

@@ -9,13 +9,13 @@ use Rattle.trap_block.proofs.OverLemmas.{xor_twice}
 use Rattle.trap_model.specs.declared.history.Entry.{Entry}
 use Rattle.trap_model.specs.declared.history.State.{State}
 use Rattle.trap_model.specs.declared.numbers.Geometry.{Geometry}
-use Rattle.trap_model.specs.Image.{volume, IsImage, block_of, written, image_after}
+use Rattle.trap_model.specs.Image.{volume, IsImage, block_of, written, entry_parity, image_after}
 use Rattle.trap_model.specs.Path.{entries_of_block}
 use Rattle.trap_model.specs.State.{image, image_at, above, IsEntry, IsValid}
 use Rattle.trap_model.proofs.Images.{block_written_same, block_written_other}
 use Rattle.trap_model.proofs.Dropping.{image_after-append}
 use Rattle.trap_model.proofs.Validity.{image_after_is_image}
-use Rattle.trap_past.specs.Undo.{write_parity, parities_over, parities_above, contents_before}
+use Rattle.trap_past.specs.Undo.{parities_over, parities_above, contents_before}
 
 -- taking back one list of parities and then another
 contents_before-append : (contents : List ℕ) (xs ys : List (List ℕ)) → contents_before contents (xs ++ ys) ≡ contents_before (contents_before contents xs) ys
@@ -44,11 +44,11 @@ undone g base (entry ∷ later) block is all inside =
     let size = of_entry.size in
     let long = is.long in
     let here : block_of (written base entry) block ≡ entry.bytes = block_written_same base entry block same (omega arith) in
-    let split : parities_over block base (entry ∷ later) ≡ parities_over block (written base entry) later ++ write_parity base entry ∷ [] = rw t refl in
+    let split : parities_over block base (entry ∷ later) ≡ parities_over block (written base entry) later ++ entry_parity base entry ∷ [] = rw t refl in
     let old : block_of base entry.block ≡ block_of base block = ap (block_of base) same in
-    let back : xor entry.bytes (write_parity base entry) ≡ block_of base entry.block = undo_one g.block (block_of base entry.block) entry.bytes (ap length old ∙ is.sized block inside) size in
-    let taken = contents_before-append (block_of (image_after base (entry ∷ later)) block) (parities_over block (written base entry) later) (write_parity base entry ∷ []) in
-    sym (ap (contents_before (block_of (image_after base (entry ∷ later)) block)) split ∙ taken ∙ ap (λ (b : List ℕ). xor b (write_parity base entry)) (sym rest ∙ here) ∙ back ∙ old))
+    let back : xor entry.bytes (entry_parity base entry) ≡ block_of base entry.block = undo_one g.block (block_of base entry.block) entry.bytes (ap length old ∙ is.sized block inside) size in
+    let taken = contents_before-append (block_of (image_after base (entry ∷ later)) block) (parities_over block (written base entry) later) (entry_parity base entry ∷ []) in
+    sym (ap (contents_before (block_of (image_after base (entry ∷ later)) block)) split ∙ taken ∙ ap (λ (b : List ℕ). xor b (entry_parity base entry)) (sym rest ∙ here) ∙ back ∙ old))
     (λ (f : (entry.block == block) ≡ false).
     let other : entry.block ≢ block = λ e. false≢true (sym f ∙ eq-eqb entry.block block e) in
     let split : parities_over block base (entry ∷ later) ≡ parities_over block (written base entry) later = rw f (append-nil (parities_over block (written base entry) later)) in
@@ -71,8 +71,8 @@ length-parities_over block base (entry ∷ later) =
     let rest = length-parities_over block (written base entry) later in
     ⊎_elim
     (λ (t : (entry.block == block) ≡ true).
-    let sum = length-append (parities_over block (written base entry) later) (write_parity base entry ∷ []) in
-    let split : parities_over block base (entry ∷ later) ≡ parities_over block (written base entry) later ++ write_parity base entry ∷ [] = rw t refl in
+    let sum = length-append (parities_over block (written base entry) later) (entry_parity base entry ∷ []) in
+    let split : parities_over block base (entry ∷ later) ≡ parities_over block (written base entry) later ++ entry_parity base entry ∷ [] = rw t refl in
     let one : entries_of_block block (entry ∷ later) ≡ entry ∷ entries_of_block block later = rw t refl in
     let long = ap (λ (l : List (List ℕ)). length l) split in
     let counts = ap (λ (l : List Entry). length l) one in

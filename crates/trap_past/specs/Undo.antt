@@ -3,17 +3,13 @@ use Rattle.std.specs.Prelude.{ℕ, ◌-◌, List, [], ◌∷◌, ◌++◌, ◌==
 use Rattle.trap_block.specs.Xor.{xor}
 use Rattle.trap_model.specs.declared.history.Entry.{Entry}
 use Rattle.trap_model.specs.declared.history.State.{State}
-use Rattle.trap_model.specs.Image.{block_of, written}
+use Rattle.trap_model.specs.Image.{written, entry_parity}
 use Rattle.trap_model.specs.Records.{entry_at}
 use Rattle.trap_model.specs.State.{image_at, above}
 
--- the parity of a write over an image: the block's old contents xor its new ones
-abbrev pub write_parity : List (List ℕ) → Entry → List ℕ
-write_parity image entry = xor (block_of image entry.block) entry.bytes
-
 -- the parity of entry number q, for first < q ≤ last
 abbrev pub parity_at : State → ℕ → List ℕ
-parity_at s q = write_parity (image_at s (q - 1)) (entry_at s q)
+parity_at s q = entry_parity (image_at s (q - 1)) (entry_at s q)
 
 -- the parities of a block's writes among these entries, the first of them over this image, the
 -- newest write first
@@ -21,7 +17,7 @@ abbrev pub parities_over : ℕ → List (List ℕ) → List Entry → List (List
 parities_over block image [] = []
 parities_over block image (entry ∷ later) =
     parities_over block (written image entry) later ++
-    (if entry.block == block then write_parity image entry ∷ [] else [])
+    (if entry.block == block then entry_parity image entry ∷ [] else [])
 
 -- the parities of a block's entries above number q, the newest first
 abbrev pub parities_above : State → ℕ → ℕ → List (List ℕ)

@@ -7,14 +7,10 @@ use Rattle.trap_model.specs.ZeroRun.{IsCode, IsRefused}
 use Rattle.trap_model.specs.LogRecord.{header, SnapshotLength, IsSnapshot, LogRecord}
 use Rattle.trap_model.proofs.ZeroRuns.{IsRefused-not, IsRefused-same}
 use Rattle.trap_model.proofs.LogRecords.{header-same}
+use Rattle.trap_zrun.proofs.Coding.{front-more}
 use Rattle.trap_record.specs.declared.reader.ReadRec.{ReadRec}
 use Rattle.trap_record.specs.declared.reader.ReadRec.TheVariants.{Whole, Short, Bad}
-use Rattle.trap_record.specs.Reading.{BeginsWith, record_len, parity_of, snapshot_of, IsThere, IsWhole, IsShort, IsBadParity, IsBadSnapshot, Reads}
-
--- a front of a list and the bytes after it
-front-more : (bytes : List ℕ) (at end : ℕ) → at ≤ end → take at bytes ++ slice_range bytes at end ≡ take end bytes
-front-more bytes at end from =
-    sym (take-add at (end - at) bytes) ∙ ap (λ (n : ℕ). take n bytes) (let same : at + (end - at) ≡ end = omega arith in same)
+use Rattle.trap_record.specs.Reading.{BeginsWith, record_len, parity_of, snapshot_of, IsThere, IsWhole, IsShort, IsBadParity, IsBadSnapshot, ReadsAs}
 
 -- the record of a header whose codes are right
 whole-by : (size : ℕ) (r : LogRec) (bytes : List ℕ) → BeginsWith size r bytes → record_len r ≤ length bytes
@@ -136,7 +132,7 @@ whole-short size bytes r m small a (inr (q, begins, few)) =
     let there = a.there in
     omega arith
 
-whole-bad : (size : ℕ) (bytes : List ℕ) (r : LogRec) (m at : ℕ) → size < 2 ^ 15 → IsWhole size r m bytes → Reads size bytes (Bad at) → ⊥
+whole-bad : (size : ℕ) (bytes : List ℕ) (r : LogRec) (m at : ℕ) → size < 2 ^ 15 → IsWhole size r m bytes → ReadsAs size bytes (Bad at) → ⊥
 whole-bad size bytes r m at small a (inl bad) = bad.none r (whole-begins size r m bytes a)
 whole-bad size bytes r m at small a (inr (inl bad)) =
     let same = BeginsWith-one size bad.rec r bytes small bad.there.begins (whole-begins size r m bytes a) in
@@ -155,7 +151,7 @@ there-short size bytes r small is (inr (q, begins, few)) =
     let there = is.there in
     omega arith
 
-short-bad : (size : ℕ) (bytes : List ℕ) (at : ℕ) → size < 2 ^ 15 → IsShort size bytes → Reads size bytes (Bad at) → ⊥
+short-bad : (size : ℕ) (bytes : List ℕ) (at : ℕ) → size < 2 ^ 15 → IsShort size bytes → ReadsAs size bytes (Bad at) → ⊥
 short-bad size bytes at small (inl few) (inl bad) = let long = bad.long in omega arith
 short-bad size bytes at small (inr (q, begins, few)) (inl bad) = bad.none q begins
 short-bad size bytes at small short (inr (inl bad)) = there-short size bytes bad.rec small bad.there short
@@ -181,7 +177,7 @@ snapshot-snapshot size bytes a b small x y =
     let place_y = y.place in
     omega arith
 
-bad-bad : (size : ℕ) (bytes : List ℕ) (a b : ℕ) → size < 2 ^ 15 → Reads size bytes (Bad a) → Reads size bytes (Bad b) → a ≡ b
+bad-bad : (size : ℕ) (bytes : List ℕ) (a b : ℕ) → size < 2 ^ 15 → ReadsAs size bytes (Bad a) → ReadsAs size bytes (Bad b) → a ≡ b
 bad-bad size bytes a b small (inl x) (inl y) = x.place ∙ sym y.place
 bad-bad size bytes a b small (inl x) (inr (inl y)) = absurd (x.none y.rec y.there.begins)
 bad-bad size bytes a b small (inl x) (inr (inr y)) = absurd (x.none y.rec y.there.begins)
@@ -193,16 +189,16 @@ bad-bad size bytes a b small (inr (inr x)) (inr (inl y)) = absurd (parity-snapsh
 bad-bad size bytes a b small (inr (inr x)) (inr (inr y)) = snapshot-snapshot size bytes a b small x y
 
 -- reading has one answer
-pub Reads-one : (size : ℕ) (bytes : List ℕ) (a b : ReadRec) → size < 2 ^ 15 → Reads size bytes a → Reads size bytes b → a ≡ b
-Reads-one size bytes (Whole r m) (Whole q n) small x y = whole-whole size bytes r q m n small x y
-Reads-one size bytes (Whole r m) Short small x y = absurd (whole-short size bytes r m small x y)
-Reads-one size bytes (Whole r m) (Bad at) small x y = absurd (whole-bad size bytes r m at small x y)
-Reads-one size bytes Short (Whole q n) small x y = absurd (whole-short size bytes q n small y x)
-Reads-one size bytes Short Short small x y = refl
-Reads-one size bytes Short (Bad at) small x y = absurd (short-bad size bytes at small x y)
-Reads-one size bytes (Bad at) (Whole q n) small x y = absurd (whole-bad size bytes q n at small y x)
-Reads-one size bytes (Bad at) Short small x y = absurd (short-bad size bytes at small y x)
-Reads-one size bytes (Bad a) (Bad b) small x y = ap Bad (bad-bad size bytes a b small x y)
+pub one_reading : (size : ℕ) (bytes : List ℕ) (a b : ReadRec) → size < 2 ^ 15 → ReadsAs size bytes a → ReadsAs size bytes b → a ≡ b
+one_reading size bytes (Whole r m) (Whole q n) small x y = whole-whole size bytes r q m n small x y
+one_reading size bytes (Whole r m) Short small x y = absurd (whole-short size bytes r m small x y)
+one_reading size bytes (Whole r m) (Bad at) small x y = absurd (whole-bad size bytes r m at small x y)
+one_reading size bytes Short (Whole q n) small x y = absurd (whole-short size bytes q n small y x)
+one_reading size bytes Short Short small x y = refl
+one_reading size bytes Short (Bad at) small x y = absurd (short-bad size bytes at small x y)
+one_reading size bytes (Bad at) (Whole q n) small x y = absurd (whole-bad size bytes q n at small y x)
+one_reading size bytes (Bad at) Short small x y = absurd (short-bad size bytes at small y x)
+one_reading size bytes (Bad a) (Bad b) small x y = ap Bad (bad-bad size bytes a b small x y)
 
 -- what was written reads whole, whatever follows it
 pub written-whole : (size : ℕ) (r : LogRec) (p s x more : List ℕ) → LogRecord size r p s x → IsWhole size r (length x) (x ++ more)
@@ -237,5 +233,5 @@ written-whole size r p s x more is = record {
         (sym (drop-drop r.plen 26 (x ++ more)) ∙ ap (λ (l : List ℕ). drop r.plen l) behind ∙ drop_at p (s ++ more) r.plen (sym is.parity_len))
         ∙ take_at s more (record_len r - (26 + r.plen)) len
 
-pub Reads-again : (size : ℕ) (r : LogRec) (p s x more : List ℕ) (answer : ReadRec) → size < 2 ^ 15 → LogRecord size r p s x → Reads size (x ++ more) answer → answer ≡ Whole r (length x)
-Reads-again size r p s x more answer small is reads = Reads-one size (x ++ more) answer (Whole r (length x)) small reads (written-whole size r p s x more is)
+pub read_again : (size : ℕ) (r : LogRec) (p s x more : List ℕ) (answer : ReadRec) → size < 2 ^ 15 → LogRecord size r p s x → ReadsAs size (x ++ more) answer → answer ≡ Whole r (length x)
+read_again size r p s x more answer small is reads = one_reading size (x ++ more) answer (Whole r (length x)) small reads (written-whole size r p s x more is)

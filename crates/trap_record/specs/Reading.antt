@@ -66,8 +66,8 @@ pub record IsBadSnapshot (size : ℕ) (bytes : List ℕ) (at : ℕ) : Type 0 whe
   pub place : at ≡ record_header_len + rec.plen + inner
 
 -- what reading the bytes answers, over blocks of that size
-abbrev pub Reads : ℕ → List ℕ → ReadRec → Type 0
-Reads size bytes (Whole rec used) = IsWhole size rec used bytes
-Reads size bytes Short = IsShort size bytes
-Reads size bytes (Bad at) =
+abbrev pub ReadsAs : ℕ → List ℕ → ReadRec → Type 0
+ReadsAs size bytes (Whole rec used) = IsWhole size rec used bytes
+ReadsAs size bytes Short = IsShort size bytes
+ReadsAs size bytes (Bad at) =
     IsBadHeader size bytes at ⊎ (IsBadParity size bytes at ⊎ IsBadSnapshot size bytes at)

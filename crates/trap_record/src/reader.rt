@@ -1,7 +1,7 @@
 //! Reads a record.
 
 ghost use Rattle.std.specs.Prelude.{◌^◌, ◌<◌};
-ghost use Rattle.trap_record.specs.Reading.{Reads};
+ghost use Rattle.trap_record.specs.Reading.{ReadsAs};
 
 use crate::header::{HEADER, read_header};
 use trap_model::LogRec;
@@ -22,7 +22,7 @@ pub enum ReadRec {
 /// aren't looked at.
 pub fn read(bytes: &[u8], size: usize) -> ReadRec
     requires { size < 2 ^ 15 }
-    ensures { Reads size bytes.now result }
+    ensures { ReadsAs size bytes.now result }
 {
     if bytes.len() < HEADER {
         return ReadRec::Short;

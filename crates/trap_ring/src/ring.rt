@@ -59,16 +59,16 @@ impl Ring {
         ensures written { IsTrue (B.view bank.old).tells → OnOk result
             (Appends self.now from to bytes.now
             (B.view bank.old).now.disks (B.view bank.new).now.disks) }
-
-        // One write, or two where the bytes go over the ring's end, and no other call.
-        ensures calls { TakesCalls (ring_calls self.now to (length bytes.now)) result
-            (B.view bank.old) (B.view bank.new) }
         ensures contents { IsTrue (B.view bank.old).tells
             → Torn (InRing self.now to (length bytes.now))
             (B.view bank.old).now (B.view bank.new).now }
         ensures sizes { (e : ℕ) → (B.view bank.new).sizes e ≡ (B.view bank.old).sizes e }
         ensures cause { OnErr result (Rose ((B.view bank.old).faults self.now.disk)
             ((B.view bank.new).faults self.now.disk)) }
+
+        // One write, or two where the bytes go over the ring's end, and no other call.
+        ensures calls { TakesCalls (ring_calls self.now to (length bytes.now)) result
+            (B.view bank.old) (B.view bank.new) }
 
         // Stopped at any moment, no byte but those of the new bytes' places has changed.
         ensures any_moment { Moves (B.view bank.old) (B.view bank.new)
@@ -98,15 +98,15 @@ impl Ring {
         requires there { Fits (B.view bank.old) self.now.disk (self.now.at + self.now.len) }
         ensures bytes { IsTrue (B.view bank.old).tells
             → OnOk result (RingHas self.now at buf.new (B.view bank.old).now.disks) }
-
-        // One read, or two where the bytes go over the ring's end, and no other call.
-        ensures calls { TakesCalls (ring_calls self.now at (length buf.old)) result
-            (B.view bank.old) (B.view bank.new) }
         ensures contents { IsTrue (B.view bank.old).tells
             → (B.view bank.new).now ≡ (B.view bank.old).now }
         ensures sizes { (e : ℕ) → (B.view bank.new).sizes e ≡ (B.view bank.old).sizes e }
         ensures cause { OnErr result (Rose ((B.view bank.old).faults self.now.disk)
             ((B.view bank.new).faults self.now.disk)) }
+
+        // One read, or two where the bytes go over the ring's end, and no other call.
+        ensures calls { TakesCalls (ring_calls self.now at (length buf.old)) result
+            (B.view bank.old) (B.view bank.new) }
 
         ensures any_moment { Moves (B.view bank.old) (B.view bank.new) Same Same }
     {

@@ -8,8 +8,8 @@ use Rattle.trap_model.specs.Limits.{greatest_record}
 use Rattle.trap_model.specs.LogRecord.{header, SnapshotLength, LogRecord}
 use Rattle.trap_model.specs.ZeroRun.{IsCode, IsRefused}
 use Rattle.trap_record.specs.declared.reader.ReadRec.TheVariants.{Whole, Short, Bad}
-use Rattle.trap_record.specs.Reading.{BeginsWith, record_len, parity_of, snapshot_of, IsThere, IsWhole, IsShort, Reads}
-use Rattle.trap_record.proofs.Getting.{Reads-one, Reads-again}
+use Rattle.trap_record.specs.Reading.{BeginsWith, record_len, parity_of, snapshot_of, IsThere, IsWhole, IsShort, ReadsAs}
+use Rattle.trap_record.proofs.Getting.{one_reading, read_again}
 use Rattle.trap_ring.specs.Ring.{RingPlace, RingHas}
 use Rattle.trap_scan.specs.declared.window.Window.{Window}
 use Rattle.trap_scan.specs.Window.{in_buffer, SamePlace, IsLoaded, HasBuffer, IsAhead, IsFront, IsWholeRecord}
@@ -73,7 +73,7 @@ there_more size r bytes more is =
     record { begins = begins_more size r bytes more (omega arith) is.begins; there = omega arith }
 
 -- what is refused is refused whatever follows it
-pub bad_more : (size at : ℕ) (bytes more : List ℕ) → Reads size bytes (Bad at) → Reads size (bytes ++ more) (Bad at)
+pub bad_more : (size at : ℕ) (bytes more : List ℕ) → ReadsAs size bytes (Bad at) → ReadsAs size (bytes ++ more) (Bad at)
 bad_more size at bytes more (inl bad) = inl (record {
   long = (let all = bad.long in let sum = length-append bytes more in omega arith);
   none = λ r begins. bad.none r (begins_less size r bytes more bad.long begins);
@@ -97,14 +97,14 @@ bad_more size at bytes more (inr (inr bad)) = inr (inr (record {
 }))
 
 -- so no record begins them
-none_bad : (size at : ℕ) (bytes more : List ℕ) → size < 2 ^ 15 → Reads size bytes (Bad at) → IsFront size (bytes ++ more) None
+none_bad : (size at : ℕ) (bytes more : List ℕ) → size < 2 ^ 15 → ReadsAs size bytes (Bad at) → IsFront size (bytes ++ more) None
 none_bad size at bytes more small bad r parity snapshot first rest is parts =
-    let other = Reads-again size r parity snapshot first rest (Bad at) small is (subst (λ (l : List ℕ). Reads size l (Bad at)) parts (bad_more size at bytes more bad)) in
+    let other = read_again size r parity snapshot first rest (Bad at) small is (subst (λ (l : List ℕ). ReadsAs size l (Bad at)) parts (bad_more size at bytes more bad)) in
     cc
 
 none_short : (size : ℕ) (bytes : List ℕ) → size < 2 ^ 15 → IsShort size bytes → IsFront size bytes None
 none_short size bytes small short r parity snapshot first rest is parts =
-    let other = Reads-again size r parity snapshot first rest Short small is (subst (λ (l : List ℕ). Reads size l Short) parts short) in
+    let other = read_again size r parity snapshot first rest Short small is (subst (λ (l : List ℕ). ReadsAs size l Short) parts short) in
     cc
 
 -- the second code isn't longer than the longest
@@ -144,7 +144,7 @@ found_whole size rec used r w bytes disks whole loaded ahead =
     (whole_more size rec used (in_buffer w) (drop (length (in_buffer w)) bytes) whole)
 
 -- where they are refused, no record begins those ahead
-pub found_bad : (size at : ℕ) (r : RingPlace) (w : Window) (bytes : List ℕ) (disks : Disks) → size ≤ 4096 → Reads size (in_buffer w) (Bad at)
+pub found_bad : (size at : ℕ) (r : RingPlace) (w : Window) (bytes : List ℕ) (disks : Disks) → size ≤ 4096 → ReadsAs size (in_buffer w) (Bad at)
     → IsLoaded r w disks → IsAhead r w bytes disks → IsFront size bytes None
 found_bad size at r w bytes disks small bad loaded ahead =
     subst (λ (l : List ℕ). IsFront size l None) (sym (buffer_front r w bytes disks loaded ahead))
@@ -186,5 +186,5 @@ room_again size old new same room = let at = same.at in let end = same.end in le
 -- a record that stands whole isn't too short
 pub held_not_short : (size : ℕ) (w : Window) → size ≤ 4096 → IsWholeRecord size w → IsShort size (in_buffer w) → ⊥
 held_not_short size w small held short =
-    let other = Reads-one size (in_buffer w) (Whole held.rec held.len) Short (omega arith) held.whole short in
+    let other = one_reading size (in_buffer w) (Whole held.rec held.len) Short (omega arith) held.whole short in
     cc

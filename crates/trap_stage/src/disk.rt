@@ -39,10 +39,10 @@ fn read_slot<B: Bank>(
         → IsTrue (B.view bank.old).tells
         → (IsSlot g.now seq (B.view bank.old).now.disks → ⊥)
         × (offset ≡ slot_start g.now seq) }
+    ensures reads { OnlyReads (B.view bank.old) (B.view bank.new) }
     ensures cause { IsErrOf result StageFault.DiskFault
         → Rose ((B.view bank.old).faults 0) ((B.view bank.new).faults 0) }
     ensures calls { CalledTimes 1 (B.view bank.old) (B.view bank.new) }
-    ensures reads { OnlyReads (B.view bank.old) (B.view bank.new) }
 {
     let at = slot_offset(g, seq);
     let offset = SLOTS_AT + at as u64;
@@ -73,10 +73,10 @@ pub(crate) fn read_slots<B: Bank>(
     ensures damaged { (offset : ℕ) → IsErrOf result (StageFault.Damaged offset)
         → IsTrue (B.view bank.old).tells
         → IsDamagedSlot g.now drained last (B.view bank.old).now.disks offset }
+    ensures reads { OnlyReads (B.view bank.old) (B.view bank.new) }
     ensures cause { IsErrOf result StageFault.DiskFault
         → Rose ((B.view bank.old).faults 0) ((B.view bank.new).faults 0) }
     ensures calls { TakesCalls (last - drained) result (B.view bank.old) (B.view bank.new) }
-    ensures reads { OnlyReads (B.view bank.old) (B.view bank.new) }
 {
     for older in drained..last {
         read_slot(bank, g, older + 1, slots)?;

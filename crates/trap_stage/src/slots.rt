@@ -2,7 +2,6 @@
 
 ghost use Rattle.std.specs.Prelude.{◌≡◌, ◌↔◌, ◌+◌, ◌*◌, ◌^◌, ◌<◌, ◌≤◌, length, Some, None};
 ghost use Rattle.std.specs.Prelude.{IsTrue, IfSome, IfNone};
-ghost use Rattle.trap_block.specs.Fields.{put_over};
 ghost use Rattle.trap_format.specs.LogDisk.{slot_len};
 ghost use Rattle.trap_model.specs.Image.{volume};
 ghost use Rattle.trap_stage.specs.Staged.{staged_at};
@@ -11,6 +10,7 @@ ghost use Rattle.trap_stage.specs.Held.{slot_offset, slot_held, staged_from, Spe
 
 use trap_block::{get_u32, get_u64, put_u32, put_u64};
 use trap_format::layout::SLOT_NUMBERS_BYTES;
+use trap_format::put_bytes;
 use trap_map::{Place, parity_of, place_of};
 use trap_model::Geometry;
 
@@ -63,16 +63,8 @@ pub(crate) fn spell(seq: u64, block: u32, fresh: &[u8], parity: &[u8], slot: &mu
 {
     put_u64(slot, 0, seq);
     put_u32(slot, BLOCK_AT, block);
-    put(slot, CONTENTS_AT, fresh);
-    put(slot, CONTENTS_AT + fresh.len(), parity);
-}
-
-/// Writes a piece over the bytes from the offset `at` on.
-fn put(slot: &mut [u8], at: usize, piece: &[u8])
-    requires { at + length piece.now ≤ length slot.old }
-    ensures { slot.new ≡ put_over at piece.now slot.old }
-{
-    slot[at..at + piece.len()].copy_from_slice(piece);
+    put_bytes(slot, CONTENTS_AT, fresh);
+    put_bytes(slot, CONTENTS_AT + fresh.len(), parity);
 }
 
 /// Whether the bytes spell a write of the array with this number.

@@ -69,15 +69,15 @@ impl Stage {
         ensures stage { IfOk result (λ stage. IsStage stage) }
         ensures reads { OnlyReads (B.view bank.old) (B.view bank.new) }
 
-        // One read for each slot.
-        ensures calls { TakesCalls (last - drained) result (B.view bank.old) (B.view bank.new) }
-
         // The first slot that holds no write of the array with its own number.
         ensures damaged { (offset : ℕ) → IsErrOf result (StageFault.Damaged offset)
             → IsTrue (B.view bank.old).tells
             → IsDamagedSlot g.now drained last (B.view bank.old).now.disks offset }
         ensures cause { IsErrOf result StageFault.DiskFault
             → Rose ((B.view bank.old).faults 0) ((B.view bank.new).faults 0) }
+
+        // One read for each slot.
+        ensures calls { TakesCalls (last - drained) result (B.view bank.old) (B.view bank.new) }
     {
         let mut slots = vec![in alloc; 0; slots_len(g)]?;
         read_slots(bank, g, drained, last, slots.as_mut_slice())?;

@@ -5,7 +5,7 @@ ghost use Rattle.std.specs.Prelude.{OnErr, OnOk, IfOk, IsTrue};
 ghost use Rattle.trap_bank.specs.Faults.{Rose};
 ghost use Rattle.trap_bank.specs.Calls.{Fits};
 ghost use Rattle.trap_bank.specs.Steps.{OnlyReads};
-ghost use Rattle.trap_record.specs.Reading.{Reads};
+ghost use Rattle.trap_record.specs.Reading.{ReadsAs};
 ghost use Rattle.trap_ring.specs.Ring.{RingHas};
 ghost use Rattle.trap_scan.specs.Window.{in_buffer, IsBegun, SamePlace, PassesOver, IsLoaded};
 ghost use Rattle.trap_scan.specs.Window.{HasBuffer, IsAhead, IsFront, IsInBuffer, HasRanges};
@@ -78,7 +78,7 @@ impl Window {
     /// What stands at the front of the bytes in the buffer.
     fn front_read(&self, size: u16) -> ReadRec
         requires { size ≤ 4096 }
-        ensures { Reads size (in_buffer self.now) result }
+        ensures { ReadsAs size (in_buffer self.now) result }
     {
         read(&self.buf[self.from..self.to], usize::from(size))
     }

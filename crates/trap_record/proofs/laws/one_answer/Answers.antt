@@ -1,5 +1,5 @@
-use Rattle.trap_record.proofs.Getting.{Reads-one}
+use Rattle.trap_record.proofs.Getting.{one_reading}
 use Rattle.trap_record.proofs.laws.one_answer.Goals as goal
 
 pub returns : goal.returns
-returns c = Reads-one
+returns c = one_reading

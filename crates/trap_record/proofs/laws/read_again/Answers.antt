@@ -1,5 +1,5 @@
-use Rattle.trap_record.proofs.Getting.{Reads-again}
+use Rattle.trap_record.proofs.Getting.{read_again}
 use Rattle.trap_record.proofs.laws.read_again.Goals as goal
 
 pub returns : goal.returns
-returns c = Reads-again
+returns c = read_again
