@@ -14,12 +14,12 @@ use Rattle.trap_model.specs.declared.arrival.Taken.{Taken}
 use Rattle.trap_model.specs.declared.arrival.Taken.TheVariants.{Applied, Held, Repeat, Beyond}
 use Rattle.trap_replica.specs.Holding.{HeldFrames, holding, Ascends, Suits, SuitAll}
 use Rattle.trap_replica.specs.OnDisk.{HoldsImageBy, ReplicaHolds}
-use Rattle.trap_replica.specs.Applying.{Leaves, take_calls}
+use Rattle.trap_replica.specs.Applying.{Leaves, take_calls, cell_after}
 use Rattle.trap_replica.specs.Mounted.{MountedReplica, frame_refusal, left_out, Receives}
 use Rattle.trap_replica.specs.declared.fault.ReplicaFault.{ReplicaFault}
 use Rattle.trap_replica.specs.declared.fault.ReplicaFault.TheVariants.{Stranger, NoBlock, Stopped}
 use Rattle.trap_model.specs.declared.frame.Frame.{Frame}
-use Rattle.trap_replica.specs.Standing.{Mirrors, step_from, steps, seen, HoldsPassed, arrived, Passed}
+use Rattle.trap_replica.specs.Standing.{Mirrors, step_from, applied_held, seen, HoldsApplied, arrived, HasAppliedHeld}
 use Rattle.trap_replica.specs.declared.store.Store.{Store}
 use Rattle.trap_replica.proofs.OneFrame.{leaves_none}
 
@@ -39,6 +39,14 @@ each_near : (s : Shape) (n : ℕ) (frames : List Arrival) → All (Suits s n) fr
 each_near s n frames each k d less = (each k d less).near
 
 -- the frames with one more
+pub length_hold : (f : Arrival) (frames : List Arrival) → length (hold f frames) ≡ length frames + 1
+length_hold f [] = refl
+length_hold f (g ∷ frames) = either (nat_lt f.seq g.seq) (length_hold f frames)
+  where
+    either : (b : Bool) → length (hold f frames) ≡ length frames + 1 → length (if b then f ∷ g ∷ frames else g ∷ hold f frames) ≡ length (g ∷ frames) + 1
+    either true more = omega arith
+    either false more = omega (arith, more)
+
 pub held_same : (k h : HeldFrames) (f : Arrival) → k.size ≡ h.size → k.frames ≡ hold f h.frames → k ≡ holding h f
 held_same k h f size frames = ap slots_of size ∙ ap with_frames frames
   where
@@ -78,7 +86,7 @@ put_all : (P : Arrival → Type 0) (f g : Arrival) (frames rest : List Arrival) 
 put_all P f g frames rest fits all more true = All-cons P f (g ∷ frames) fits all
 put_all P f g frames rest fits all more false = All-cons P g rest (All-head P g frames all) more
 
-each_held : (P : Arrival → Type 0) (f : Arrival) (frames : List Arrival) → P f → All P frames → All P (hold f frames)
+pub each_held : (P : Arrival → Type 0) (f : Arrival) (frames : List Arrival) → P f → All P frames → All P (hold f frames)
 each_held P f [] fits all = All-cons P f [] fits (All-nil P)
 each_held P f (g ∷ frames) fits all = put_all P f g frames (hold f frames) fits all (each_held P f frames fits (All-tail P g frames all)) (nat_lt f.seq g.seq)
 
@@ -146,9 +154,9 @@ settled_once : (r : Receiver) (held : List Arrival) → r.held ≡ held → sett
 settled_once r [] is = ap (settled r) is
 settled_once r (f ∷ held) is = settled_test r f held is (f.seq == r.number + 1) refl
 
-pub settled_steps : (k : ℕ) (r : Receiver) → settled (steps k r) (steps k r).held ≡ settled r r.held
+pub settled_steps : (k : ℕ) (r : Receiver) → settled (applied_held k r) (applied_held k r).held ≡ settled r r.held
 settled_steps zero r = refl
-settled_steps (suc k) r = settled_once (steps k r) (steps k r).held refl ∙ settled_steps k r
+settled_steps (suc k) r = settled_once (applied_held k r) (applied_held k r).held refl ∙ settled_steps k r
 
 -- the next isn't held
 settled_done : (r : Receiver) (held : List Arrival) → Ascends (r.number + 1) held → settled r held ≡ record r { held = held }
@@ -162,11 +170,11 @@ pub settled_held : (r : Receiver) (l held : List Arrival) → settled (record r 
 settled_held r l [] = refl
 settled_held r l (f ∷ held) = refl
 
-module _ (p q : Store) (h k : HeldFrames) (f : Arrival) (a b : View) (passed : Passed p q (holding h f) k a b) (done : SuitAll q.shape (q.number + 1) q.number k) where
+module _ (p q : Store) (h k : HeldFrames) (f : Arrival) (a b : View) (passed : HasAppliedHeld p q (holding h f) k a b) (done : SuitAll q.shape (q.number + 1) q.number k) where
   -- all that follow were applied
-  all_passed : (image : List (List ℕ)) → steps passed.count (seen p (holding h f) image) ≡ with_frame (seen p h image) f
+  all_passed : (image : List (List ℕ)) → applied_held passed.count (seen p (holding h f) image) ≡ with_frame (seen p h image) f
   all_passed image =
-      let last = seen q k (steps passed.count (seen p (holding h f) image)).image in
+      let last = seen q k (applied_held passed.count (seen p (holding h f) image)).image in
       sym (passed.is image) ∙ sym (settled_done last k.frames done.order)
       ∙ ap (λ (r : Receiver). settled r r.held) (passed.is image) ∙ settled_steps passed.count (seen p (holding h f) image)
       ∙ settled_held (seen p h image) (hold f h.frames) (hold f h.frames)
@@ -184,6 +192,7 @@ module _ (p q : Store) (h k : HeldFrames) (f : Arrival) (a b : View) (passed : P
       numbers = λ image. subst (λ (r : Receiver). seen q k r.image ≡ r) (all_passed image ∙ sym (is_taken image)) (passed.is image);
       mirrors = λ image mirrors. subst (λ (r : Receiver). Mirrors q b r.image) (all_passed image ∙ sym (is_taken image)) (passed.mirrors image mirrors);
       calls = subst (λ (n : ℕ). CalledTimes (take_calls p.cell n) a b) (counted passed.count q.number p.number passed.number) passed.calls;
+      cell = passed.cell ∙ ap (cell_after p.cell) (counted passed.count q.number p.number passed.number);
     }
 
     -- the next frame is applied
@@ -218,15 +227,16 @@ module _ (p : Store) (h : HeldFrames) (f : Arrival) (t : Taken) (is : left_out p
     numbers = λ image. subst (λ (r : Receiver). seen p h r.image ≡ r) (sym (same_taken image)) refl;
     mirrors = λ image mirrors. subst (λ (r : Receiver). Mirrors p a r.image) (sym (same_taken image)) mirrors;
     calls = subst (λ (n : ℕ). CalledTimes (take_calls p.cell n) a a) (counted 0 p.number p.number (omega arith)) (not_called a);
+    cell = ap (cell_after p.cell) (counted 0 p.number p.number (omega arith));
   }
 
 -- nothing was done
-kept : (s : Shape) (x : Disks) (b : Bool) (r : Receiver) (l : List Arrival) → ReplicaHolds s r.number r.time r.image x → HoldsPassed s (if b then r else record r { held = l }) x
+kept : (s : Shape) (x : Disks) (b : Bool) (r : Receiver) (l : List Arrival) → ReplicaHolds s r.number r.time r.image x → HoldsApplied s (if b then r else record r { held = l }) x
 kept s x true r l has = record { count = 0; holds = has }
 kept s x false r l has = record { count = 0; holds = has }
 
-pub leaves_kept : (p : Store) (h : HeldFrames) (f : Arrival) (a : View) (image : List (List ℕ)) → Mirrors p a image → Leaves a a (HoldsPassed p.shape (arrived (seen p h image) f))
-leaves_kept p h f a image mirrors = leaves_none a (HoldsImageBy p.shape p.block p.number p.time image) (HoldsPassed p.shape (arrived (seen p h image) f)) mirrors.holds
+pub leaves_kept : (p : Store) (h : HeldFrames) (f : Arrival) (a : View) (image : List (List ℕ)) → Mirrors p a image → Leaves a a (HoldsApplied p.shape (arrived (seen p h image) f))
+leaves_kept p h f a image mirrors = leaves_none a (HoldsImageBy p.shape p.block p.number p.time image) (HoldsApplied p.shape (arrived (seen p h image) f)) mirrors.holds
     (λ x has. kept p.shape x (is_known (seen p h image) f || is_beyond (seen p h image) f) (seen p h image) (hold f h.frames) (p.block, has))
 
 -- a frame that isn't left out is held

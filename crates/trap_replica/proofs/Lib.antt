@@ -2,7 +2,11 @@ pub mod HeldSlots
 pub mod OneFrame
 pub mod FrameSteps
 pub mod NewReplica
+pub mod LoadedImage
+pub mod LoadedBlocks
+pub mod LoadedReplica
 pub mod HeldSteps
 pub mod FrameTaken
 pub mod MountedDisk
 pub mod Worlds
+pub mod Exported

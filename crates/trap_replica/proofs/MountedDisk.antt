@@ -1,19 +1,28 @@
 -- What a mount finds on disk 17, and that it is what a crash leaves from then on.
-use Rattle.std.proofs.Common.{◌≡◌, ℕ, ◌+◌, ◌^◌, ◌<◌, List, take, drop, Option, Some, None, Ok, IsTrue, Bool, refl, sym, ap, subst, ◌∙◌, arith}
+use Rattle.std.proofs.Common.{◌≡◌, ◌≢◌, ◌⊎◌, ℕ, ◌+◌, ◌*◌, ◌^◌, ◌<◌, ◌≤◌, List, [], length, length-drop, take, drop, Option, inl, inr, ⊎_elim, Some, None, Ok, IsTrue, Bool, refl, sym, ap, subst, ◌∙◌, arith}
+use Rattle.std.proofs.Math.ListN.{set}
+use Rattle.std.proofs.lemmas.Bool.{cases_eq}
+use Rattle.std.proofs.lemmas.List.{drop-drop, length-set, get_or-set_same, get_or-set_other}
 use Rattle.trap_bank.specs.Disks.{Contents, View, Disks, bytes_of, size_of, region}
 use Rattle.trap_bank.specs.Calls.{Syncs}
 use Rattle.trap_bank.specs.Steps.{Moves, Same, OnlyReads, Always}
 use Rattle.trap_bank.proofs.Moves.{synced_steps}
 use Rattle.trap_cell.specs.Slots.{Place, slot_at, current_slot, value_at, cell_value}
-use Rattle.trap_format.specs.ReplicaDisk.{home_at}
+use Rattle.trap_bank.proofs.Regions.{size_length}
+use Rattle.trap_format.specs.ReplicaDisk.{home_at, replica_size}
 use Rattle.trap_format.specs.declared.shape.Shape.{Shape}
 use Rattle.trap_format.proofs.BigEndian.{same_of_4, same_of_8}
 use Rattle.trap_format.proofs.ReplicaHeaders.{shapes_same}
 use Rattle.trap_model.specs.Image.{block_of}
 use Rattle.trap_replica.specs.OnDisk.{cell_place, value_bytes, HoldsImageBy, ReplicaHolds}
 use Rattle.trap_replica.specs.Standing.{IsStoreReady}
-use Rattle.trap_replica.specs.Mounting.{HasReplicaHeader, IsNoValue, IsCellDamaged, IsReplicaStable, IsStoreFound, Knows, Opens}
+use Rattle.trap_replica.specs.Creating.{BeginsReplica}
+use Rattle.trap_replica.specs.Loading.{image_of}
+use Rattle.trap_replica.specs.Mounting.{HasReplicaHeader, IsNoValue, IsRefusedAs, IsCellDamaged, IsReplicaStable, IsStoreFound, Knows, Opens}
+use Rattle.trap_replica.specs.declared.fault.ReplicaFault.{ReplicaFault}
+use Rattle.trap_replica.specs.declared.fault.ReplicaFault.TheVariants.{Exists, NotAReplica, Damaged, DiskFault, ReadFault, ShortImage, LongImage, Stranger, NoBlock, Stopped, OutOfMemory}
 use Rattle.trap_replica.specs.declared.store.Store.{Store}
+use Rattle.trap_replica.proofs.LoadedImage.{blocks_at, blocks_length, block_sized}
 
 -- a disk that was synced is stable, after a read too
 pub stable_read : {T E : Type 0} (value : T) (a b c : View) → Syncs {T = T} {E = E} 17 (Ok value) a b → Moves b c Same Same → (IsTrue b.tells → c.now ≡ b.now) → IsReplicaStable c
@@ -133,6 +142,7 @@ pub opens : (p : Store) (old new : View) → IsStoreReady p new → (IsTrue old.
 opens p old new ready found reads stable time = record {
   ready = ready;
   found = found;
+  fits = time;
   knows = λ s n t image told holds. knows p old new reads stable time s n t image told (found told) holds;
 }
 
@@ -141,6 +151,7 @@ pub opens_before : (p : Store) (a b c : View) → OnlyReads a b → Opens p b c 
 opens_before p a b c reads later = record {
   ready = later.ready;
   found = λ told. subst (IsStoreFound p) (same told) (later.found (still told));
+  fits = later.fits;
   knows = λ s n t image told holds. later.knows s n t image (still told) (subst (ReplicaHolds s n t image) (sym (same told)) holds);
 }
   where
@@ -149,3 +160,84 @@ opens_before p a b c reads later = record {
 
     same : IsTrue a.tells → b.now.disks ≡ a.now.disks
     same told = ap (λ (w : Contents). w.disks) (reads.same told)
+
+-- the image that stands on the disk: its image area, with these contents laid over the block
+abbrev pub image_there : Shape → ℕ → List ℕ → Disks → List (List ℕ)
+image_there s block contents disks = set (image_of s (drop (home_at s 0) (bytes_of (disks 17)))) block contents
+
+module _ (s : Shape) (disks : Disks) (has : HasReplicaHeader s disks) where
+  area_long : s.volume * s.block ≤ length (drop (home_at s 0) (bytes_of (disks 17)))
+  area_long = omega (arith, length-drop (home_at s 0) (bytes_of (disks 17)), size_length (disks 17) (replica_size s) has.size)
+
+  -- a block of the area is what stands at home
+  area_block : (b : ℕ) → b < s.volume → block_of (image_of s (drop (home_at s 0) (bytes_of (disks 17)))) b ≡ region disks 17 (home_at s b) s.block
+  area_block b below =
+      let place : home_at s 0 + b * s.block ≡ home_at s b = omega arith in
+      blocks_at s.block s.volume b (drop (home_at s 0) (bytes_of (disks 17))) below
+      ∙ ap (take s.block) (drop-drop (b * s.block) (home_at s 0) (bytes_of (disks 17)))
+      ∙ ap (λ (at : ℕ). region disks 17 at s.block) place
+
+  -- a header and a value of the cell hold an image
+  pub holds_there : (number time block : ℕ) (contents : List ℕ) → number ≤ 2 ^ 40 → time < 2 ^ 64 → block < s.volume → length contents ≡ s.block
+      → cell_value (cell_place s) disks ≡ Some (value_bytes number time block contents) → HoldsImageBy s block number time (image_there s block contents disks) disks
+  holds_there number time block contents most fits inside sized value = record {
+    id = has.id;
+    header = has.header;
+    size = has.size;
+    most = most;
+    fits = fits;
+    inside = inside;
+    long = length-set area block contents ∙ whole;
+    sized = λ b below. ⊎_elim
+        (λ (same : b ≡ block). ap (λ (k : ℕ). length (block_of (image_there s block contents disks) k)) same ∙ ap length over ∙ sized)
+        (λ (other : b ≢ block). ap length (get_or-set_other area block b contents [] other) ∙ block_sized s.block s.volume b (drop (home_at s 0) (bytes_of (disks 17))) below area_long)
+        (cases_eq b block);
+    value = value ∙ ap (λ (l : List ℕ). Some (value_bytes number time block l)) (sym over);
+    others = λ b below other. sym (area_block b below) ∙ sym (get_or-set_other area block b contents [] other);
+  }
+    where
+      area : List (List ℕ)
+      area = image_of s (drop (home_at s 0) (bytes_of (disks 17)))
+
+      whole : length area ≡ s.volume
+      whole = blocks_length s.block s.volume (drop (home_at s 0) (bytes_of (disks 17)))
+
+      over : block_of (image_there s block contents disks) block ≡ contents
+      over = get_or-set_same area block contents [] (omega (arith, whole))
+
+-- so what a mount found holds one
+pub opens_holds : (p : Store) (old new : View) → Opens p old new → IsTrue old.tells → (image : List (List ℕ)) × ReplicaHolds p.shape p.number p.time image old.now.disks
+opens_holds p old new opened told =
+    let found = opened.found told in
+    let sized : length p.contents.items ≡ p.shape.block = omega (arith, p.sized, p.contents.ok.0) in (
+      image_there p.shape p.block p.contents.items old.now.disks,
+      (p.block, holds_there p.shape old.now.disks found.has p.number p.time p.block p.contents.items p.most opened.fits p.inside sized found.value),
+    )
+
+-- what a replica holds isn't refused: the disk begins as one, has its header, and its cell has a value
+module _ (s : Shape) (number time : ℕ) (image : List (List ℕ)) (disks : Disks) (holds : ReplicaHolds s number time image disks) where
+  has_header : HasReplicaHeader s disks
+  has_header = record { id = holds.1.id; header = holds.1.header; size = holds.1.size }
+
+  begins : BeginsReplica disks
+  begins = record { bytes = replica_size s; there = holds.1.size; least = omega arith; start = ap (take 5) holds.1.header }
+
+  no_cell_damaged : IsCellDamaged disks → ⊥
+  no_cell_damaged damaged =
+      let is : damaged.shape ≡ s = shapes_same damaged.shape s damaged.has.id holds.1.id (sym damaged.has.header ∙ holds.1.header) in
+      damaged.none (value_bytes number time holds.0 (block_of image holds.0))
+      (subst (λ (z : Shape). cell_value (cell_place z) disks ≡ Some (value_bytes number time holds.0 (block_of image holds.0))) (sym is) holds.1.value)
+      number time holds.0 (block_of image holds.0) refl holds.1.most (subst (λ (z : Shape). holds.0 < z.volume) (sym is) holds.1.inside)
+
+  pub holds_unrefused : (why : ReplicaFault) → IsRefusedAs disks why → (why ≡ DiskFault) ⊎ (why ≡ OutOfMemory)
+  holds_unrefused (Exists disk) refused = absurd refused
+  holds_unrefused NotAReplica refused = absurd (refused begins)
+  holds_unrefused (Damaged offset) refused = absurd (⊎_elim (λ header. header.1.none s has_header) (λ cell. no_cell_damaged cell.1) refused)
+  holds_unrefused DiskFault refused = inl refl
+  holds_unrefused ReadFault refused = absurd refused
+  holds_unrefused (ShortImage at) refused = absurd refused
+  holds_unrefused (LongImage at) refused = absurd refused
+  holds_unrefused (Stranger id) refused = absurd refused
+  holds_unrefused (NoBlock block) refused = absurd refused
+  holds_unrefused Stopped refused = absurd refused
+  holds_unrefused OutOfMemory refused = inr refl

@@ -1,11 +1,11 @@
 -- How a replica is made: its cell and its header, and then its gate.
 use Rattle.std.proofs.Common.{◌≡◌, ◌≢◌, ℕ, zero, suc, ◌+◌, ◌-◌, ◌^◌, ◌<◌, ◌≤◌, List, [], ◌∷◌, ◌++◌, length, take, drop, replicate, get_or, Option, Some, None, IsTrue, inl, inr, ⊎_elim, refl, sym, ap, subst, ◌∙◌, arith}
-use Rattle.std.proofs.lemmas.Bool.{cases_eq, cases_lt}
-use Rattle.std.proofs.lemmas.List.{length-replicate, length-drop, length-take-le, take_all, get_or-take, get_or-replicate, get_or_past, take-replicate, drop-replicate}
+use Rattle.std.proofs.lemmas.Bool.{cases_eq}
+use Rattle.std.proofs.lemmas.List.{length-replicate, length-drop, length-take-le, take_all, get_or-take, get_or-replicate, take-replicate, drop-replicate}
 use Rattle.trap_bank.specs.Disks.{View, Disks, Contents, Area, Within, Torn, Differs, byte, bytes_of, size_of, region}
 use Rattle.trap_bank.specs.Calls.{IsLawful, MayLeave, Remade}
 use Rattle.trap_bank.specs.Steps.{Moves, PlacedThrough}
-use Rattle.trap_bank.proofs.Regions.{disk_apart, disk_beside, region_byte, region_beside, region_of_disk, byte_in_region, differs_again, differs_wider}
+use Rattle.trap_bank.proofs.Regions.{absent_disk, size_length, zero_byte, disk_apart, disk_beside, region_byte, region_beside, region_of_disk, byte_in_region, differs_again, differs_wider}
 use Rattle.trap_bank.proofs.Moves.{moves_then, moves_weaken, RemadeDisk, MadeDisk}
 use Rattle.trap_cell.specs.Slots.{Slots, Stands, begun, place_of, cell_value, cell_area, cell_len}
 use Rattle.trap_cell.specs.Steps.{IsFirst}
@@ -31,14 +31,6 @@ shut_by_zero x is on = omega (arith, is, on)
 
 pub absent_off : (x : Disks) → x 17 ≡ None → IsReplicaGateOff x
 absent_off x is = shut_by_zero x (ap (λ (disk : Option (List ℕ)). get_or (bytes_of disk) 0 0) is)
-
-zero_byte : (n i : ℕ) → ◌≡◌ {A = ℕ} (get_or (replicate n 0) i 0) 0
-zero_byte n i =
-    let z : ℕ = 0 in
-    ⊎_elim
-    (λ (inside : i < n). get_or-replicate n i z z inside)
-    (λ (past : n ≤ i). get_or_past (replicate n z) i z (omega (arith, length-replicate n z, past)))
-    (cases_lt i n)
 
 zeros_off : (x : Disks) (n : ℕ) → x 17 ≡ Some (replicate n 0) → IsReplicaGateOff x
 zeros_off x n is = shut_by_zero x (ap (λ (disk : Option (List ℕ)). get_or (bytes_of disk) 0 0) is ∙ zero_byte n 0)
@@ -265,10 +257,6 @@ module _ (s : Shape) (number time : ℕ) (image : List (List ℕ)) where
   joined [] rest long gate is = absurd (omega (arith, long))
   joined (b ∷ bytes) rest long gate is = cc
 
-  size_length : (disk : Option (List ℕ)) (n : ℕ) → size_of disk ≡ Some n → length (bytes_of disk) ≡ n
-  size_length None n is = cc
-  size_length (Some bytes) n is = cc
-
   -- a new replica whose gate is open now
   opened : (y z : Disks) → IsShutReplica s number time image y → Differs (Within 17 0 1) y z → byte z 17 0 ≡ 165 → IsNewReplica s number time image z
   opened y z shut differs on = record {
@@ -283,17 +271,13 @@ module _ (s : Shape) (number time : ℕ) (image : List (List ℕ)) where
       size = differs.sizes 17 ∙ shut.size
 
   module _ (a : View) (lawful : IsLawful a) (none : a.sizes 17 ≡ None) where
-    no_size : (disk : Option (List ℕ)) → size_of disk ≡ None → disk ≡ None
-    no_size None is = refl
-    no_size (Some bytes) is = cc
-
     absent : (w : Contents) → MayLeave a w → w.disks 17 ≡ None
-    absent w left = no_size (w.disks 17) (left.torn.disks.sizes 17 ∙ lawful.sized left.told 17 ∙ none)
+    absent w left = absent_disk (w.disks 17) (left.torn.disks.sizes 17 ∙ lawful.sized left.told 17 ∙ none)
 
     shuts_making : (x y : Contents) → MayLeave a x → ShutsReplica x.disks y.disks → MakesReplica s number time image x.disks y.disks
     shuts_making x y left shuts = record {
       others = shuts.others;
-      disk = inl (⊎_elim (λ (same : y.disks 17 ≡ x.disks 17). off_no_replica y.disks (absent_off y.disks (same ∙ absent x left))) (λ off. off_no_replica y.disks off) shuts.disk);
+      disk = inl (⊎_elim (λ (same : y.disks 17 ≡ x.disks 17). absent_off y.disks (same ∙ absent x left)) (λ off. off) shuts.disk);
     }
 
     pub shut_part : (b : View) → Moves a b ShutsReplica ShutsReplica → Moves a b (MakesReplica s number time image) (MakesReplica s number time image)
@@ -321,7 +305,7 @@ module _ (s : Shape) (number time : ℕ) (image : List (List ℕ)) where
       gate_making : (x y z : Disks) → HasShutReplica s number time image x y → Differs (Within 17 0 1) y z → MakesReplica s number time image x z
       gate_making x y z made differs = record {
         others = λ e other. disk_beside 17 0 1 y z e differs other ∙ made.others e other;
-        disk = ⊎_elim (λ (on : byte z 17 0 ≡ 165). inr (0, holds z (opened y z made.replica differs on))) (λ (off : byte z 17 0 ≢ 165). inl (off_no_replica z off)) (cases_eq (byte z 17 0) 165);
+        disk = ⊎_elim (λ (on : byte z 17 0 ≡ 165). inr (0, holds z (opened y z made.replica differs on))) (λ (off : byte z 17 0 ≢ 165). inl off) (cases_eq (byte z 17 0) 165);
       }
 
       pub gate_part : (b c : View) → Moves a b ShutsReplica (HasShutReplica s number time image) → Moves b c (Differs (Within 17 0 1)) (Differs (Within 17 0 1))

@@ -18,7 +18,7 @@ use Rattle.trap_model.specs.Image.{block_of}
 use Rattle.trap_model.specs.Receiver.{xored}
 use Rattle.trap_model.specs.declared.arrival.Arrival.{Arrival}
 use Rattle.trap_replica.specs.OnDisk.{cell_place, home, value_bytes, HoldsImageBy}
-use Rattle.trap_replica.specs.Applying.{Elsewhere, Leaves, HoldsEither}
+use Rattle.trap_replica.specs.Applying.{Elsewhere, Leaves, LeavesOthers, HoldsEither}
 
 -- a block ends where the next one begins, or before
 pub block_inside : (a b n : ℕ) → a < b → a * n + n ≤ b * n
@@ -219,3 +219,23 @@ touch_then a b c tells first second told =
     let one = first told in
     let two = second (subst IsTrue (sym tells) told) in
     record { disks = λ e other. two.disks e other ∙ one.disks e other; said = two.said ∙ one.said }
+
+-- a write of a block, a read of one and a put of the cell leave every other disk
+pub others_torn : (at n : ℕ) (a b : View) → ((e : ℕ) → b.sizes e ≡ a.sizes e) → Moves a b (Differs (Within 17 at n)) (Differs (Within 17 at n))
+    → (IsTrue a.tells → Torn (Within 17 at n) a.now b.now) → LeavesOthers a b
+others_torn at n a b sizes moves torn = record { sizes = sizes; elsewhere = else_moves at n a b moves; touches = touch_torn at n a b torn }
+
+pub others_same : (a b : View) → ((e : ℕ) → b.sizes e ≡ a.sizes e) → Moves a b Same Same → (IsTrue a.tells → b.now ≡ a.now) → LeavesOthers a b
+others_same a b sizes moves same = record { sizes = sizes; elsewhere = else_same a b moves; touches = touch_same a b same }
+
+pub others_put : (s : Shape) (t : Slots) (fresh : List ℕ) (a b : View) → ((e : ℕ) → b.sizes e ≡ a.sizes e) → t.place ≡ cell_place s
+    → Moves a b (PutsIn t fresh) (PutsIn t fresh) → (IsTrue a.tells → Quiet (PutsIn t fresh) a.now b.now) → LeavesOthers a b
+others_put s t fresh a b sizes place moves puts = record { sizes = sizes; elsewhere = else_put s t fresh a b place moves; touches = touch_put s t fresh a b place puts }
+
+-- and so do two, one after the other
+pub others_then : (a b c : View) → LeavesOthers a b → LeavesOthers b c → LeavesOthers a c
+others_then a b c first second = record {
+  sizes = λ e. second.sizes e ∙ first.sizes e;
+  elsewhere = else_then a b c first.elsewhere second.elsewhere;
+  touches = touch_then a b c first.elsewhere.tells first.touches second.touches;
+}

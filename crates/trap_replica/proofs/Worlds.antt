@@ -30,7 +30,7 @@ take_add (suc n) k (x ∷ xs) = let e : suc n + k ≡ suc (n + k) = omega arith 
 
 module _ (volume size : ℕ) where
   -- an entry leaves an image of the same shape
-  written_volume : (image : List (List ℕ)) (e : Entry) → IsVolume volume size image → WritesWithin volume size e → IsVolume volume size (written image e)
+  pub written_volume : (image : List (List ℕ)) (e : Entry) → IsVolume volume size image → WritesWithin volume size e → IsVolume volume size (written image e)
   written_volume image e is writes = record {
     long = length-set image e.block e.bytes ∙ is.long;
     sized = λ b within. ⊎_elim
@@ -40,12 +40,12 @@ module _ (volume size : ℕ) where
         (cases_eq b e.block);
   }
 
-  after_volume : (base : List (List ℕ)) (xs : List Entry) → IsVolume volume size base → All (WritesWithin volume size) xs → IsVolume volume size (image_after base xs)
+  pub after_volume : (base : List (List ℕ)) (xs : List Entry) → IsVolume volume size base → All (WritesWithin volume size) xs → IsVolume volume size (image_after base xs)
   after_volume base [] is all = is
   after_volume base (x ∷ xs) is all = after_volume (written base x) xs (written_volume base x is (All-head (WritesWithin volume size) x xs all)) (All-tail (WritesWithin volume size) x xs all)
 
   -- over the primary's own image a parity gives the entry's bytes
-  same_image : (image : List (List ℕ)) (e : Entry) → IsVolume volume size image → WritesWithin volume size e → with_parity image image e ≡ written image e
+  pub same_image : (image : List (List ℕ)) (e : Entry) → IsVolume volume size image → WritesWithin volume size e → with_parity image image e ≡ written image e
   same_image image e is writes = ap (λ (l : List ℕ). set image e.block l) (undo (block_of image e.block) e.bytes (writes.sized ∙ sym (is.sized e.block writes.inside)))
 
   follows_all : (image : List (List ℕ)) (xs : List Entry) → IsVolume volume size image → All (WritesWithin volume size) xs → delivered image image xs ≡ image_after image xs

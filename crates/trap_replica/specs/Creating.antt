@@ -25,11 +25,15 @@ IsNoReplica disks = ¬ BeginsReplica disks
 abbrev pub zero_blocks : Shape → List (List ℕ)
 zero_blocks s = replicate s.volume (replicate s.block 0)
 
--- while a replica is made: disk 17 is no replica, or it holds the image
+-- the gate of disk 17 is off, or the disk is absent
+abbrev pub IsReplicaGateOff : Disks → Type 0
+IsReplicaGateOff disks = byte disks 17 0 ≢ open_gate
+
+-- while a replica is made: the gate of disk 17 is off, or the disk holds the image
 pub record MakesReplica (s : Shape) (number time : ℕ) (image : List (List ℕ)) (old new : Disks)
     : Type 0 where
   pub others : Elsewhere old new
-  pub disk : IsNoReplica new ⊎ ReplicaHolds s number time image new
+  pub disk : IsReplicaGateOff new ⊎ ReplicaHolds s number time image new
 
 -- a new replica: its cell is begun and names block 0, and each block is at home
 pub record IsNewReplica (s : Shape) (number time : ℕ) (image : List (List ℕ)) (disks : Disks)
@@ -47,10 +51,6 @@ pub record HasMade (s : Shape) (number time : ℕ) (image : List (List ℕ)) (ol
   pub others : Elsewhere old new
   pub holds : ReplicaHolds s number time image new
   pub fresh : IsNewReplica s number time image new
-
--- the gate of disk 17 is off, or the disk is absent
-abbrev pub IsReplicaGateOff : Disks → Type 0
-IsReplicaGateOff disks = byte disks 17 0 ≢ open_gate
 
 -- disk 17 is a new replica but for its gate, which is off
 pub record IsShutReplica (s : Shape) (number time : ℕ) (image : List (List ℕ)) (disks : Disks)

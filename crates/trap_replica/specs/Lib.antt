@@ -5,4 +5,7 @@ pub mod Standing
 pub mod Mounted
 pub mod Creating
 pub mod Mounting
+pub mod Loading
+pub mod LoadSteps
+pub mod Exporting
 pub mod World

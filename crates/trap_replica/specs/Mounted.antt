@@ -1,7 +1,7 @@
 -- What a contract sees of a mounted replica, and what becomes of a frame there.
-use Rattle.std.specs.Prelude.{◌≡◌, ℕ, List, [], ◌+◌, ◌-◌, ◌==◌, Bool, false, not, nat_lt}
+use Rattle.std.specs.Prelude.{◌≡◌, ℕ, List, [], length, ◌+◌, ◌-◌, ◌==◌, Bool, false, not, nat_lt}
 use Rattle.std.specs.Prelude.{if◌then◌else◌, Option, Some, None, Result, IfErr, is_err, IsTrue}
-use Rattle.trap_bank.specs.Called.{CalledTimes}
+use Rattle.trap_bank.specs.Called.{CalledTimes, CalledAtMost}
 use Rattle.trap_bank.specs.Disks.{Quiet, View}
 use Rattle.trap_bank.specs.Faults.{Rose}
 use Rattle.trap_bank.specs.Steps.{Moves}
@@ -10,7 +10,7 @@ use Rattle.trap_model.specs.declared.arrival.Arrival.{Arrival}
 use Rattle.trap_model.specs.declared.arrival.Taken.{Taken}
 use Rattle.trap_model.specs.declared.arrival.Taken.TheVariants.{Repeat, Beyond}
 use Rattle.trap_model.specs.declared.frame.Frame.{Frame}
-use Rattle.trap_replica.specs.Applying.{Elsewhere, take_calls}
+use Rattle.trap_replica.specs.Applying.{Elsewhere, take_calls, cell_after}
 use Rattle.trap_replica.specs.Holding.{HeldFrames, SuitAll}
 use Rattle.trap_replica.specs.Standing.{IsStoreReady, Mirrors, seen}
 use Rattle.trap_replica.specs.declared.fault.ReplicaFault.{ReplicaFault}
@@ -63,6 +63,7 @@ pub record Receives (p q : MountedReplica) (f : Arrival) (a b : View) : Type 0 w
   pub mirrors : (image : List (List ℕ)) → Mirrors p.store a image
       → Mirrors q.store b (after_frame (receiver p image) f).image
   pub calls : CalledTimes (take_calls p.store.cell (q.store.number - p.store.number)) a b
+  pub cell : q.store.cell ≡ cell_after p.store.cell (q.store.number - p.store.number)
 
 -- no frame changes the shape, a disk's size, or a disk but 17, and the replica may be called again
 pub record StaysBeside (p q : MountedReplica) (a b : View) : Type 0 where
@@ -72,8 +73,10 @@ pub record StaysBeside (p q : MountedReplica) (a b : View) : Type 0 where
   pub elsewhere : Moves a b Elsewhere Elsewhere
   pub touches : IsTrue a.tells → Quiet Elsewhere a.now b.now
 
--- nothing fails but disk 17, whose count rose, and then the replica is stopped
-pub record FailsByDisk {T : Type 0} (result : Result T ReplicaFault) (q : MountedReplica)
+-- nothing fails but disk 17, whose count rose, and then the replica is stopped; the bank was called
+-- at most as often as each frame that waited, and this one, take
+pub record StopsByDisk {T : Type 0} (result : Result T ReplicaFault) (p q : MountedReplica)
     (a b : View) : Type 0 where
   pub cause : IfErr result (λ why. (why ≡ DiskFault) × Rose (a.faults 17) (b.faults 17))
   pub stops : q.is_stopped ≡ is_err result
+  pub most : CalledAtMost (take_calls p.store.cell (length p.held.frames + 1)) a b

@@ -98,11 +98,15 @@ pub record Knows (p : Store) (v : View) (s : Shape) (n t : ℕ) (image : List (L
 pub record Opens (p : Store) (old new : View) : Type 0 where
   pub ready : IsStoreReady p new
   pub found : IsTrue old.tells → IsStoreFound p old.now.disks
+  pub fits : p.time < 2 ^ 64
   pub knows : (s : Shape) (number time : ℕ) (image : List (List ℕ)) → IsTrue old.tells
       → ReplicaHolds s number time image old.now.disks → Knows p new s number time image
 
--- it is mounted, and no frame waits
+-- it is mounted: the disk had its size and held an image, and no frame waits
 pub record MountsReplica (r : MountedReplica) (old new : View) : Type 0 where
   pub opens : Opens r.store old new
+  pub exact : old.sizes 17 ≡ Some (replica_size r.store.shape)
+  pub holds : IsTrue old.tells → (image : List (List ℕ))
+      × ReplicaHolds r.store.shape r.store.number r.store.time image old.now.disks
   pub held : r.held.frames ≡ []
   pub running : r.is_stopped ≡ false

@@ -3,7 +3,7 @@
 use Rattle.std.specs.Prelude.{◌≡◌, ℕ, ◌-◌, ◌<◌, ◌≤◌, List, [], ◌∷◌, ◌++◌, All, length, take, drop}
 use Rattle.std.specs.Prelude.{set}
 use Rattle.trap_block.specs.Xor.{xor}
-use Rattle.trap_model.specs.Image.{block_of, written, image_after}
+use Rattle.trap_model.specs.Image.{block_of, entry_parity, written, image_after}
 use Rattle.trap_model.specs.Receiver.{gapless}
 use Rattle.trap_model.specs.declared.history.Entry.{Entry}
 
@@ -18,10 +18,6 @@ pub record World : Type 0 where
 -- the primary's image after the first entries
 abbrev pub primary : World → ℕ → List (List ℕ)
 primary w n = image_after w.start (take n w.all)
-
--- the parity of an entry: its block before it, xored with its bytes
-abbrev pub entry_parity : List (List ℕ) → Entry → List ℕ
-entry_parity before entry = xor (block_of before entry.block) entry.bytes
 
 -- an image with the entry's parity xored into its block
 abbrev pub with_parity : List (List ℕ) → List (List ℕ) → Entry → List (List ℕ)

@@ -2,7 +2,7 @@
 
 ghost use Rattle.std.specs.Prelude.{◌≡◌, ℕ, ◌+◌, ◌^◌, ◌<◌, ◌≤◌, List, length, IsTrue, OnOk, OnErr};
 ghost use Rattle.trap_bank.specs.Faults.{Rose};
-ghost use Rattle.trap_bank.specs.Called.{CalledTimes};
+ghost use Rattle.trap_bank.specs.Called.{TakesCalls};
 ghost use Rattle.trap_bank.specs.Calls.{Fits};
 ghost use Rattle.trap_bank.specs.Steps.{Always};
 ghost use Rattle.trap_cell.specs.Slots.{Stands};
@@ -51,14 +51,14 @@ pub(crate) fn apply<B: Bank>(
         → OnOk result (IsTrue (B.view bank.old).tells
         → contents.new ≡ block_of (xored image frame.now) frame.now.block) }
     ensures cell { OnOk result (TurnsCell cell.old cell.new (B.view bank.new)) }
-    ensures calls { OnOk result (CalledTimes (3 + put_calls cell.old) (B.view bank.old)
-        (B.view bank.new)) }
     ensures place { cell.new.place ≡ cell.old.place }
 
     // Nothing but disk 17 changes.
     ensures beside { LeavesOthers (B.view bank.old) (B.view bank.new) }
     ensures cause { OnErr result
         (Rose ((B.view bank.old).faults 17) ((B.view bank.new).faults 17)) }
+    ensures calls { TakesCalls (3 + put_calls cell.old) result (B.view bank.old)
+        (B.view bank.new) }
 
     // Stopped at any moment, the disk holds the image before the frame or the one after it.
     ensures any_moment { (number time : ℕ) (image : List (List ℕ)) → number + 1 ≡ seq → seq ≤ 2 ^ 40

@@ -36,10 +36,10 @@ pub(crate) fn begin_shut<B: Bank>(bank: &mut B, s: &Shape, value: &[u8]) -> Resu
         (BeginsShut (B.view bank.new) s.now value.now)) }
     ensures contents { IsTrue (B.view bank.old).tells
         → Torn (front s.now) (B.view bank.old).now (B.view bank.new).now }
-    ensures calls { TakesCalls 6 result (B.view bank.old) (B.view bank.new) }
     ensures sizes { (e : ℕ) → (B.view bank.new).sizes e ≡ (B.view bank.old).sizes e }
     ensures cause { OnErr result
         (Rose ((B.view bank.old).faults 17) ((B.view bank.new).faults 17)) }
+    ensures calls { TakesCalls 6 result (B.view bank.old) (B.view bank.new) }
     ensures any_moment { Moves (B.view bank.old) (B.view bank.new) (Differs (front s.now))
         (Differs (front s.now)) }
 {
@@ -55,10 +55,10 @@ pub(crate) fn begin_shut<B: Bank>(bank: &mut B, s: &Shape, value: &[u8]) -> Resu
 fn shut_replica<B: Bank>(bank: &mut B, s: &Shape) -> Result<(), DiskFault>
     ensures ok { OnOk result (Moves (B.view bank.old) (B.view bank.new) ShutsReplica
         (HasShutReplica s.now 0 0 (zero_blocks s.now))) }
-    ensures calls { TakesCalls 7 result (B.view bank.old) (B.view bank.new) }
     ensures disk { MakesDisk s.now result (B.view bank.old) (B.view bank.new) }
     ensures cause { OnErr result
         (Rose ((B.view bank.old).faults 17) ((B.view bank.new).faults 17)) }
+    ensures calls { TakesCalls 7 result (B.view bank.old) (B.view bank.new) }
     ensures any_moment { Moves (B.view bank.old) (B.view bank.new) ShutsReplica ShutsReplica }
 {
     let zeros = [0; 4116];
@@ -70,17 +70,17 @@ fn shut_replica<B: Bank>(bank: &mut B, s: &Shape) -> Result<(), DiskFault>
 
 /// Makes a replica that holds the zero image at number 0. Nothing is done where disk 17 is there.
 pub fn create<B: Bank>(bank: &mut B, s: &Shape) -> Result<(), ReplicaFault>
-    ensures exists { IsErrOf result (fault.Exists 17) ↔ ((B.view bank.old).sizes 17 ≢ None) }
-    ensures untouched { (B.view bank.old).sizes 17 ≢ None → bank.new ≡ bank.old }
     ensures ok { OnOk result (Moves (B.view bank.old) (B.view bank.new)
         (MakesReplica s.now 0 0 (zero_blocks s.now)) (HasMade s.now 0 0 (zero_blocks s.now))) }
-    ensures calls { (B.view bank.old).sizes 17 ≡ None
-        → TakesCalls 9 result (B.view bank.old) (B.view bank.new) }
     ensures disk { MakesDisk s.now result (B.view bank.old) (B.view bank.new) }
+    ensures exists { IsErrOf result (fault.Exists 17) ↔ ((B.view bank.old).sizes 17 ≢ None) }
+    ensures untouched { (B.view bank.old).sizes 17 ≢ None → bank.new ≡ bank.old }
     ensures cause { (B.view bank.old).sizes 17 ≡ None → IfErr result (λ why. (why ≡ fault.DiskFault)
         × Rose ((B.view bank.old).faults 17) ((B.view bank.new).faults 17)) }
+    ensures calls { (B.view bank.old).sizes 17 ≡ None
+        → TakesCalls 9 result (B.view bank.old) (B.view bank.new) }
 
-    // Stopped at any moment, disk 17 is no replica, or it holds the zero image.
+    // Stopped at any moment, the gate of disk 17 is off, or the disk holds the zero image.
     ensures any_moment { (B.view bank.old).sizes 17 ≡ None
         → Moves (B.view bank.old) (B.view bank.new)
         (MakesReplica s.now 0 0 (zero_blocks s.now)) (MakesReplica s.now 0 0 (zero_blocks s.now)) }

@@ -7,21 +7,27 @@ ghost use Rattle.trap_replica.specs.OnDisk.{value_bytes};
 
 use trap_block::{put_u32, put_u64};
 use trap_format::Shape;
+use trap_format::layout::REPLICA_NUMBERS_BYTES;
 
 /// The replica's disk.
 pub(crate) const DISK: u8 = 17;
 
 /// Where its cell begins, after the header.
-pub(crate) const CELL_AT: u64 = 32;
+pub(crate) use trap_format::layout::REPLICA_CELL_AT as CELL_AT;
 
 /// The numbers at the front of the cell's value: the number applied, its time, and a block's.
-pub(crate) const NUMBERS: usize = 20;
+pub(crate) const NUMBERS: usize = REPLICA_NUMBERS_BYTES as usize;
+
+// Where the time and the block's number begin in the value.
+const TIME_AT: usize = 8;
+
+const BLOCK_AT: usize = 16;
 
 /// Where a block stands in the image area.
 pub(crate) fn home_at(s: &Shape, block: u32) -> u64
     ensures { result ≡ home_at s.now block }
 {
-    CELL_AT + 2 * (22 + s.block as u64) + block as u64 * s.block as u64
+    CELL_AT + 2 * (2 + REPLICA_NUMBERS_BYTES + s.block as u64) + block as u64 * s.block as u64
 }
 
 /// Writes the contents over the last bytes of the cell's value.
@@ -38,7 +44,7 @@ pub(crate) fn spell_value(value: &mut [u8], number: u64, time: u64, block: u32, 
     ensures { value.new ≡ value_bytes number time block contents.now }
 {
     put_u64(value, 0, number);
-    put_u64(value, 8, time);
-    put_u32(value, 16, block);
+    put_u64(value, TIME_AT, time);
+    put_u32(value, BLOCK_AT, block);
     put_contents(value, contents);
 }

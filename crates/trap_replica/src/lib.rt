@@ -3,10 +3,12 @@
 
 mod applying;
 mod creating;
+mod exporting;
 mod fault;
 mod held;
 pub mod laws;
 mod layout;
+mod loading;
 mod mounting;
 mod replica;
 mod settling;
@@ -16,6 +18,8 @@ mod taking;
 mod tests;
 
 pub use creating::create;
+pub use exporting::ExportFault;
 pub use fault::ReplicaFault;
+pub use loading::load;
 pub use replica::Replica;
 pub use trap_model::{Frame, Taken};

@@ -42,10 +42,10 @@ fn read_first<B: Bank>(bank: &mut B, into: &mut [u8]) -> Result<(), DiskFault>
     ensures bytes { IsTrue (B.view bank.old).tells
         → OnOk result (into.new ≡ region (B.view bank.old).now.disks 17 0 (length into.old)) }
     ensures stable { OnOk result (IsReplicaStable (B.view bank.new)) }
-    ensures calls { TakesCalls 2 result (B.view bank.old) (B.view bank.new) }
     ensures reads { OnlyReads (B.view bank.old) (B.view bank.new) }
     ensures cause { OnErr result
         (Rose ((B.view bank.old).faults 17) ((B.view bank.new).faults 17)) }
+    ensures calls { TakesCalls 2 result (B.view bank.old) (B.view bank.new) }
 {
     // A crash leaves what is read from here on.
     bank.sync(DISK)?;
@@ -56,7 +56,6 @@ fn read_first<B: Bank>(bank: &mut B, into: &mut [u8]) -> Result<(), DiskFault>
 /// Reads the numbers of the replica from its header.
 fn read_header<B: Bank>(bank: &mut B) -> Result<Shape, ReplicaFault>
     ensures ok { IfOk result (λ s. ReadsReplicaHeader s (B.view bank.old) (B.view bank.new)) }
-    ensures calls { TakesCalls 2 result (B.view bank.old) (B.view bank.new) }
     ensures kinds { IfErr result IsMountFault }
     ensures absent { ((n : ℕ) → (B.view bank.old).sizes 17 ≡ Some n → n < 32)
         → (result ≡ Err fault.NotAReplica) × (bank.new ≡ bank.old) }
@@ -65,6 +64,7 @@ fn read_header<B: Bank>(bank: &mut B) -> Result<Shape, ReplicaFault>
         → IsRefusedAs (B.view bank.old).now.disks why) }
     ensures cause { IsErrOf result fault.DiskFault
         → Rose ((B.view bank.old).faults 17) ((B.view bank.new).faults 17) }
+    ensures calls { TakesCalls 2 result (B.view bank.old) (B.view bank.new) }
 {
     let Some(size) = bank.size(DISK) else {
         return Err(ReplicaFault::NotAReplica);
@@ -93,7 +93,6 @@ fn read_cell<B: Bank>(bank: &mut B, s: &Shape, value: &mut [u8]) -> Result<Cell,
     requires long { length value.old ≡ replica_value_len s.now }
     ensures mounted { IfOk result (IsMounted (B.view bank.old) (B.view bank.new)
         (cell_place s.now) value.new) }
-    ensures calls { TakesCalls 3 result (B.view bank.old) (B.view bank.new) }
     ensures kinds { IfErr result IsMountFault }
     ensures reads { OnlyReads (B.view bank.old) (B.view bank.new) }
     ensures refused { IfErr result (λ why. IsTrue (B.view bank.old).tells
@@ -101,6 +100,7 @@ fn read_cell<B: Bank>(bank: &mut B, s: &Shape, value: &mut [u8]) -> Result<Cell,
         → IsRefusedAs (B.view bank.old).now.disks why) }
     ensures cause { IsErrOf result fault.DiskFault
         → Rose ((B.view bank.old).faults 17) ((B.view bank.new).faults 17) }
+    ensures calls { TakesCalls 3 result (B.view bank.old) (B.view bank.new) }
 {
     match Cell::mount(bank, DISK, CELL_AT, value) {
         Ok(cell) => Ok(cell),
@@ -148,7 +148,6 @@ fn open_store<B: Bank>(alloc: Global, bank: &mut B, s: &Shape) -> Result<Store, 
     requires has { IsTrue (B.view bank.old).tells
         → HasReplicaHeader s.now (B.view bank.old).now.disks }
     ensures ok { IfOk result (λ store. Opens store (B.view bank.old) (B.view bank.new)) }
-    ensures calls { TakesCalls 3 result (B.view bank.old) (B.view bank.new) }
     ensures kinds { IfErr result IsMountFault }
     ensures shape { IfOk result (λ store. store.shape ≡ s.now) }
     ensures reads { OnlyReads (B.view bank.old) (B.view bank.new) }
@@ -156,6 +155,7 @@ fn open_store<B: Bank>(alloc: Global, bank: &mut B, s: &Shape) -> Result<Store, 
         → IsRefusedAs (B.view bank.old).now.disks why) }
     ensures cause { IsErrOf result fault.DiskFault
         → Rose ((B.view bank.old).faults 17) ((B.view bank.new).faults 17) }
+    ensures calls { TakesCalls 3 result (B.view bank.old) (B.view bank.new) }
 {
     let size = s.block as usize;
     let mut value = vec![in alloc; 0u8; NUMBERS + size]?;
@@ -181,7 +181,6 @@ impl Replica {
     /// Mounts the replica that disk 17 holds. Nothing is written.
     pub fn mount<B: Bank>(alloc: Global, bank: &mut B) -> Result<Replica, ReplicaFault>
         ensures ok { IfOk result (λ r. MountsReplica r (B.view bank.old) (B.view bank.new)) }
-        ensures calls { TakesCalls 5 result (B.view bank.old) (B.view bank.new) }
         ensures kinds { IfErr result IsMountFault }
         ensures absent { ((n : ℕ) → (B.view bank.old).sizes 17 ≡ Some n → n < 32)
             → (result ≡ Err fault.NotAReplica) × (bank.new ≡ bank.old) }
@@ -189,6 +188,7 @@ impl Replica {
             → IsRefusedAs (B.view bank.old).now.disks why) }
         ensures cause { IsErrOf result fault.DiskFault
             → Rose ((B.view bank.old).faults 17) ((B.view bank.new).faults 17) }
+        ensures calls { TakesCalls 5 result (B.view bank.old) (B.view bank.new) }
 
         // Stopped at any moment, the disks are as they were.
         ensures any_moment { OnlyReads (B.view bank.old) (B.view bank.new) }

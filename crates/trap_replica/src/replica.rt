@@ -83,13 +83,13 @@ impl Replica {
         ensures same { self.new
             ≡ record self.old { is_stopped = self.old.is_stopped || is_err result } }
         ensures ready { IsUsable self.new (B.view bank.new) }
-        ensures calls { self.old.is_stopped ≡ false
-            → TakesCalls (if block == self.old.store.block then 0 else 1) result
-            (B.view bank.old) (B.view bank.new) }
         ensures stopped { IsErrOf result fault.Stopped ↔ IsTrue self.old.is_stopped }
         ensures untouched { self.old.is_stopped ≡ true → bank.new ≡ bank.old }
         ensures cause { self.old.is_stopped ≡ false → IfErr result (λ why. (why ≡ fault.DiskFault)
             × Rose ((B.view bank.old).faults 17) ((B.view bank.new).faults 17)) }
+        ensures calls { self.old.is_stopped ≡ false
+            → TakesCalls (if block == self.old.store.block then 0 else 1) result
+            (B.view bank.old) (B.view bank.new) }
 
         // Stopped at any moment, the disks are as they were.
         ensures any_moment { OnlyReads (B.view bank.old) (B.view bank.new) }

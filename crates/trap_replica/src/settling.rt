@@ -3,7 +3,7 @@
 ghost use Rattle.std.specs.Prelude.{◌≡◌, ◌+◌, ◌<◌, length, OnOk, OnErr, true};
 ghost use Rattle.trap_bank.specs.Faults.{Rose};
 ghost use Rattle.trap_replica.specs.Holding.{SuitAll, has_next};
-ghost use Rattle.trap_replica.specs.Standing.{IsStoreReady, Passed, PassesHeld};
+ghost use Rattle.trap_replica.specs.Standing.{IsStoreReady, HasAppliedHeld, AppliesHeld};
 
 use crate::held::Held;
 use crate::store::Store;
@@ -24,12 +24,12 @@ fn apply_first<B: Bank>(bank: &mut B, store: &mut Store, held: &mut Held) -> Res
     requires ready { IsStoreReady store.old (B.view bank.old) }
     requires suit { SuitAll store.old.shape store.old.number store.old.number held.old }
     requires next { has_next store.old.number held.old.frames ≡ true }
-    ensures ok { OnOk result (Passed store.old store.new held.old held.new (B.view bank.old)
+    ensures ok { OnOk result (HasAppliedHeld store.old store.new held.old held.new (B.view bank.old)
         (B.view bank.new)) }
     ensures fewer { OnOk result (length held.new.frames < length held.old.frames) }
+    ensures passes { AppliesHeld store.old store.new held.old (B.view bank.old) (B.view bank.new) }
     ensures cause { OnErr result (Rose ((B.view bank.old).faults 17)
         ((B.view bank.new).faults 17)) }
-    ensures passes { PassesHeld store.old store.new held.old (B.view bank.old) (B.view bank.new) }
 {
     let Some(frame) = held.first() else {
         return Ok(());
@@ -47,13 +47,13 @@ pub(crate) fn settle<B: Bank>(
 ) -> Result<(), DiskFault>
     requires ready { IsStoreReady store.old (B.view bank.old) }
     requires suit { SuitAll store.old.shape store.old.number store.old.number held.old }
-    ensures ok { OnOk result (Passed store.old store.new held.old held.new (B.view bank.old)
+    ensures ok { OnOk result (HasAppliedHeld store.old store.new held.old held.new (B.view bank.old)
         (B.view bank.new)) }
     ensures done { OnOk result (SuitAll store.new.shape (store.new.number + 1) store.new.number
         held.new) }
+    ensures passes { AppliesHeld store.old store.new held.old (B.view bank.old) (B.view bank.new) }
     ensures cause { OnErr result (Rose ((B.view bank.old).faults 17)
         ((B.view bank.new).faults 17)) }
-    ensures passes { PassesHeld store.old store.new held.old (B.view bank.old) (B.view bank.new) }
 {
     'frames: while has_next(store, held) {
         apply_first(bank, store, held)?;

@@ -11,10 +11,10 @@ ghost use Rattle.trap_model.specs.declared.arrival.Taken.{Taken};
 ghost use Rattle.trap_model.specs.declared.arrival.Taken.TheVariants as taken;
 ghost use Rattle.trap_replica.specs.Applying.{Elsewhere, Leaves};
 ghost use Rattle.trap_replica.specs.Holding.{SuitAll, Suits, holding};
-ghost use Rattle.trap_replica.specs.Mounted.{IsUsable, Receives, StaysBeside, FailsByDisk, arrival};
+ghost use Rattle.trap_replica.specs.Mounted.{IsUsable, Receives, StaysBeside, StopsByDisk, arrival};
 ghost use Rattle.trap_replica.specs.Mounted.{receiver, frame_refusal, left_out};
-ghost use Rattle.trap_replica.specs.Standing.{IsStoreReady, Mirrors, Passed, PassesHeld};
-ghost use Rattle.trap_replica.specs.Standing.{HoldsPassed, arrived, seen};
+ghost use Rattle.trap_replica.specs.Standing.{IsStoreReady, Mirrors, HasAppliedHeld, AppliesHeld};
+ghost use Rattle.trap_replica.specs.Standing.{HoldsApplied, arrived, seen};
 ghost use Rattle.trap_replica.specs.declared.fault.ReplicaFault.TheVariants as fault;
 ghost use Rattle.trap_replica.specs.declared.fault.ReplicaFault.{ReplicaFault};
 
@@ -56,16 +56,16 @@ fn admit<B: Bank>(
     requires fresh { left_out store.old held.old (arrival frame.now parity.now) ≡ None }
     ensures answer { IfOk result (λ given. (image : List (List ℕ)) → given
         ≡ answer (seen store.old held.old image) (arrival frame.now parity.now)) }
-    ensures ok { OnOk result (Passed store.old store.new
+    ensures ok { OnOk result (HasAppliedHeld store.old store.new
         (holding held.old (arrival frame.now parity.now)) held.new (B.view bank.old)
         (B.view bank.new)) }
     ensures done { OnOk result (SuitAll store.new.shape (store.new.number + 1) store.new.number
         held.new) }
     ensures waits { result ≡ Ok taken.Held → (store.new ≡ store.old) × (bank.new ≡ bank.old) }
+    ensures passes { AppliesHeld store.old store.new
+        (holding held.old (arrival frame.now parity.now)) (B.view bank.old) (B.view bank.new) }
     ensures cause { OnErr result (Rose ((B.view bank.old).faults 17)
         ((B.view bank.new).faults 17)) }
-    ensures passes { PassesHeld store.old store.new
-        (holding held.old (arrival frame.now parity.now)) (B.view bank.old) (B.view bank.new) }
 {
     held.insert(frame.seq, frame.time, frame.block, parity);
     if frame.seq != store.number + 1 {
@@ -125,13 +125,13 @@ impl Replica {
 
         // Nothing else fails but the disk, which stops the replica.
         ensures cause { frame_refusal self.old frame.now ≡ None
-            → FailsByDisk result self.new (B.view bank.old) (B.view bank.new) }
+            → StopsByDisk result self.old self.new (B.view bank.old) (B.view bank.new) }
 
         // Stopped at any moment, the disk holds the image after some of the frames that are to be
         // applied.
         ensures any_moment { (image : List (List ℕ))
             → Mirrors self.old.store (B.view bank.old) image
-            → Leaves (B.view bank.old) (B.view bank.new) (HoldsPassed self.old.store.shape
+            → Leaves (B.view bank.old) (B.view bank.new) (HoldsApplied self.old.store.shape
             (arrived (receiver self.old image) (arrival frame.now parity.now))) }
     {
         if let Some(why) = self.refusal(frame) {

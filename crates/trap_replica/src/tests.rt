@@ -3,11 +3,12 @@
 ghost use Rattle.std.specs.Prelude.{◌≡◌, ◌≤◌, ◌^◌};
 ghost use Rattle.trap_replica.specs.Mounted.{IsUsable};
 
-use crate::{Frame, Replica, ReplicaFault, Taken, create};
+use crate::{Frame, Replica, ReplicaFault, Taken, create, load};
 use std::alloc::Global;
 use std::test::Fail;
-use trap_bank::{Bank, MemoryBank};
+use trap_bank::{Bank, MemoryBank, MemorySource};
 use trap_format::Shape;
+use trap_port::Outgoing;
 
 /// Eight blocks of 16 bytes, of array 7.
 fn eight_blocks() -> Shape {
@@ -153,6 +154,88 @@ fn refusals_come_in_their_order(rt: HostRuntime) -> Result<(), Fail> {
         let frame = frame_of(id, 1, block);
         let given = take(alloc, &mut replica, &mut bank, &frame, 1);
         assert_eq!(rt; given, Err(why));
+    }
+    Ok(())
+}
+
+/// The bytes of an image of eight blocks, and one more.
+fn counted_bytes() -> [u8; 129] {
+    let mut bytes = [0; 129];
+    for (i, byte) in bytes.iter_mut().enumerate() {
+        *byte = i as u8;
+    }
+    bytes
+}
+
+/// The bytes of that image alone.
+fn image_bytes() -> [u8; 128] {
+    let mut bytes = [0; 128];
+    for (i, byte) in bytes.iter_mut().enumerate() {
+        *byte = i as u8;
+    }
+    bytes
+}
+
+#[test]
+fn an_image_is_loaded_in_any_pieces_and_said_again(rt: HostRuntime) -> Result<(), Fail> {
+    let alloc = rt.alloc();
+    let bytes = image_bytes();
+    let image = bytes.as_slice();
+    for (piece, room) in [(1, 0), (7, 40), (4096, 32768)] {
+        let mut bank = MemoryBank::new(alloc)?;
+        let mut source = MemorySource::new(alloc, image)?;
+        source.pieces(piece);
+        let loaded = load(alloc, &mut bank, &eight_blocks(), 2, 100, &mut source);
+        assert_eq!(rt; loaded, Ok(()), "in pieces of {piece}");
+        assert!(rt; disk(&bank).ends_with(image), "in pieces of {piece}");
+        let mut replica = Replica::mount(alloc, &mut bank)?;
+        assert_eq!(rt; replica.applied(), 2);
+        let size = replica.shape().block as usize;
+        let mut outgoing = Outgoing::new(alloc, size.max(room))?;
+        let mut block = vec![in alloc; 0u8; size]?;
+        let said = replica.export(&mut bank, &mut outgoing, block.as_mut_slice());
+        assert_eq!(rt; said, Ok(()));
+        assert_eq!(rt; bank.said(), image);
+    }
+    Ok(())
+}
+
+#[test]
+fn another_length_is_refused_with_the_gate_off(rt: HostRuntime) -> Result<(), Fail> {
+    let alloc = rt.alloc();
+    let bytes = counted_bytes();
+    let rows = [
+        (0, ReplicaFault::ShortImage { at: 0 }),
+        (127, ReplicaFault::ShortImage { at: 127 }),
+        (129, ReplicaFault::LongImage { at: 128 }),
+    ];
+    for (len, why) in rows {
+        let mut bank = MemoryBank::new(alloc)?;
+        let mut source = MemorySource::new(alloc, &bytes[..len])?;
+        let loaded = load(alloc, &mut bank, &eight_blocks(), 2, 100, &mut source);
+        assert_eq!(rt; loaded, Err(why), "of {len} bytes");
+        assert!(rt; !begins(&bank), "of {len} bytes");
+    }
+    Ok(())
+}
+
+#[test]
+fn a_stop_while_an_image_is_loaded_leaves_it_whole_or_no_replica(
+    rt: HostRuntime,
+) -> Result<(), Fail> {
+    let alloc = rt.alloc();
+    let bytes = image_bytes();
+    let image = bytes.as_slice();
+    for calls in 0..20 {
+        let mut bank = MemoryBank::new(alloc)?;
+        let mut source = MemorySource::new(alloc, image)?;
+        bank.fuse(calls);
+        let is_done = load(alloc, &mut bank, &eight_blocks(), 2, 100, &mut source).is_ok();
+        assert_eq!(rt; is_done, calls > 17, "at {calls}");
+        bank.crash(calls);
+        assert!(rt; begins(&bank) || !is_done, "at {calls}");
+        let is_whole = disk(&bank).ends_with(image);
+        assert!(rt; is_whole || !begins(&bank), "at {calls}");
     }
     Ok(())
 }

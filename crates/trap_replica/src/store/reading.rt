@@ -27,11 +27,11 @@ impl Store {
         requires sized { length into.old ≡ self.now.shape.block }
         ensures bytes { (image : List (List ℕ)) → Mirrors self.now (B.view bank.old) image
             → IsTrue (B.view bank.old).tells → OnOk result (into.new ≡ block_of image block) }
-        ensures calls { TakesCalls (if block == self.now.block then 0 else 1) result
-            (B.view bank.old) (B.view bank.new) }
         ensures reads { OnlyReads (B.view bank.old) (B.view bank.new) }
         ensures cause { OnErr result (Rose ((B.view bank.old).faults 17)
             ((B.view bank.new).faults 17)) }
+        ensures calls { TakesCalls (if block == self.now.block then 0 else 1) result
+            (B.view bank.old) (B.view bank.new) }
     {
         if block == self.block {
             // The cell alone is sure to have this one.

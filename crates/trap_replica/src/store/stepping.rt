@@ -1,7 +1,7 @@
 //! How the image on the disk moves on by one frame.
 
 ghost use Rattle.std.specs.Prelude.{◌≡◌, ℕ, ◌+◌, ◌^◌, ◌<◌, List, length, OnOk, OnErr};
-ghost use Rattle.trap_bank.specs.Called.{CalledTimes};
+ghost use Rattle.trap_bank.specs.Called.{TakesCalls};
 ghost use Rattle.trap_bank.specs.Faults.{Rose};
 ghost use Rattle.trap_cell.specs.Steps.{put_calls};
 ghost use Rattle.trap_model.specs.Receiver.{xored};
@@ -24,11 +24,11 @@ impl Store {
             → OnOk result (Mirrors self.new (B.view bank.new) (xored image frame.now)) }
         ensures fields { HasApplied result frame.now self.old self.new }
         ensures ready { OnOk result (IsStoreReady self.new (B.view bank.new)) }
-        ensures calls { OnOk result (CalledTimes (3 + put_calls self.old.cell) (B.view bank.old)
-            (B.view bank.new)) }
         ensures beside { LeavesOthers (B.view bank.old) (B.view bank.new) }
         ensures cause { OnErr result (Rose ((B.view bank.old).faults 17)
             ((B.view bank.new).faults 17)) }
+        ensures calls { TakesCalls (3 + put_calls self.old.cell) result (B.view bank.old)
+            (B.view bank.new) }
         ensures any_moment { (image : List (List ℕ)) → Mirrors self.old (B.view bank.old) image
             → Leaves (B.view bank.old) (B.view bank.new)
             (HoldsEither self.old.shape self.old.number self.old.time image frame.now) }

@@ -2,7 +2,7 @@ use Rattle.std.proofs.Common.{◌≡◌, ◌+◌, ◌==◌, true, false, subst, 
 use Rattle.std.proofs.lemmas.Bool.Decides.{nat_tests}
 use Rattle.trap_replica.specs.Holding.{HeldFrames, SuitAll, holding}
 use Rattle.trap_replica.specs.Mounted.{arrival}
-use Rattle.trap_replica.specs.Standing.{Passed}
+use Rattle.trap_replica.specs.Standing.{HasAppliedHeld}
 use Rattle.trap_replica.proofs.HeldSteps.{passed_none, passes_none}
 use Rattle.trap_replica.proofs.FrameTaken.{room_left, held_same, held_suit, held_waits, waits, applies}
 use Rattle.trap_replica.proofs.taking.admit.Goals as goal
@@ -21,7 +21,7 @@ pub returns-then-frame-store-clause-ok : goal.returns-then-frame-store-clause-ok
 returns-then-frame-store-clause-ok g c =
     let f = arrival c.args.frame.now c.args.parity.now in
     let is = held_same c.insert.new.self c.args.held.now f c.insert.ensures.size c.insert.ensures.frames in
-    subst (λ (h : HeldFrames). Passed c.args.store.now c.args.store.now (holding c.args.held.now f) h (g.B.Bank.view c.args.bank.now) (g.B.Bank.view c.args.bank.now)) (sym is)
+    subst (λ (h : HeldFrames). HasAppliedHeld c.args.store.now c.args.store.now (holding c.args.held.now f) h (g.B.Bank.view c.args.bank.now) (g.B.Bank.view c.args.bank.now)) (sym is)
     (passed_none c.args.store.now (holding c.args.held.now f) (g.B.Bank.view c.args.bank.now) c.requires.ready
     (held_suit c.args.store.now c.args.held.now f c.requires.fresh c.args.store.now.shape c.requires.fits c.requires.suit))
 
@@ -50,5 +50,5 @@ returns-clause-answer g c = λ image.
     let e = c.if-frame-store.false in
     let next : (c.args.frame.now.seq == c.args.store.now.number + 1) ≡ true = grind (arith, nat_tests) in
     applies c.args.store.now c.settle.new.store c.args.held.now c.settle.new.held f (g.B.Bank.view c.args.bank.now) (g.B.Bank.view c.settle.new.bank)
-    (subst (λ (h : HeldFrames). Passed c.args.store.now c.settle.new.store h c.settle.new.held (g.B.Bank.view c.args.bank.now) (g.B.Bank.view c.settle.new.bank)) is c.in_ok-settle.ensures.ok)
+    (subst (λ (h : HeldFrames). HasAppliedHeld c.args.store.now c.settle.new.store h c.settle.new.held (g.B.Bank.view c.args.bank.now) (g.B.Bank.view c.settle.new.bank)) is c.in_ok-settle.ensures.ok)
     c.in_ok-settle.ensures.done c.requires.fresh image next

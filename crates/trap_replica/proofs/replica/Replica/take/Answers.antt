@@ -1,9 +1,10 @@
-use Rattle.std.proofs.Common.{◌≡◌, ◌<◌, length, None, Some, refl, subst, sym}
+use Rattle.std.proofs.Common.{◌≡◌, ℕ, ◌+◌, ◌<◌, length, None, Some, refl, subst, sym, rules}
+use Rattle.trap_bank.specs.Called.{CalledAtMost}
 use Rattle.trap_model.specs.Receiver.{Receiver, answer}
 use Rattle.trap_replica.specs.Mounted.{MountedReplica, arrival, receiver, frame_refusal, Receives, left_out}
-use Rattle.trap_replica.specs.Applying.{Leaves}
-use Rattle.trap_replica.specs.Standing.{Mirrors, HoldsPassed, arrived}
-use Rattle.trap_replica.proofs.FrameTaken.{leaves_kept, leaves_out, receives_nothing, receives, is_arrived, near, named_inside, one_answer, not_left}
+use Rattle.trap_replica.specs.Applying.{Leaves, take_calls}
+use Rattle.trap_replica.specs.Standing.{Mirrors, HoldsApplied, arrived}
+use Rattle.trap_replica.proofs.FrameTaken.{leaves_kept, leaves_out, receives_nothing, receives, is_arrived, near, named_inside, one_answer, not_left, length_hold}
 use Rattle.trap_replica.proofs.replica.Replica.take.Goals as goal
 
 pub returns-in-Some-clause-any_moment : goal.returns-in-Some-clause-any_moment
@@ -58,8 +59,8 @@ returns-in-Ok-clause-any_moment g c = λ image mirrors.
     let e = c.left_out.ensures f refl in
     let fresh : left_out c.self.inside.store c.self.inside.held f ≡ None = cc in
     subst (λ (m : MountedReplica). Mirrors m.store (g.B.Bank.view c.args.bank.now) image → Leaves (g.B.Bank.view c.args.bank.now) (g.B.Bank.view c.admit.new.bank)
-    (HoldsPassed m.store.shape (arrived (receiver m image) f))) c.self.view_is
-    (λ was. subst (λ (r : Receiver). Leaves (g.B.Bank.view c.args.bank.now) (g.B.Bank.view c.admit.new.bank) (HoldsPassed c.self.inside.store.shape r))
+    (HoldsApplied m.store.shape (arrived (receiver m image) f))) c.self.view_is
+    (λ was. subst (λ (r : Receiver). Leaves (g.B.Bank.view c.args.bank.now) (g.B.Bank.view c.admit.new.bank) (HoldsApplied c.self.inside.store.shape r))
     (is_arrived c.self.inside.store c.self.inside.held f image fresh) (c.admit.ensures.passes.any_moment image was)) mirrors
 
 pub returns-in-Err-clause-any_moment : goal.returns-in-Err-clause-any_moment
@@ -68,8 +69,8 @@ returns-in-Err-clause-any_moment g c = λ image mirrors.
     let e = c.left_out.ensures f refl in
     let fresh : left_out c.self.inside.store c.self.inside.held f ≡ None = cc in
     subst (λ (m : MountedReplica). Mirrors m.store (g.B.Bank.view c.args.bank.now) image → Leaves (g.B.Bank.view c.args.bank.now) (g.B.Bank.view c.admit.new.bank)
-    (HoldsPassed m.store.shape (arrived (receiver m image) f))) c.self.view_is
-    (λ was. subst (λ (r : Receiver). Leaves (g.B.Bank.view c.args.bank.now) (g.B.Bank.view c.admit.new.bank) (HoldsPassed c.self.inside.store.shape r))
+    (HoldsApplied m.store.shape (arrived (receiver m image) f))) c.self.view_is
+    (λ was. subst (λ (r : Receiver). Leaves (g.B.Bank.view c.args.bank.now) (g.B.Bank.view c.admit.new.bank) (HoldsApplied c.self.inside.store.shape r))
     (is_arrived c.self.inside.store c.self.inside.held f image fresh) (c.admit.ensures.passes.any_moment image was)) mirrors
 
 pub returns-in-Some-left_out-clause-left_out : goal.returns-in-Some-left_out-clause-left_out
@@ -91,3 +92,27 @@ returns-in-Err-clause-left_out g c = λ none given is.
     let e = c.left_out.ensures f refl in
     let fresh : left_out c.self.inside.store c.self.inside.held f ≡ None = cc in
     absurd (not_left (left_out c.args.self.now.store c.args.self.now.held f) given (subst (λ (m : MountedReplica). left_out m.store m.held f ≡ None) c.self.view_is fresh) is)
+
+pub returns-in-Ok-clause-cause : goal.returns-in-Ok-clause-cause
+returns-in-Ok-clause-cause g c = λ none.
+    let a = g.B.Bank.view c.args.bank.now in
+    let b = g.B.Bank.view c.admit.new.bank in
+    record {
+      cause = tt;
+      stops = search rules;
+      most = subst (λ (m : MountedReplica). CalledAtMost (take_calls m.store.cell (length m.held.frames + 1)) a b) c.self.view_is
+          (subst (λ (n : ℕ). CalledAtMost (take_calls c.self.inside.store.cell n) a b) (length_hold (arrival c.args.frame.now c.args.parity.now) c.self.inside.held.frames)
+          c.admit.ensures.passes.most);
+    }
+
+pub returns-in-Err-clause-cause : goal.returns-in-Err-clause-cause
+returns-in-Err-clause-cause g c = λ none.
+    let a = g.B.Bank.view c.args.bank.now in
+    let d = g.B.Bank.view c.admit.new.bank in
+    record {
+      cause = search rules;
+      stops = search rules;
+      most = subst (λ (m : MountedReplica). CalledAtMost (take_calls m.store.cell (length m.held.frames + 1)) a d) c.self.view_is
+          (subst (λ (n : ℕ). CalledAtMost (take_calls c.self.inside.store.cell n) a d) (length_hold (arrival c.args.frame.now c.args.parity.now) c.self.inside.held.frames)
+          c.admit.ensures.passes.most);
+    }
