@@ -1,0 +1,11 @@
+pub mod Receiving
+pub mod Whole
+pub mod Stepped
+pub mod Delivered
+pub mod Running
+pub mod Bounds
+pub mod Streams
+pub mod Summaries
+pub mod Kept
+pub mod Timed
+pub mod Followed
