@@ -1,13 +1,11 @@
 -- New disks hold the fresh array, and how the calls that make them follow one another.
-use Rattle.std.proofs.Common.{◌≡◌, ◌≢◌, ◌⊎◌, ℕ, ◌+◌, ◌*◌, ◌<◌, List, [], take, drop, replicate, Option, Some, None, IsTrue, inl, inr, ⊎_elim, refl, sym, ap, subst, ◌∙◌, arith}
-use Rattle.std.proofs.lemmas.List.{length-append, length-replicate}
+use Rattle.std.proofs.Common.{◌≡◌, ◌≢◌, ◌⊎◌, ℕ, ◌+◌, ◌*◌, ◌<◌, List, [], take, drop, Option, Some, None, IsTrue, inl, inr, ⊎_elim, refl, sym, ap, subst, ◌∙◌, arith}
 use Rattle.std.proofs.lemmas.Option.{none-some}
 use Rattle.trap_bank.specs.Disks.{Contents, View, Disks, Quiet, bytes_of, size_of}
 use Rattle.trap_bank.specs.Calls.{MayLeave, IsLawful}
 use Rattle.trap_bank.specs.Steps.{Moves, Always}
 use Rattle.trap_bank.proofs.Moves.{moves_then, moves_weaken, no_moves, read_is_left}
 use Rattle.trap_cell.specs.Slots.{Stands, begun}
-use Rattle.trap_format.specs.MemberDisk.{member_header}
 use Rattle.trap_model.specs.Image.{zero_image}
 use Rattle.trap_model.specs.State.{fresh}
 use Rattle.trap_model.specs.declared.numbers.Geometry.{Geometry}
@@ -16,16 +14,15 @@ use Rattle.trap_raid.specs.Members.{IsMember, IsOut, MembersHold}
 use Rattle.trap_mount.specs.Holding.{head_place, IsHeadOf, Holds, HoldsBy}
 use Rattle.trap_mount.specs.CreateEnds.{IsMaking, KeepsOrder, StaysBeyond, DisksBeyondStay}
 use Rattle.trap_mount.specs.Creating.{Creates, HasCreated, NoneIsThere, OnlyDisk, OnlyMembers, new_member, HasNewMembers, MembersFirst, fresh_head, IsLogGateOff, IsNewLog, MakesLog, HasNewLog}
-use Rattle.trap_mount.proofs.Zeros.{zero_table, zero_place}
-use Rattle.trap_mount.proofs.LogGate.{off_no_array, absent_off}
+use Rattle.trap_raid.proofs.OwnDisks.{new_is_own}
+use Rattle.trap_raid.proofs.ZeroLemmas.{zero_table}
+use Rattle.trap_mount.proofs.Zeros.{zero_place}
+use Rattle.trap_mount.proofs.LogGate.{absent_off}
 
 module _ (g : Geometry) (x : Disks) (made : (m : ℕ) → m < g.members → x (m + 1) ≡ Some (new_member g m)) where
   -- a new member's disk has its size and its header
   new_is_member : (m : ℕ) → m < g.members → IsMember g x m
-  new_is_member m inside = record {
-    size = ap size_of (made m inside) ∙ ap {B = Option ℕ} Some (length-append (member_header g.id m) (replicate (g.rows * g.block) 0) ∙ ap (λ (n : ℕ). 16 + n) (length-replicate (g.rows * g.block) 0));
-    header = ap (λ (disk : Option (List ℕ)). take 16 (bytes_of disk)) (made m inside);
-  }
+  new_is_member m inside = new_is_own g m x (made m inside)
 
   -- no new member is out
   none_out : (m : ℕ) → m < g.members → IsOut None x m → ⊥
@@ -89,12 +86,12 @@ module _ (g : Geometry) (a : View) (lawful : IsLawful a) (none : NoneIsThere g a
   absent w left = left_absent a w lawful left (none 0 (omega arith))
 
   before_log : (x y : Contents) → MayLeave a x → OnlyMembers g x.disks y.disks → Creates g x.disks y.disks
-  before_log x y left only = inl (off_no_array y.disks (absent_off y.disks (only 0 (inl refl) ∙ absent x left)))
+  before_log x y left only = inl (absent_off y.disks (only 0 (inl refl) ∙ absent x left))
 
   with_log : (x y z : Contents) → MayLeave a x → HasNewMembers g g.members x.disks y.disks → MakesLog g y.disks z.disks → Creates g x.disks z.disks
   with_log x y z left members makes = ⊎_elim
-      (λ (same : z.disks 0 ≡ y.disks 0). inl (off_no_array z.disks (absent_off z.disks (same ∙ members.others 0 (inl refl) ∙ absent x left))))
-      (λ rest. ⊎_elim (λ (off : IsLogGateOff z.disks). inl (off_no_array z.disks off))
+      (λ (same : z.disks 0 ≡ y.disks 0). inl (absent_off z.disks (same ∙ members.others 0 (inl refl) ∙ absent x left)))
+      (λ rest. ⊎_elim (λ (off : IsLogGateOff z.disks). inl off)
       (λ (new : IsNewLog g z.disks). inr (fresh_held g z.disks (λ m inside. makes.others (m + 1) (λ log. omega (arith, log)) ∙ members.disks m inside) new)) rest)
       makes.disk
 

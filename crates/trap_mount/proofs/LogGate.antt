@@ -13,11 +13,13 @@ use Rattle.trap_format.specs.LogDisk.{log_size, log_header}
 use Rattle.trap_format.specs.HeadValue.{head_value}
 use Rattle.trap_model.specs.declared.numbers.Geometry.{Geometry}
 use Rattle.trap_mount.specs.Holding.{head_place}
-use Rattle.trap_mount.specs.Creating.{IsNoArray, OnlyDisk, fresh_head, IsLogGateOff, IsShutLog, IsNewLog, ShutsLog, HasShutLog, MakesLog, HasNewLog}
-use Rattle.trap_mount.proofs.MemberDisks.{only_then}
+use Rattle.trap_mount.specs.Refusing.{RefusesAs}
+use Rattle.trap_mount.specs.declared.fault.MountFault.{MountFault}
+use Rattle.trap_mount.specs.Creating.{OnlyDisk, fresh_head, IsLogGateOff, IsShutLog, IsNewLog, ShutsLog, HasShutLog, MakesLog, HasNewLog}
+use Rattle.trap_raid.proofs.OwnDisks.{only_then}
 
 -- a disk whose gate is off is no log
-pub off_no_array : (x : Disks) → IsLogGateOff x → IsNoArray x
+pub off_no_array : (x : Disks) → IsLogGateOff x → RefusesAs x MountFault.NotAnArray
 off_no_array x off begins = off (sym first ∙ ap (λ (l : List ℕ). get_or l 0 0) begins.start)
   where
     first : get_or (take 5 (region x 0 0 64)) 0 0 ≡ byte x 0 0

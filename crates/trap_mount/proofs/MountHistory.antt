@@ -25,7 +25,8 @@ use Rattle.trap_mount.specs.Mounting.{HasHeader, HasHead, HasSlots, HasRecords, 
 use Rattle.trap_mount.specs.MountSteps.{ReadsHeader, ReadsHead, ReadsStage, ReadsLog}
 use Rattle.trap_mount.specs.Reading.{AreRecordsRead, HasTaken, ReadsIndex}
 use Rattle.trap_mount.specs.declared.fault.MountFault.{MountFault}
-use Rattle.trap_mount.proofs.MountReads.{stable_reads, refused_before}
+use Rattle.trap_raid.proofs.OwnDisks.{stable_reads}
+use Rattle.trap_mount.proofs.MountReads.{refused_before}
 
 -- what a call left open at the exit of a `?`
 pub exit : {T E : Type 0} (P : E → Type 0) (r : Result T E) (e : E) → IsErrAnd r (λ y. y ≡ e) → P e → IfErr r P

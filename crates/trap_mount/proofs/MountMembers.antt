@@ -18,7 +18,8 @@ use Rattle.trap_raid.specs.Members.{IsMember, IsOut}
 use Rattle.trap_mount.specs.Mounting.{HasRecords, HasMembers, AreOut, AreAbsent, IsWrong, IsFailing, Refuses}
 use Rattle.trap_mount.specs.MountSteps.{IsOnlyOut, IsFirstOut, FindsLost, ReadsMember, ReadsMembers, IsNextMember, KeepsRows, FindsMembers}
 use Rattle.trap_mount.specs.declared.fault.MountFault.{MountFault}
-use Rattle.trap_mount.proofs.MountReads.{stable_reads, refused_before}
+use Rattle.trap_raid.proofs.OwnDisks.{stable_reads}
+use Rattle.trap_mount.proofs.MountReads.{refused_before}
 
 -- an absent disk has no size
 pub no_size : (x : Option (List ℕ)) → x ≡ None → size_of x ≡ None
@@ -111,10 +112,6 @@ are_absent g recorded v out first second is one two = record {
   where
     same_some : (m : ℕ) → Some first ≡ Some m → first ≡ m
     same_some m e = cc
-
--- a disk of another size isn't the member's own
-pub other_size : (g : Geometry) (v : View) (m : ℕ) → IsLawful v → IsTrue v.tells → v.sizes (m + 1) ≢ Some (member_size g) → IsMember g v.now.disks m → ⊥
-other_size g v m lawful told other member = other (sym (lawful.sized told (m + 1)) ∙ member.size)
 
 -- the member that is looked at after those below it
 pub member_next : (g : Geometry) (h : Head) (lost : Option ℕ) (n : ℕ) (a b : View) → IsTrue a.tells → n < g.members → lost ≢ Some n

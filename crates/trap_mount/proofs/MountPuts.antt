@@ -32,14 +32,14 @@ use Rattle.trap_mount.specs.Memory.{Buffers, HaveBlocksOf}
 use Rattle.trap_mount.specs.Mounted.{Mounted, StandsFor, HasExactSizes, IsReady}
 use Rattle.trap_mount.specs.Mounting.{KeepsWhoIsLost, Mounts, KeepsEachState, HasRecords, HasMembers, FoundLost, HasFound, IsFailing, Refuses, MountFails, is_refusal, PutsHead, MayPutHead, HasPutHead}
 use Rattle.trap_mount.specs.Mounting.{WritesHead}
-use Rattle.trap_mount.specs.MountEnds.{KnowsDisks}
 use Rattle.trap_mount.specs.MountSteps.{ReadsLog, ReadsStage, ReadsMember, FindsMembers, MayPut, HasPut}
 use Rattle.trap_mount.specs.Reading.{ReadsIndex}
 use Rattle.trap_mount.specs.declared.fault.MountFault.{MountFault}
 use Rattle.trap_mount.specs.declared.fault.MountFault.TheVariants.{NotAnArray, BadVersion, WrongMember, TooManyLost, Damaged, LogFault, MemberFault, OutOfMemory}
 use Rattle.trap_mount.proofs.MountRecords.{read_described}
 use Rattle.trap_mount.proofs.Puts.{put_in_cell, fits_put, held_by_read}
-use Rattle.trap_mount.proofs.MountReads.{told_before, stable_reads, refused_before}
+use Rattle.trap_raid.proofs.OwnDisks.{stable_reads}
+use Rattle.trap_mount.proofs.MountReads.{told_before, refused_before}
 use Rattle.trap_mount.proofs.MountRefusals.{never_refused}
 use Rattle.trap_mount.proofs.MountMembers.{is_some_or_not, finds_only, finds_one}
 use Rattle.trap_mount.proofs.MountStands.{one_array, fits_agree, fits_changed}
@@ -444,17 +444,11 @@ module _ (g : Geometry) (h k : Head) (cell : Slots) (stage : Stage) (a b c : Vie
           (λ x y z was same mid step. subst (λ (q : Disks). HasPutHead a d k q z.disks) same (done_head y z.disks mid step))
 
       -- what the array knows is what was read
-      pub mount_knows : KnowsDisks (mounted_by g k after stage index room) a
-      mount_knows =
-          let slots = stage_put in
-          record {
-            count = ap (λ (n : ℕ). n + length stage.pending) (sym slots.drained) ∙ slots.last;
-            slots = λ told. subst (λ (n : ℕ). SlotsAre g n stage.pending a.now.disks) (sym members_drained) ((log.slots.slots told).slots);
-            index = index_put index known;
-          }
-        where
-          members_drained : k.drained ≡ h.drained
-          members_drained = ap (λ (t : Head). t.drained) members.same
+      mount_count : k.drained + length stage.pending ≡ k.last
+      mount_count = let slots = stage_put in ap (λ (n : ℕ). n + length stage.pending) (sym slots.drained) ∙ slots.last
+
+      pub mount_slots : IsTrue a.tells → SlotsAre g k.drained stage.pending a.now.disks
+      mount_slots told = subst (λ (n : ℕ). SlotsAre g n stage.pending a.now.disks) (sym (ap (λ (t : Head). t.drained) members.same)) ((log.slots.slots told).slots)
 
       pub mount_exact : HasExactSizes g k.lost k.rebuilt a
       mount_exact = record { log = log.header.size; members = λ m inside counts. sym (to_b.sizes (m + 1)) ∙ (member_read m inside counts).size }
@@ -467,7 +461,7 @@ module _ (g : Geometry) (h k : Head) (cell : Slots) (stage : Stage) (a b c : Vie
         };
         stands = λ running. cell_after;
         value = λ running w left. let from = put.now w left in (done_head from.origin w.disks from.was from.by.disks).1;
-        count = λ running. mount_knows.count;
+        count = λ running. mount_count;
         room = (own.blocks, own.free);
       }
 

@@ -1,13 +1,10 @@
 -- Runs of calls that only read, and disks of which a crash leaves what a read gives.
-use Rattle.std.proofs.Common.{◌≡◌, ℕ, ◌+◌, Bool, true, false, IsTrue, Ok, sym, ap, subst, ◌∙◌}
-use Rattle.trap_bank.specs.Disks.{Contents, View, Disks}
-use Rattle.trap_bank.specs.Calls.{Syncs}
-use Rattle.trap_bank.specs.Steps.{Moves, Same, OnlyReads}
-use Rattle.trap_bank.proofs.Moves.{synced_steps}
+use Rattle.std.proofs.Common.{◌≡◌, ℕ, ◌+◌, Bool, true, false, IsTrue, sym, subst, ◌∙◌}
+use Rattle.trap_bank.specs.Disks.{View, Disks}
+use Rattle.trap_bank.specs.Steps.{OnlyReads}
 use Rattle.trap_bank.proofs.OnlyReads.{told_after, disks_same}
 use Rattle.trap_bank.proofs.Rising.{rose_since, rose_later}
 use Rattle.trap_model.specs.declared.numbers.Geometry.{Geometry}
-use Rattle.trap_mount.specs.MountSteps.{IsStable}
 use Rattle.trap_mount.specs.Mounting.{Refuses, RefusesAs, MountFails, SizesShow}
 use Rattle.trap_mount.specs.declared.fault.MountFault.{MountFault}
 use Rattle.trap_mount.specs.declared.fault.MountFault.TheVariants.{NotAnArray, BadVersion, WrongMember, TooManyLost, Damaged, LogFault, MemberFault, OutOfMemory}
@@ -15,19 +12,6 @@ use Rattle.trap_mount.specs.declared.fault.MountFault.TheVariants.{NotAnArray, B
 -- a bank that tells still does
 pub told_before : (a b : View) → OnlyReads a b → IsTrue b.tells → IsTrue a.tells
 told_before a b reads told = subst IsTrue reads.moves.tells told
-
--- a disk that was synced is stable, after a read too
-pub stable_read : {T E : Type 0} (value : T) (a b c : View) (d : ℕ) → Syncs {T = T} {E = E} d (Ok value) a b → Moves b c Same Same → (IsTrue b.tells → c.now ≡ b.now) → IsStable c d
-stable_read value a b c d call moves same z left =
-    let from = moves.now z left in
-    let settled = (synced_steps value a b d call).now from.origin from.was in
-    ap (λ (disks : Disks). disks d) from.by.disks ∙ settled.by.disks.read ∙ sym (ap (λ (c : Contents). c.disks d) (same from.was.told))
-
--- a stable disk stays so where nothing is written
-pub stable_reads : (a b : View) (d : ℕ) → OnlyReads a b → IsStable a d → IsStable b d
-stable_reads a b d reads stable z left =
-    let from = reads.moves.now z left in
-    ap (λ (disks : Disks). disks d) from.by.disks ∙ stable from.origin from.was ∙ sym (ap (λ (c : Contents). c.disks d) (reads.same from.was.told))
 
 -- a refusal that comes later says the same of the disks before
 pub refused_before : (a b : View) (why : MountFault) → OnlyReads a b → (IsTrue b.tells → Refuses b why) → IsTrue a.tells → Refuses a why

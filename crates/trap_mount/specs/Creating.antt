@@ -1,16 +1,17 @@
 -- Making an array on disks that aren't there.
-use Rattle.std.specs.Prelude.{◌≡◌, ◌≢◌, ◌⊎◌, ℕ, ◌+◌, ◌*◌, ◌<◌, ◌≤◌, List, ◌++◌, replicate, take}
-use Rattle.std.specs.Prelude.{drop, Some, None}
+use Rattle.std.specs.Prelude.{◌≡◌, ◌≢◌, ◌⊎◌, ℕ, ◌+◌, ◌*◌, ◌<◌, ◌≤◌, take, drop, Some, None}
+use Rattle.trap_bank.specs.Called.{CalledAtMost}
 use Rattle.trap_bank.specs.Disks.{Disks, View, byte, region, size_of}
 use Rattle.trap_bank.specs.Faults.{Rose}
 use Rattle.trap_cell.specs.Slots.{Stands, begun, cell_value}
 use Rattle.trap_format.specs.LogDisk.{log_start, log_size, log_header, slots_at}
-use Rattle.trap_format.specs.MemberDisk.{member_size, member_header}
+use Rattle.trap_format.specs.MemberDisk.{member_size}
 use Rattle.trap_format.specs.HeadValue.{head_value}
 use Rattle.trap_format.specs.declared.head.Head.{Head}
 use Rattle.trap_model.specs.Limits.{open_gate}
 use Rattle.trap_model.specs.State.{fresh}
 use Rattle.trap_model.specs.declared.numbers.Geometry.{Geometry}
+pub use Rattle.trap_raid.specs.OwnDisk.{OnlyDisk, new_member, HasMember}
 use Rattle.trap_mount.specs.Holding.{head_place, HasLog, Holds}
 use Rattle.trap_mount.specs.declared.fault.CreateFault.{CreateFault}
 use Rattle.trap_mount.specs.declared.fault.CreateFault.TheVariants.{Exists, LogFault, MemberFault}
@@ -23,13 +24,13 @@ pub record BeginsLog (disks : Disks) : Type 0 where
   pub least : slots_at ≤ bytes
   pub start : take 5 (region disks 0 0 64) ≡ log_start
 
--- disk 0 is no log, so that mounting refuses it as no array
-abbrev pub IsNoArray : Disks → Type 0
-IsNoArray disks = BeginsLog disks → ⊥
+-- the gate of disk 0 is off, or the disk is absent: mounting refuses it as no array
+abbrev pub IsLogGateOff : Disks → Type 0
+IsLogGateOff disks = byte disks 0 0 ≢ open_gate
 
--- while an array is made: disk 0 is no log, or the disks hold the fresh array
+-- while an array is made: the log's gate is off, or the disks hold the fresh array
 abbrev pub Creates : Geometry → Disks → Disks → Type 0
-Creates g old new = IsNoArray new ⊎ Holds g (fresh g) new
+Creates g old new = IsLogGateOff new ⊎ Holds g (fresh g) new
 
 -- the disks hold the fresh array
 abbrev pub HasCreated : Geometry → Disks → Disks → Type 0
@@ -45,33 +46,23 @@ pub record IsLowest (g : Geometry) (v : View) (d : ℕ) : Type 0 where
 abbrev pub NoneIsThere : Geometry → View → Type 0
 NoneIsThere g v = (d : ℕ) → d ≤ g.members → v.sizes d ≡ None
 
--- What failed has a count of faults that rose. A member that did has both numbers, and disk 0 has
--- its size from before then: the log isn't made yet.
+-- What failed has a count of faults that rose, after no more calls of the bank than making an array
+-- takes. A member that did has both numbers, and disk 0 has its size from before then: the log
+-- isn't made yet.
 abbrev pub CreateFails : Geometry → CreateFault → View → View → Type 0
 CreateFails g (Exists disk) old new = Unit {0}
-CreateFails g LogFault old new = Rose (old.faults 0) (new.faults 0)
+CreateFails g LogFault old new =
+    Rose (old.faults 0) (new.faults 0) × CalledAtMost (3 * g.members + 9) old new
 CreateFails g (MemberFault first second) old new =
     (first ≡ second) × (second < g.members)
     × Rose (old.faults (second + 1)) (new.faults (second + 1)) × (new.sizes 0 ≡ old.sizes 0)
-
--- every disk but this one is the same
-abbrev pub OnlyDisk : ℕ → Disks → Disks → Type 0
-OnlyDisk d old new = (e : ℕ) → e ≢ d → new e ≡ old e
+    × CalledAtMost (3 * g.members) old new
 
 -- every disk but those of the members is the same
 abbrev pub OnlyMembers : Geometry → Disks → Disks → Type 0
 OnlyMembers g old new = (e : ℕ) → (e ≡ 0) ⊎ (g.members < e) → new e ≡ old e
 
--- the bytes of a new member's disk: its header, and a zero block at each place
-abbrev pub new_member : Geometry → ℕ → List ℕ
-new_member g m = member_header g.id m ++ replicate (g.rows * g.block) 0
-
--- a member's disk is new
-pub record HasMember (g : Geometry) (m : ℕ) (old new : Disks) : Type 0 where
-  pub others : OnlyDisk (m + 1) old new
-  pub disk : new (m + 1) ≡ Some (new_member g m)
-
--- so are the disks of the first members
+-- the disks of the first members are new
 pub record HasNewMembers (g : Geometry) (count : ℕ) (old new : Disks) : Type 0 where
   pub others : OnlyMembers g old new
   pub disks : (m : ℕ) → m < count → new (m + 1) ≡ Some (new_member g m)
@@ -95,10 +86,6 @@ fresh_head = record {
   drained = 0;
   last_time = 0;
 }
-
--- the gate of disk 0 is off, or the disk is absent
-abbrev pub IsLogGateOff : Disks → Type 0
-IsLogGateOff disks = byte disks 0 0 ≢ open_gate
 
 -- disk 0 is a new log but for its gate, which is off
 pub record IsShutLog (g : Geometry) (disks : Disks) : Type 0 where

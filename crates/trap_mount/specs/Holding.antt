@@ -2,8 +2,8 @@
 use Rattle.std.specs.Prelude.{◌≡◌, ◌⊎◌, ℕ, ◌+◌, ◌^◌, ◌<◌, Some}
 use Rattle.trap_bank.specs.Disks.{Disks, Area, Within, region, size_of}
 use Rattle.trap_cell.specs.Slots.{Place, place_of, cell_area, cell_value}
-use Rattle.trap_format.specs.LogDisk.{cell_at, ring_at, log_size, IsLogHeader}
-use Rattle.trap_format.specs.HeadValue.{IsHead, head_value}
+use Rattle.trap_format.specs.LogDisk.{cell_at, ring_at, ring_len, log_size, IsLogHeader}
+use Rattle.trap_format.specs.HeadValue.{IsHead, head_value, head_value_len}
 use Rattle.trap_format.specs.declared.head.Head.{Head}
 use Rattle.trap_model.specs.Records.{records}
 use Rattle.trap_model.specs.State.{IsValid, last, last_time, image, kept}
@@ -16,11 +16,11 @@ use Rattle.trap_stage.specs.Slots.{SlotsHold, InSlots}
 
 -- where the head's cell stands on disk 0
 abbrev pub head_place : Place
-head_place = place_of 0 cell_at 62
+head_place = place_of 0 cell_at head_value_len
 
 -- where the ring stands on disk 0
 abbrev pub log_ring : Geometry → RingPlace
-log_ring g = record { disk = 0; at = ring_at g; len = g.ring }
+log_ring g = record { disk = 0; at = ring_at g; len = ring_len g }
 
 -- the head's numbers are those of the state, and its offsets are as far apart as the retained
 -- records are long

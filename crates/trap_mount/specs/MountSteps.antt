@@ -7,19 +7,15 @@ use Rattle.trap_bank.specs.Steps.{Always}
 use Rattle.trap_cell.specs.Slots.{Slots, Stands, cell_value}
 use Rattle.trap_cell.specs.Steps.{PutsIn, IsPut}
 use Rattle.trap_format.specs.LogDisk.{log_size, slots_at}
-use Rattle.trap_format.specs.MemberDisk.{member_size}
 use Rattle.trap_format.specs.HeadValue.{IsHead, head_value}
 use Rattle.trap_format.specs.declared.head.Head.{Head}
 use Rattle.trap_model.specs.declared.numbers.Geometry.{Geometry}
 use Rattle.trap_raid.specs.Members.{IsMember, IsOut}
+pub use Rattle.trap_raid.specs.OwnDisk.{IsStable, ReadsMember}
 use Rattle.trap_stage.specs.Found.{IsFound, IsStage}
 use Rattle.trap_stage.specs.Slots.{Stage, last_of}
 use Rattle.trap_mount.specs.Holding.{head_place}
 use Rattle.trap_mount.specs.Mounting.{HasHeader, HasRecords, FoundLost}
-
--- every crash leaves of the disk what a read gives
-abbrev pub IsStable : View → ℕ → Type 0
-IsStable v d = Always v (λ disks. disks d ≡ v.now.disks d)
 
 -- the log's header was read, and its disk synced
 pub record ReadsHeader (g : Geometry) (old new : View) : Type 0 where
@@ -72,13 +68,8 @@ pub record FindsLost (g : Geometry) (recorded lost : Option ℕ) (old : View) : 
   pub inside : (m : ℕ) → lost ≡ Some m → m < g.members
   pub others : (m : ℕ) → m < g.members → lost ≢ Some m → old.sizes (m + 1) ≢ None
 
--- the disk is the member's own, and every crash leaves of it what a read gives
-pub record ReadsMember (g : Geometry) (m : ℕ) (old new : View) : Type 0 where
-  pub size : old.sizes (m + 1) ≡ Some (member_size g)
-  pub own : IsTrue old.tells → IsMember g old.now.disks m
-  pub stable : IsStable new (m + 1)
-
--- the same of each member below a number, but for the lost one
+-- of each member below a number, but for the lost one, the disk is its own, and every crash leaves
+-- of it what a read gives
 abbrev pub ReadsMembers : Geometry → Option ℕ → ℕ → View → View → Type 0
 ReadsMembers g lost n old new = (m : ℕ) → m < n → lost ≢ Some m → ReadsMember g m old new
 

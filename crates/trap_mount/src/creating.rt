@@ -1,25 +1,24 @@
 //! Making an array: the members first, the log last, its gate last of all.
 
-ghost use Rattle.std.specs.Prelude.{◌≡◌, ◌≢◌, ◌↔◌, ◌≤◌, ◌<◌, ◌^◌, ℕ, ◌+◌, OnOk, OnErr, IsTrue, ◌⊎◌};
-ghost use Rattle.std.specs.Prelude.{IsErrOf, IsOk, IfErr, IfSome, IfNone, None, Some};
+ghost use Rattle.std.specs.Prelude.{◌≡◌, ◌≢◌, ◌↔◌, ◌≤◌, ◌<◌, ◌^◌, ℕ, ◌+◌, ◌*◌, OnOk, OnErr, IsTrue};
+ghost use Rattle.std.specs.Prelude.{◌⊎◌, IsErrOf, IsOk, IfErr, IfSome, IfNone, None, Some};
+ghost use Rattle.trap_bank.specs.Called.{TakesCalls};
 ghost use Rattle.trap_bank.specs.Faults.{Rose};
-ghost use Rattle.trap_bank.specs.Steps.{Moves, OnlyReads};
+ghost use Rattle.trap_bank.specs.Steps.{Moves};
 ghost use Rattle.trap_format.specs.LogDisk.{log_size};
-ghost use Rattle.trap_format.specs.MemberDisk.{member_size};
 ghost use Rattle.trap_mount.specs.CreateEnds.{IsMade, IsMaking, KeepsOrder, DisksBeyondStay};
 ghost use Rattle.trap_mount.specs.Creating.{CreateFails, IsLowest, NoneIsThere, AreSized, OnlyDisk};
-ghost use Rattle.trap_mount.specs.Creating.{OnlyMembers, HasMember, HasNewMembers, ShutsLog};
+ghost use Rattle.trap_mount.specs.Creating.{OnlyMembers, HasNewMembers, ShutsLog};
 ghost use Rattle.trap_mount.specs.Creating.{HasShutLog, MakesLog, HasNewLog};
 ghost use Rattle.trap_mount.specs.declared.fault.CreateFault.TheVariants as fault;
 
 use crate::CreateFault;
-use crate::layout::HEAD_VALUE_BYTES;
 use trap_bank::{Bank, DiskFault, write_through};
 use trap_cell::Cell;
-use trap_format::layout::{CELL_AT, OPEN_GATE};
-use trap_format::{Head, log_len, member_len, spell_head, spell_log, spell_member};
+use trap_format::layout::{CELL_AT, HEAD_VALUE_BYTES, OPEN_GATE};
+use trap_format::{Head, log_len, spell_head, spell_log};
 use trap_model::Geometry;
-use trap_raid::MemberFailed;
+use trap_raid::{MemberFailed, make_member};
 
 /// The head before the first write.
 const FRESH: Head = Head {
@@ -67,30 +66,6 @@ fn lowest<B: Bank>(bank: &B, g: &Geometry) -> Option<u8>
     None
 }
 
-/// Makes the disk of a member, whatever stood there: its header, and a zero block at each place.
-fn create_member<B: Bank>(bank: &mut B, g: &Geometry, member: u8) -> Result<(), DiskFault>
-    requires { member < g.now.members }
-    ensures ok { OnOk result (Moves (B.view bank.old) (B.view bank.new)
-        (OnlyDisk (member + 1)) (HasMember g.now member)) }
-    ensures size { OnOk result ((B.view bank.new).sizes (member + 1) ≡ Some (member_size g.now)) }
-    ensures sizes { (e : ℕ) → e ≢ member + 1
-        → (B.view bank.new).sizes e ≡ (B.view bank.old).sizes e }
-    ensures touches { IsTrue (B.view bank.old).tells
-        → OnlyDisk (member + 1) (B.view bank.old).now.disks (B.view bank.new).now.disks }
-    ensures cause { OnErr result
-        (Rose ((B.view bank.old).faults (member + 1)) ((B.view bank.new).faults (member + 1))) }
-    ensures any_moment { Moves (B.view bank.old) (B.view bank.new)
-        (OnlyDisk (member + 1)) (OnlyDisk (member + 1)) }
-{
-    let mut header = [0; 16];
-    spell_member(g.id, member, &mut header);
-    // The zeros are stable when the disk is made.
-    bank.make(member + 1, member_len(g))?;
-    // The header is stable before the log's gate says that the array is there.
-    write_through(bank, member + 1, 0, &header)?;
-    Ok(())
-}
-
 /// Makes the disks of all members.
 fn create_members<B: Bank>(bank: &mut B, g: &Geometry) -> Result<(), MemberFailed>
     ensures ok { OnOk result (Moves (B.view bank.old) (B.view bank.new)
@@ -104,13 +79,12 @@ fn create_members<B: Bank>(bank: &mut B, g: &Geometry) -> Result<(), MemberFaile
     ensures cause { IfErr result (λ failed.
         Rose ((B.view bank.old).faults (failed.member + 1))
         ((B.view bank.new).faults (failed.member + 1))) }
+    ensures calls { TakesCalls (3 * g.now.members) result (B.view bank.old) (B.view bank.new) }
     ensures any_moment { Moves (B.view bank.old) (B.view bank.new)
         (OnlyMembers g.now) (OnlyMembers g.now) }
 {
     for member in 0..g.members {
-        let Ok(()) = create_member(bank, g, member) else {
-            return Err(MemberFailed { member });
-        };
+        make_member(bank, g, member)?;
     }
     Ok(())
 }
@@ -124,6 +98,7 @@ fn shut_log<B: Bank>(bank: &mut B, g: &Geometry) -> Result<(), DiskFault>
     ensures touches { IsTrue (B.view bank.old).tells
         → OnlyDisk 0 (B.view bank.old).now.disks (B.view bank.new).now.disks }
     ensures cause { OnErr result (Rose ((B.view bank.old).faults 0) ((B.view bank.new).faults 0)) }
+    ensures calls { TakesCalls 7 result (B.view bank.old) (B.view bank.new) }
     ensures any_moment { Moves (B.view bank.old) (B.view bank.new) ShutsLog ShutsLog }
 {
     let mut head = [0; HEAD_VALUE_BYTES];
@@ -147,6 +122,7 @@ fn create_log<B: Bank>(bank: &mut B, g: &Geometry) -> Result<(), DiskFault>
     ensures touches { IsTrue (B.view bank.old).tells
         → OnlyDisk 0 (B.view bank.old).now.disks (B.view bank.new).now.disks }
     ensures cause { OnErr result (Rose ((B.view bank.old).faults 0) ((B.view bank.new).faults 0)) }
+    ensures calls { TakesCalls 9 result (B.view bank.old) (B.view bank.new) }
     ensures any_moment { Moves (B.view bank.old) (B.view bank.new)
         (MakesLog g.now) (MakesLog g.now) }
 {
@@ -171,19 +147,18 @@ pub fn create<B: Bank>(bank: &mut B, g: &Geometry) -> Result<(), CreateFault>
         → Rose ((B.view bank.old).faults d) ((B.view bank.new).faults d) → ⊥)
         → IsOk result }
 
-    // It is refused exactly where a disk of the array has a size, with the lowest of them; nothing
-    // is done then.
-    ensures exists { (d : ℕ) → IsErrOf result (fault.Exists d)
-        ↔ IsLowest g.now (B.view bank.old) d }
-    ensures untouched { (d : ℕ) → IsLowest g.now (B.view bank.old) d
-        → OnlyReads (B.view bank.old) (B.view bank.new) }
-    ensures cause { IfErr result (λ why.
-        CreateFails g.now why (B.view bank.old) (B.view bank.new)) }
-
     // The disks beyond the members stay.
     ensures beside { DisksBeyondStay g.now (B.view bank.old) (B.view bank.new) }
 
-    // Stopped at any moment, disk 0 is no log, or the disks hold the fresh array.
+    // It is refused exactly where a disk of the array has a size, with the lowest of them; the bank
+    // isn't called then.
+    ensures exists { (d : ℕ) → IsErrOf result (fault.Exists d)
+        ↔ IsLowest g.now (B.view bank.old) d }
+    ensures untouched { (d : ℕ) → IsLowest g.now (B.view bank.old) d → bank.new ≡ bank.old }
+    ensures cause { IfErr result (λ why.
+        CreateFails g.now why (B.view bank.old) (B.view bank.new)) }
+
+    // Stopped at any moment, the log's gate is off, or the disks hold the fresh array.
     ensures making { NoneIsThere g.now (B.view bank.old)
         → IsMaking g.now (B.view bank.old) (B.view bank.new) }
 

@@ -5,6 +5,7 @@ ghost use Rattle.trap_bank.specs.Disks.{Disks};
 ghost use Rattle.trap_format.specs.declared.head.Head.{Head};
 ghost use Rattle.trap_model.specs.declared.numbers.Geometry.{Geometry};
 ghost use Rattle.trap_raid.specs.Members.{IsMember, IsOut};
+ghost use Rattle.trap_mount.specs.Creating.{IsLogGateOff};
 ghost use Rattle.trap_mount.specs.Mounting.{HasMembers, RefusesAs, is_refusal};
 ghost use Rattle.trap_mount.specs.declared.fault.MountFault.{MountFault};
 
@@ -17,4 +18,9 @@ pub fn one_refusal()
     ensures none { (disks : Disks) (g : Geometry) (h : Head) → HasMembers g h disks
         → ((m : ℕ) → m < g.members → (IsOut h.lost disks m → ⊥) → IsMember g disks m)
         → (why : MountFault) → RefusesAs disks why → is_refusal why ≡ false }
+{}
+
+/// Disks on which the log's gate is off are refused as no array.
+pub fn gate_off()
+    ensures { (disks : Disks) → IsLogGateOff disks → RefusesAs disks MountFault.NotAnArray }
 {}

@@ -8,11 +8,12 @@ mod creating_tests;
 mod fault;
 mod found;
 pub mod laws;
-mod layout;
 mod mounting;
+mod ring;
 
 pub use buffers::Buffers;
 pub use creating::create;
 pub use fault::{CreateFault, MountFault};
 pub use found::Found;
 pub use mounting::mount;
+pub use ring::ring_of;

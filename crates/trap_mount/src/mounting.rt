@@ -20,13 +20,13 @@ mod records;
 #[cfg(test)]
 mod tests;
 
-use crate::layout::HEAD_VALUE_BYTES;
 use crate::mounting::history::find_log;
 use crate::mounting::members::find_members;
 use crate::{Found, MountFault};
 use std::alloc::Global;
 use trap_bank::{Bank, DiskFault};
 use trap_cell::Cell;
+use trap_format::layout::HEAD_VALUE_BYTES;
 use trap_format::{Head, spell_head};
 
 /// Puts the head where it isn't the one that was found.
@@ -66,7 +66,8 @@ pub fn mount<B: Bank>(alloc: Global, bank: &mut B) -> Result<Found, MountFault>
         MountsFor (array_of found) (B.view bank.old) (B.view bank.new)) }
     ensures knows { IfOk result (λ found. IsFoundOn found (B.view bank.old)) }
     ensures ended { IfErr result (λ why. MountEnds why (B.view bank.old) (B.view bank.new)) }
-    ensures no_log { IsNoLog ((B.view bank.old).sizes 0) → IsErrOf result MountFault.NotAnArray }
+    ensures no_log { IsNoLog ((B.view bank.old).sizes 0)
+        → IsErrOf result MountFault.NotAnArray × (bank.new ≡ bank.old) }
     ensures sizes { (e : ℕ) → (B.view bank.new).sizes e ≡ (B.view bank.old).sizes e }
 
     // Whatever the answer, no disk but the log changes.

@@ -1,4 +1,5 @@
 pub mod OptionLemmas
+pub mod OwnDisks
 pub mod PoolLemmas
 pub mod ReadLemmas
 pub mod TableLemmas

@@ -4,6 +4,7 @@ use Rattle.trap_block.specs.Xor.{xor, xor_but}
 use Rattle.trap_block.proofs.OverLemmas.{xor_but_here, xor_but_there}
 use Rattle.trap_model.specs.declared.numbers.Geometry.{Geometry}
 use Rattle.trap_bank.specs.Disks.{Contents, View}
+use Rattle.trap_bank.proofs.OnlyReads.{told_after}
 use Rattle.trap_stage.specs.Staged.{Staged, laid_over}
 use Rattle.trap_raid.specs.Members.{RowFits, PlaceFits, member_place}
 use Rattle.trap_raid.specs.Reads.{OnlyReads, FailedMember}
@@ -11,10 +12,6 @@ use Rattle.trap_raid.specs.Reads.{OnlyReads, FailedMember}
 -- one member more, read into the scratch block
 pub xor_but_more : (size one n : ℕ) (block_of : ℕ → List ℕ) → n ≢ one → xor_but size one block_of (n + 1) ≡ xor (xor_but size one block_of n) (block_of n)
 xor_but_more size one n block_of h = rw add-one (xor_but_there size one n block_of h)
-
--- it tells as it did
-pub still_tells : (old new : View) → OnlyReads old new → IsTrue old.tells → IsTrue new.tells
-still_tells old new reads told = subst IsTrue (sym reads.moves.tells) told
 
 -- ---- the disks fit as they did
 pub row_fits_along : (g : Geometry) (old new : View) (row member : ℕ) → OnlyReads old new → RowFits g old row member → RowFits g new row member
@@ -42,7 +39,7 @@ pub others_more : (g : Geometry) (writes : List Staged) (old mid : View) (row on
     → next ≡ xor so_far block
     → IsTrue old.tells → next ≡ xor_but g.block one (laid_over g writes (member_place g old.now.disks) row) (member + 1)
 others_more g writes old mid row one member so_far block next reads other before read is_next told =
-    let here : block ≡ laid_over g writes (member_place g old.now.disks) row member = read (still_tells old mid reads told)
+    let here : block ≡ laid_over g writes (member_place g old.now.disks) row member = read (told_after old mid reads told)
     ∙ ap (λ (c : Contents). laid_over g writes (member_place g c.disks) row member) (reads.same told) in
     is_next
     ∙ ap (λ (b : List ℕ). xor b block) (before told)

@@ -1,5 +1,6 @@
 pub mod Condition
 pub mod Members
+pub mod OwnDisk
 pub mod Standing
 pub mod Reads
 pub mod Plan

@@ -3,6 +3,7 @@ use Rattle.std.specs.Prelude.{◌≡◌, ◌≢◌, ◌⊎◌, ℕ, ◌+◌, ◌
 use Rattle.trap_model.specs.declared.numbers.Geometry.{Geometry}
 use Rattle.trap_bank.specs.Disks.{Disks, View, Within, region, size_of}
 use Rattle.trap_bank.specs.Calls.{Fits}
+use Rattle.trap_bank.specs.Faults.{Rose}
 use Rattle.trap_format.specs.MemberDisk.{row_at, member_size, member_header}
 use Rattle.trap_map.specs.declared.places.Place.{Place}
 use Rattle.trap_map.specs.Layout.{parity_member, block_place}
@@ -12,6 +13,10 @@ use Rattle.trap_stage.specs.Staged.{Staged, newest_at, laid_over, StandWhere}
 -- the bytes at a place; member m is disk m + 1
 abbrev pub member_place : Geometry → Disks → ℕ → ℕ → List ℕ
 member_place g disks row member = region disks (member + 1) (row_at g row) g.block
+
+-- the count of faults of the member's disk rose
+abbrev pub HasFailed : View → View → ℕ → Type 0
+HasFailed old new member = Rose (old.faults (member + 1)) (new.faults (member + 1))
 
 -- a place of the array
 pub record IsPlace (g : Geometry) (place : Place) : Type 0 where

@@ -7,12 +7,13 @@ ghost use Rattle.trap_pool.specs.Frames.{AreLeases, Only};
 use crate::test_blocks::Blocks;
 use crate::tests::{
     P, THREE, contents, is_block, is_long, make_disks, members_fit, mount_empty, parity_of_row,
-    ring_start, three_members,
+    three_members,
 };
 use crate::{MemberFailed, Raid};
 use std::process::Abort;
 use std::test::Fail;
 use trap_bank::{Bank, MemoryBank};
+use trap_format::ring_start;
 use trap_map::Place;
 use trap_model::Geometry;
 use trap_pool::Pool;

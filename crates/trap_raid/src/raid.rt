@@ -67,6 +67,29 @@ impl Raid {
         self.rebuilt = 0;
     }
 
+    /// From here on this many rows of the lost member are rebuilt.
+    pub fn set_rebuilt(&mut self, rebuilt: u32)
+        requires { rebuilt < self.old.g.rows }
+        ensures { self.new ≡ record self.old { rebuilt = rebuilt } }
+    {
+        self.rebuilt = rebuilt;
+    }
+
+    /// From here on no member is lost.
+    pub fn whole(&mut self)
+        ensures { self.new ≡ record self.old { lost = None; rebuilt = 0 } }
+    {
+        self.lost = None;
+        self.rebuilt = 0;
+    }
+
+    /// The numbers of the array.
+    pub fn geometry(&self) -> Geometry
+        ensures { result ≡ self.now.g }
+    {
+        self.g
+    }
+
     /// The lost member.
     pub fn lost(&self) -> Option<u8>
         ensures lost { result ≡ self.now.lost }
@@ -114,11 +137,11 @@ impl Raid {
 
         // No other block changes, whatever the answer.
         ensures rest { Only (into.now ∷ scratch.now ∷ []) pool.old pool.new }
+        ensures read { IfErr result (λ failed. IsReadFor self.now.g self.now.lost stage.now.pending
+            place.row place.member failed.member) }
         ensures cause { IfErr result (λ failed.
             FailedMember self.now.g self.now.lost (B.view bank.old) (B.view bank.new)
             failed.member) }
-        ensures read { IfErr result (λ failed. IsReadFor self.now.g self.now.lost stage.now.pending
-            place.row place.member failed.member) }
         ensures calls { TakesCalls
             (reads_of self.now.g self.now.lost stage.now.pending place.row place.member)
             result (B.view bank.old) (B.view bank.new) }
@@ -177,11 +200,11 @@ impl Raid {
 
         // No other block changes, whatever the answer; so `fresh` stays.
         ensures rest { Only (delta.now ∷ parity.now ∷ scratch.now ∷ []) pool.old pool.new }
+        ensures read { IfErr result (λ failed.
+            IsReadForBlock self.now.g self.now.lost stage.now.pending block failed.member) }
         ensures cause { IfErr result (λ failed.
             FailedMember self.now.g self.now.lost (B.view bank.old) (B.view bank.new)
             failed.member) }
-        ensures read { IfErr result (λ failed.
-            IsReadForBlock self.now.g self.now.lost stage.now.pending block failed.member) }
         ensures calls { TakesCalls (plan_reads self.now.g self.now.lost stage.now.pending block)
             result (B.view bank.old) (B.view bank.new) }
 
@@ -222,10 +245,10 @@ impl Raid {
             → Torn (InDrained self.now.g self.now.lost self.now.rebuilt
             (writes_to stage.now upto)) (B.view bank.old).now (B.view bank.new).now }
         ensures sizes { (e : ℕ) → (B.view bank.new).sizes e ≡ (B.view bank.old).sizes e }
-        ensures cause { IfErr result (λ failed. FailedMember self.now.g None
-            (B.view bank.old) (B.view bank.new) failed.member) }
         ensures counts { IfErr result (λ failed.
             Counts self.now.lost self.now.rebuilt 0 failed.member) }
+        ensures cause { IfErr result (λ failed. FailedMember self.now.g None
+            (B.view bank.old) (B.view bank.new) failed.member) }
 
         // It fails only by a member that it writes.
         ensures place { IfErr result (λ failed.

@@ -4,6 +4,7 @@ ghost use Rattle.std.specs.Prelude.{◌≡◌, ◌≢◌, ℕ, ◌+◌, ◌<◌,
 ghost use Rattle.std.specs.Prelude.{IsTrue, OnOk, IfErr};
 ghost use Rattle.trap_bank.specs.Called.{CalledTimes, TakesCalls};
 ghost use Rattle.trap_block.specs.Xor.{xor_but};
+ghost use Rattle.trap_format.specs.MemberDisk.{row_at};
 ghost use Rattle.trap_pool.specs.Frames.{AreLeases, Only};
 ghost use Rattle.trap_pool.specs.Pooled.{pool_block};
 ghost use Rattle.trap_stage.specs.Staged.{newest_at, laid_over};
@@ -25,6 +26,13 @@ pub struct MemberFailed {
     pub member: u8,
 }
 
+/// Where a row begins on a member's disk, in bytes.
+pub fn row_offset(g: &Geometry, row: u32) -> u64
+    ensures { result ≡ row_at g.now row }
+{
+    MEMBER_HEADER_BYTES + u64::from(row) * u64::from(g.block)
+}
+
 /// Reads the bytes of a place from its member.
 pub(crate) fn read_member<B: Bank>(
     g: &Geometry,
@@ -42,8 +50,7 @@ pub(crate) fn read_member<B: Bank>(
     ensures calls { CalledTimes 1 (B.view bank.old) (B.view bank.new) }
     ensures any_moment { OnlyReads (B.view bank.old) (B.view bank.new) }
 {
-    let at = MEMBER_HEADER_BYTES + u64::from(place.row) * u64::from(g.block);
-    match bank.read(place.member + 1, at, into) {
+    match bank.read(place.member + 1, row_offset(g, place.row), into) {
         Ok(()) => Ok(()),
         Err(Failed) => Err(MemberFailed {
             member: place.member,
@@ -68,10 +75,10 @@ pub(crate) fn read_standing<B: Bank>(
         (into.new ≡ laid_over g.now stage.now.pending
         (member_place g.now (B.view bank.old).now.disks)
         place.row place.member) }
-    ensures cause { IfErr result (λ failed. (failed.member ≡ place.member)
-        × FailedMember g.now None (B.view bank.old) (B.view bank.new) failed.member) }
     ensures bare { IfErr result (λ failed.
         newest_at g.now stage.now.pending place.row place.member ≡ None) }
+    ensures cause { IfErr result (λ failed. (failed.member ≡ place.member)
+        × FailedMember g.now None (B.view bank.old) (B.view bank.new) failed.member) }
     ensures calls { CalledTimes
         (calls_for (newest_at g.now stage.now.pending place.row place.member))
         (B.view bank.old) (B.view bank.new) }
@@ -108,10 +115,10 @@ pub(crate) fn read_others<B: Bank>(
         (member_place g.now (B.view bank.old).now.disks)
         place.row) g.now.members) }
     ensures rest { Only (into.now ∷ scratch.now ∷ []) pool.old pool.new }
-    ensures cause { IfErr result (λ failed.
-        FailedMember g.now (Some place.member) (B.view bank.old) (B.view bank.new) failed.member) }
     ensures bare { IfErr result (λ failed.
         newest_at g.now stage.now.pending place.row failed.member ≡ None) }
+    ensures cause { IfErr result (λ failed.
+        FailedMember g.now (Some place.member) (B.view bank.old) (B.view bank.new) failed.member) }
     ensures calls { TakesCalls
         (bare_others g.now stage.now.pending place.row place.member g.now.members)
         result (B.view bank.old) (B.view bank.new) }

@@ -2,7 +2,6 @@
 
 ghost use Rattle.std.specs.Prelude.{◌≡◌, ◌≢◌, ◌+◌, ◌*◌, ◌<◌, ◌≤◌, [], ◌∷◌, Some, length, IsTrue};
 ghost use Rattle.std.specs.Prelude.{IfOk};
-ghost use Rattle.trap_format.specs.LogDisk.{ring_at};
 ghost use Rattle.std.specs.Option.{ForSome};
 ghost use Rattle.trap_bank.specs.Calls.{Fits};
 ghost use Rattle.trap_model.specs.Image.{volume};
@@ -15,7 +14,7 @@ use std::alloc::Global;
 use std::process::Abort;
 use std::test::Fail;
 use trap_bank::{Bank, Failed, MemoryBank};
-use trap_format::layout::{SLOT_NUMBERS_BYTES, SLOTS_AT};
+use trap_format::ring_start;
 use trap_map::Place;
 use trap_model::Geometry;
 use trap_pool::Pool;
@@ -133,13 +132,6 @@ fn make_member<B: Bank>(
         bank.write(member + 1, at, &bytes)?;
     }
     Ok(())
-}
-
-/// Where the slots end.
-pub(crate) fn ring_start(g: &Geometry) -> u64
-    ensures { result ≡ ring_at g.now }
-{
-    SLOTS_AT + u64::from(g.slots) * (SLOT_NUMBERS_BYTES + 2 * u64::from(g.block))
 }
 
 /// Mounts the slots of numbers that are all drained: nothing is pending.

@@ -12,8 +12,8 @@ ghost use Rattle.trap_raid.specs.Draining.{place_calls, write_calls};
 ghost use Rattle.trap_raid.specs.Reads.{FailedMember};
 
 use crate::MemberFailed;
+use crate::reads::row_offset;
 use trap_bank::{Bank, Failed, write_through};
-use trap_format::layout::MEMBER_HEADER_BYTES;
 use trap_map::{Place, parity_of, place_of};
 use trap_model::Geometry;
 
@@ -44,10 +44,10 @@ pub(crate) fn write_place<B: Bank>(
         → Torn (InCounted g.now lost rebuilt place.row place.member)
         (B.view bank.old).now (B.view bank.new).now }
     ensures sizes { (e : ℕ) → (B.view bank.new).sizes e ≡ (B.view bank.old).sizes e }
-    ensures cause { IfErr result (λ failed.
-        FailedMember g.now None (B.view bank.old) (B.view bank.new) failed.member) }
     ensures place { IfErr result (λ failed.
         (failed.member ≡ place.member) × Counts lost rebuilt place.row place.member) }
+    ensures cause { IfErr result (λ failed.
+        FailedMember g.now None (B.view bank.old) (B.view bank.new) failed.member) }
     ensures calls { TakesCalls (place_calls lost rebuilt place.row place.member) result
         (B.view bank.old) (B.view bank.new) }
 
@@ -59,9 +59,8 @@ pub(crate) fn write_place<B: Bank>(
     if !counts(lost, rebuilt, place) {
         return Ok(());
     }
-    let at = MEMBER_HEADER_BYTES + u64::from(place.row) * u64::from(g.block);
     // The place is stable before the head has the write drained, and its slot may be filled again.
-    match write_through(bank, place.member + 1, at, bytes) {
+    match write_through(bank, place.member + 1, row_offset(g, place.row), bytes) {
         Ok(()) => Ok(()),
         Err(Failed) => Err(MemberFailed {
             member: place.member,
@@ -101,10 +100,10 @@ pub(crate) fn write_slot<B: Bank>(
         ((record { block = block; bytes = bytes.now; parity = parity.now }) ∷ []))
         (B.view bank.old).now (B.view bank.new).now }
     ensures sizes { (e : ℕ) → (B.view bank.new).sizes e ≡ (B.view bank.old).sizes e }
-    ensures cause { IfErr result (λ failed.
-        FailedMember g.now None (B.view bank.old) (B.view bank.new) failed.member) }
     ensures place { IfErr result (λ failed. IsDrainedTo g.now lost rebuilt
         ((record { block = block; bytes = bytes.now; parity = parity.now }) ∷ []) failed.member) }
+    ensures cause { IfErr result (λ failed.
+        FailedMember g.now None (B.view bank.old) (B.view bank.new) failed.member) }
     ensures calls { TakesCalls
         (write_calls g.now lost rebuilt (record {
           block = block;

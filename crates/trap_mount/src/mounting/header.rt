@@ -35,11 +35,12 @@ pub(super) fn settle<B: Bank>(bank: &mut B, d: u8, into: &mut [u8]) -> Result<()
 pub(super) fn read_header<B: Bank>(bank: &mut B) -> Result<Geometry, MountFault>
     ensures ok { IfOk result (λ g. ReadsHeader g (B.view bank.old) (B.view bank.new)) }
     ensures reads { OnlyReads (B.view bank.old) (B.view bank.new) }
-    ensures no_log { IsNoLog ((B.view bank.old).sizes 0) → IsErrOf result MountFault.NotAnArray }
+    ensures no_log { IsNoLog ((B.view bank.old).sizes 0)
+        → IsErrOf result MountFault.NotAnArray × (bank.new ≡ bank.old) }
     ensures refused { IfErr result (λ why. IsTrue (B.view bank.old).tells
         → Refuses (B.view bank.old) why) }
-    ensures cause { IfErr result (λ why. MountFails why (B.view bank.old) (B.view bank.new)) }
     ensures log { IfErr result (λ why. names_member why ≡ false) }
+    ensures cause { IfErr result (λ why. MountFails why (B.view bank.old) (B.view bank.new)) }
 {
     let Some(size) = bank.size(0) else {
         return Err(MountFault::NotAnArray);

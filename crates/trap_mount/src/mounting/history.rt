@@ -16,18 +16,17 @@ ghost use Rattle.trap_mount.specs.Mounting.{HasSlots, names_member};
 ghost use Rattle.trap_mount.specs.MountSteps.{IsStable, ReadsHead, ReadsStage, ReadsLog};
 ghost use Rattle.trap_mount.specs.Reading.{ReadsIndex, ReadsHistory};
 
-use crate::layout::HEAD_VALUE_BYTES;
 use crate::mounting::header::read_header;
 use crate::mounting::records::read_records;
+use crate::ring::ring_of;
 use crate::{Buffers, Found, MountFault};
 use std::alloc::Global;
 use trap_bank::Bank;
 use trap_cell::{Cell, CellFault};
-use trap_format::layout::CELL_AT;
-use trap_format::{Head, log_len, read_head};
+use trap_format::layout::{CELL_AT, HEAD_VALUE_BYTES};
+use trap_format::{Head, read_head, ring_len, ring_start};
 use trap_index::Index;
 use trap_model::Geometry;
-use trap_ring::Ring;
 use trap_scan::{CheckFault, Expected};
 use trap_stage::{Stage, StageFault};
 
@@ -43,8 +42,8 @@ fn mount_cell<B: Bank>(bank: &mut B, value: &mut [u8; HEAD_VALUE_BYTES]) -> Resu
     ensures reads { OnlyReads (B.view bank.old) (B.view bank.new) }
     ensures refused { IfErr result (λ why. (g : Geometry) → IsTrue (B.view bank.old).tells
         → HasHeader g (B.view bank.old).now.disks → Refuses (B.view bank.old) why) }
-    ensures cause { IfErr result (λ why. MountFails why (B.view bank.old) (B.view bank.new)) }
     ensures log { IfErr result (λ why. names_member why ≡ false) }
+    ensures cause { IfErr result (λ why. MountFails why (B.view bank.old) (B.view bank.new)) }
 {
     match Cell::mount(bank, 0, CELL_AT, value) {
         Ok(cell) => Ok(cell),
@@ -62,8 +61,8 @@ fn find_head<B: Bank>(bank: &mut B, g: &Geometry) -> Result<(Head, Cell), MountF
     ensures reads { OnlyReads (B.view bank.old) (B.view bank.new) }
     ensures refused { IfErr result (λ why. IsTrue (B.view bank.old).tells
         → HasHeader g.now (B.view bank.old).now.disks → Refuses (B.view bank.old) why) }
-    ensures cause { IfErr result (λ why. MountFails why (B.view bank.old) (B.view bank.new)) }
     ensures log { IfErr result (λ why. names_member why ≡ false) }
+    ensures cause { IfErr result (λ why. MountFails why (B.view bank.old) (B.view bank.new)) }
 {
     let mut value = [0; HEAD_VALUE_BYTES];
     let cell = mount_cell(bank, &mut value)?;
@@ -90,8 +89,8 @@ fn find_stage<B: Bank>(
     ensures reads { OnlyReads (B.view bank.old) (B.view bank.new) }
     ensures refused { IfErr result (λ why. IsTrue (B.view bank.old).tells
         → HasHead g.now head.now (B.view bank.old).now.disks → Refuses (B.view bank.old) why) }
-    ensures cause { IfErr result (λ why. MountFails why (B.view bank.old) (B.view bank.new)) }
     ensures log { IfErr result (λ why. names_member why ≡ false) }
+    ensures cause { IfErr result (λ why. MountFails why (B.view bank.old) (B.view bank.new)) }
 {
     match Stage::mount(alloc, bank, g, head.drained, head.last) {
         Ok(stage) => Ok(stage),
@@ -118,11 +117,10 @@ fn take_history<B: Bank>(
     ensures reads { OnlyReads (B.view bank.old) (B.view bank.new) }
     ensures refused { IfErr result (λ why. IsTrue (B.view bank.old).tells
         → HasSlots g.now head.now (B.view bank.old).now.disks → Refuses (B.view bank.old) why) }
-    ensures cause { IfErr result (λ why. MountFails why (B.view bank.old) (B.view bank.new)) }
     ensures log { IfErr result (λ why. names_member why ≡ false) }
+    ensures cause { IfErr result (λ why. MountFails why (B.view bank.old) (B.view bank.new)) }
 {
-    let ring_start = log_len(g) - g.ring;
-    let ring = Ring::new(0, ring_start, g.ring);
+    let ring = ring_of(g);
     let expected = Expected {
         size: g.block,
         volume: g.volume(),
@@ -137,7 +135,7 @@ fn take_history<B: Bank>(
         Ok(()) => Ok(()),
         Err(CheckFault::DiskFault) => Err(MountFault::LogFault),
         Err(CheckFault::Damaged { at }) => Err(MountFault::Damaged {
-            offset: ring_start + at % g.ring,
+            offset: ring_start(g) + at % ring_len(g),
         }),
         Err(CheckFault::OutOfMemory) => Err(MountFault::OutOfMemory),
     }
@@ -156,8 +154,8 @@ fn read_history<B: Bank>(
     ensures reads { OnlyReads (B.view bank.old) (B.view bank.new) }
     ensures refused { IfErr result (λ why. IsTrue (B.view bank.old).tells
         → HasSlots g.now head.now (B.view bank.old).now.disks → Refuses (B.view bank.old) why) }
-    ensures cause { IfErr result (λ why. MountFails why (B.view bank.old) (B.view bank.new)) }
     ensures log { IfErr result (λ why. names_member why ≡ false) }
+    ensures cause { IfErr result (λ why. MountFails why (B.view bank.old) (B.view bank.new)) }
 {
     let Ok(mut index) = Index::new(alloc, g, head.first, head.base_time, head.first_off) else {
         return Err(MountFault::OutOfMemory);
@@ -174,11 +172,12 @@ pub(super) fn find_log<B: Bank>(alloc: Global, bank: &mut B) -> Result<Found, Mo
         (λ found. ReadsIndex found.g found.head found.index (B.view bank.old)) }
     ensures buffers { IfOk result (λ found. HaveBlocksOf found.g.block found.buffers) }
     ensures reads { OnlyReads (B.view bank.old) (B.view bank.new) }
-    ensures no_log { IsNoLog ((B.view bank.old).sizes 0) → IsErrOf result MountFault.NotAnArray }
+    ensures no_log { IsNoLog ((B.view bank.old).sizes 0)
+        → IsErrOf result MountFault.NotAnArray × (bank.new ≡ bank.old) }
     ensures refused { IfErr result (λ why. IsTrue (B.view bank.old).tells
         → Refuses (B.view bank.old) why) }
-    ensures cause { IfErr result (λ why. MountFails why (B.view bank.old) (B.view bank.new)) }
     ensures log { IfErr result (λ why. names_member why ≡ false) }
+    ensures cause { IfErr result (λ why. MountFails why (B.view bank.old) (B.view bank.new)) }
 {
     let g = read_header(bank)?;
     let (head, cell) = find_head(bank, &g)?;

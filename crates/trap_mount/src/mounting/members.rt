@@ -1,24 +1,21 @@
 //! The members' disks, looked at when an array is mounted.
 
-ghost use Rattle.std.specs.Prelude.{◌≡◌, ◌≢◌, ◌≤◌, ◌<◌, ◌+◌, ◌↔◌, ℕ, Some, None, IsTrue, OnOk};
-ghost use Rattle.std.specs.Prelude.{OnErr, IfOk, IfErr, IfSome, IfNone};
+ghost use Rattle.std.specs.Prelude.{◌≡◌, ◌≢◌, ◌≤◌, ◌<◌, ◌+◌, ℕ, Some, None, IsTrue, OnOk};
+ghost use Rattle.std.specs.Prelude.{IfOk, IfErr, IfSome, IfNone};
 ghost use Rattle.std.specs.Option.{ForSome};
-ghost use Rattle.trap_bank.specs.Faults.{Rose};
 ghost use Rattle.trap_bank.specs.Steps.{OnlyReads};
-ghost use Rattle.trap_format.specs.MemberDisk.{member_size, member_header};
 ghost use Rattle.trap_format.specs.HeadValue.{IsHead};
 ghost use Rattle.trap_format.specs.declared.head.Head.{Head};
-ghost use Rattle.trap_raid.specs.Members.{IsMember};
 ghost use Rattle.trap_mount.specs.Mounting.{Refuses, MountFails, SizesShow, HasRecords, HasMembers};
-ghost use Rattle.trap_mount.specs.MountSteps.{IsStable, IsOnlyOut, IsFirstOut, FindsLost};
+ghost use Rattle.trap_mount.specs.MountSteps.{IsOnlyOut, IsFirstOut, FindsLost};
 ghost use Rattle.trap_mount.specs.MountSteps.{ReadsMember, ReadsMembers, IsNextMember, KeepsRows};
 ghost use Rattle.trap_mount.specs.MountSteps.{FindsMembers};
 
 use crate::MountFault;
-use crate::mounting::header::settle;
-use trap_bank::{Bank, Failed};
-use trap_format::{Head, member_len, read_member};
+use trap_bank::Bank;
+use trap_format::Head;
 use trap_model::Geometry;
+use trap_raid::is_own;
 
 /// The lowest member whose disk is absent, but for one.
 fn lowest_absent<B: Bank>(bank: &B, members: u8, but: Option<u8>) -> Option<u8>
@@ -54,8 +51,8 @@ fn find_lost<B: Bank>(bank: &B, g: &Geometry, head: &Head) -> Result<Option<u8>,
     ensures ok { IfOk result (λ lost. FindsLost g.now head.now.lost lost (B.view bank.now)) }
     ensures refused { IfErr result (λ why. IsTrue (B.view bank.now).tells
         → HasRecords g.now head.now (B.view bank.now).now.disks → Refuses (B.view bank.now) why) }
-    ensures cause { IfErr result (λ why. MountFails why (B.view bank.now) (B.view bank.now)) }
     ensures shown { IfErr result (λ why. SizesShow g.now why (B.view bank.now)) }
+    ensures cause { IfErr result (λ why. MountFails why (B.view bank.now) (B.view bank.now)) }
 {
     let out = first_out(bank, g, head);
     let Some(first) = out else {
@@ -67,32 +64,6 @@ fn find_lost<B: Bank>(bank: &B, g: &Geometry, head: &Head) -> Result<Option<u8>,
     }
 }
 
-/// Whether the bytes are the header of the member.
-fn is_header(bytes: &[u8; 16], id: u64, member: u8) -> bool
-    ensures { IsTrue result ↔ (bytes.now ≡ member_header id member) }
-{
-    match read_member(bytes) {
-        Some((other, m)) => other == id && m == member,
-        None => false,
-    }
-}
-
-/// Syncs the disk of a member, and reads whether its header is the member's own.
-fn has_header<B: Bank>(bank: &mut B, g: &Geometry, member: u8) -> Result<bool, Failed>
-    requires member { member < 16 }
-    requires size { (B.view bank.old).sizes (member + 1) ≡ Some (member_size g.now) }
-    ensures own { IfOk result (λ is. IsTrue (B.view bank.old).tells
-        → (IsTrue is ↔ IsMember g.now (B.view bank.old).now.disks member)) }
-    ensures stable { OnOk result (IsStable (B.view bank.new) (member + 1)) }
-    ensures reads { OnlyReads (B.view bank.old) (B.view bank.new) }
-    ensures cause { OnErr result
-        (Rose ((B.view bank.old).faults (member + 1)) ((B.view bank.new).faults (member + 1))) }
-{
-    let mut bytes = [0; 16];
-    settle(bank, member + 1, &mut bytes)?;
-    Ok(is_header(&bytes, g.id, member))
-}
-
 /// Checks that the disk of a member is its own.
 fn check_member<B: Bank>(bank: &mut B, g: &Geometry, member: u8) -> Result<(), MountFault>
     requires member { member < g.now.members }
@@ -101,13 +72,10 @@ fn check_member<B: Bank>(bank: &mut B, g: &Geometry, member: u8) -> Result<(), M
     ensures wrong { IfErr result (λ why. IsTrue (B.view bank.old).tells → (h : Head)
         → IsNextMember g.now h (B.view bank.old).now.disks member
         → HasMembers g.now h (B.view bank.old).now.disks → Refuses (B.view bank.old) why) }
-    ensures cause { IfErr result (λ why. MountFails why (B.view bank.old) (B.view bank.new)) }
     ensures shown { IfErr result (λ why. SizesShow g.now why (B.view bank.old)) }
+    ensures cause { IfErr result (λ why. MountFails why (B.view bank.old) (B.view bank.new)) }
 {
-    if bank.size(member + 1) != Some(member_len(g)) {
-        return Err(MountFault::WrongMember { member });
-    }
-    match has_header(bank, g, member) {
+    match is_own(bank, g, member) {
         Ok(true) => Ok(()),
         Ok(false) => Err(MountFault::WrongMember { member }),
         Err(_) => Err(MountFault::MemberFault {
@@ -125,8 +93,8 @@ fn check_members<B: Bank>(bank: &mut B, g: &Geometry, lost: Option<u8>) -> Resul
     ensures refused { IfErr result (λ why. IsTrue (B.view bank.old).tells → (h : Head)
         → IsOnlyOut g.now h.lost lost (B.view bank.old).now.disks
         → HasMembers g.now h (B.view bank.old).now.disks → Refuses (B.view bank.old) why) }
-    ensures cause { IfErr result (λ why. MountFails why (B.view bank.old) (B.view bank.new)) }
     ensures shown { IfErr result (λ why. SizesShow g.now why (B.view bank.old)) }
+    ensures cause { IfErr result (λ why. MountFails why (B.view bank.old) (B.view bank.new)) }
 {
     for member in 0..g.members {
         if lost != Some(member) {
@@ -143,13 +111,10 @@ fn rows_of<B: Bank>(bank: &mut B, g: &Geometry, member: u8, rebuilt: u32) -> u32
     ensures rows { KeepsRows g.now member rebuilt result (B.view bank.old) (B.view bank.new) }
     ensures reads { OnlyReads (B.view bank.old) (B.view bank.new) }
 {
-    if bank.size(member + 1) != Some(member_len(g)) {
+    let Ok(own) = is_own(bank, g, member) else {
         return 0;
-    }
-    match has_header(bank, g, member) {
-        Ok(true) => rebuilt,
-        _ => 0,
-    }
+    };
+    if own { rebuilt } else { 0 }
 }
 
 /// How many rows of the lost member count. A newly lost one has none.
@@ -179,8 +144,8 @@ pub(super) fn find_members<B: Bank>(
     ensures reads { OnlyReads (B.view bank.old) (B.view bank.new) }
     ensures refused { IfErr result (λ why. IsTrue (B.view bank.old).tells
         → HasRecords g.now head.now (B.view bank.old).now.disks → Refuses (B.view bank.old) why) }
-    ensures cause { IfErr result (λ why. MountFails why (B.view bank.old) (B.view bank.new)) }
     ensures shown { IfErr result (λ why. SizesShow g.now why (B.view bank.old)) }
+    ensures cause { IfErr result (λ why. MountFails why (B.view bank.old) (B.view bank.new)) }
 {
     let lost = find_lost(bank, g, head)?;
     check_members(bank, g, lost)?;

@@ -5,14 +5,13 @@ ghost use Rattle.std.specs.Prelude.{◌≡◌, ◌≤◌, ◌+◌, IsTrue};
 ghost use Rattle.std.specs.Option.{ForSome};
 ghost use Rattle.trap_bank.specs.Calls.{Fits};
 
-use crate::layout::HEAD_VALUE_BYTES;
 use crate::{MountFault, mount};
 use std::alloc::Global;
 use std::process::Abort;
 use std::test::Fail;
 use trap_bank::{Bank, MemoryBank};
 use trap_cell::Cell;
-use trap_format::layout::{CELL_AT, SLOTS_AT};
+use trap_format::layout::{CELL_AT, HEAD_VALUE_BYTES, SLOTS_AT};
 use trap_format::{Head, log_len, member_len, spell_head, spell_log, spell_member};
 use trap_model::Geometry;
 

@@ -1,4 +1,5 @@
-use Rattle.std.proofs.Common.{◌+◌, ◌∙◌, arith}
+use Rattle.std.proofs.Common.{◌+◌, ◌*◌, ◌∙◌, arith}
+use Rattle.trap_bank.proofs.Called.{called_then}
 use Rattle.trap_mount.proofs.FreshArray.{create_members_part, create_log_part, create_done, create_holds, create_cell, is_making, order_members, order_log, others_members, others_log}
 use Rattle.trap_mount.proofs.creating.create.Goals as goal
 
@@ -51,4 +52,6 @@ returns-clause-made g c = record {
   cell = create_cell c.args.g.now (g.B.Bank.view c.create_members.new.bank) (g.B.Bank.view c.create_log.new.bank) c.in_ok-create_log.ensures.ok;
   moves = create_done c.args.g.now (g.B.Bank.view c.args.bank.now) (g.met.B.Bank.lawful c.args.bank.now) c.in_default.ensures.none (g.B.Bank.view c.create_members.new.bank)
       (g.B.Bank.view c.create_log.new.bank) c.in_ok-create_members.ensures.ok c.in_ok-create_log.ensures.ok;
+  calls = called_then (3 * c.args.g.now.members) 9 (g.B.Bank.view c.args.bank.now) (g.B.Bank.view c.create_members.new.bank) (g.B.Bank.view c.create_log.new.bank)
+      c.in_ok-create_members.ensures.calls.ok c.in_ok-create_log.ensures.calls.ok;
 }

@@ -1,6 +1,6 @@
 use Rattle.std.proofs.Common.{arith}
 use Rattle.trap_format.specs.LogDisk.{log_size}
-use Rattle.trap_mount.proofs.MemberDisks.{touches_then}
+use Rattle.trap_raid.proofs.OwnDisks.{touches_then}
 use Rattle.trap_mount.proofs.LogGate.{shut_part, gate_part}
 use Rattle.trap_mount.proofs.LogGate.{gate_done}
 use Rattle.trap_mount.proofs.creating.create_log.Goals as goal

@@ -7,7 +7,7 @@ use Rattle.trap_bank.proofs.Rising.{rose_since}
 use Rattle.trap_mount.proofs.MountReads.{cause_before, sizes_before, false_true}
 use Rattle.trap_mount.proofs.MountHistory.{exit}
 use Rattle.trap_mount.proofs.MountRefusals.{never_refused}
-use Rattle.trap_mount.proofs.MountPuts.{complete, members_refused, put_failed, put_room, stage_put, index_put, stands_still, mount_ready, mount_exact, mount_stands, mount_found, mount_knows, mount_head, head_read}
+use Rattle.trap_mount.proofs.MountPuts.{complete, members_refused, put_failed, put_room, stage_put, index_put, stands_still, mount_ready, mount_exact, mount_stands, mount_found, mount_slots, mount_head, head_read}
 use Rattle.trap_mount.proofs.MountPuts.{writes_head, keeps_read, read_others, keeps_put, put_others}
 use Rattle.trap_mount.proofs.mounting.mount.Goals as goal
 
@@ -19,12 +19,14 @@ returns-in_err-found-clause-ended g c =
     let new = g.B.Bank.view c.find_log.new.bank in
     let refused = c.in_err-found.ensures.refused in
     exit (λ why. MountEnds why old new) c.from_residual.result c.in_err-found.field-0.0 c.from_residual.ensures.1 (record {
-      refused = refused;
+      cause = record {
+        refused = refused;
+        failed = c.in_err-found.ensures.cause;
+        shown = λ is. absurd (false_true _ c.in_err-found.ensures.log is);
+        complete = λ numbers h s told by log members. complete old new numbers h s told by log members c.in_err-found.field-0.0 refused c.in_err-found.ensures.cause;
+      };
       held = λ numbers s told holds. never_refused numbers s old.now.disks holds c.in_err-found.field-0.0 (refused told);
       nothing_written = λ is. c.find_log.ensures.reads;
-      cause = c.in_err-found.ensures.cause;
-      shown = λ is. absurd (false_true _ c.in_err-found.ensures.log is);
-      complete = λ numbers h s told by log members. complete old new numbers h s told by log members c.in_err-found.field-0.0 refused c.in_err-found.ensures.cause;
     })
 
 -- ---- the members were refused
@@ -38,13 +40,15 @@ returns-in_err-head-clause-ended g c =
     let refused : IsTrue old.tells → Refuses old c.in_err-head.field-0.0 = members_refused c.in_ok-found.found.g c.in_ok-found.found.head c.in_ok-found.found.cell c.in_ok-found.found.stage old mid _
     c.find_log.ensures.reads c.in_ok-found.ensures.ok c.in_err-head.ensures.refused in
     exit (λ why. MountEnds why old new) c.from_residual-in_err-head.result c.in_err-head.field-0.0 c.from_residual-in_err-head.ensures.1 (record {
-      refused = refused;
+      cause = record {
+        refused = refused;
+        failed = cause_before old mid new _ c.find_log.ensures.reads c.in_err-head.ensures.cause;
+        shown = λ is. (c.in_ok-found.found.g, c.in_ok-found.ensures.ok.header.size, sizes_before c.in_ok-found.found.g old mid _ c.find_log.ensures.reads.sizes c.in_err-head.ensures.shown);
+        complete = λ numbers h s told by log members. complete old new numbers h s told by log members c.in_err-head.field-0.0 refused
+            (cause_before old mid new _ c.find_log.ensures.reads c.in_err-head.ensures.cause);
+      };
       held = λ numbers s told holds. never_refused numbers s old.now.disks holds c.in_err-head.field-0.0 (refused told);
       nothing_written = λ is. reads;
-      cause = cause_before old mid new _ c.find_log.ensures.reads c.in_err-head.ensures.cause;
-      shown = λ is. (c.in_ok-found.found.g, c.in_ok-found.ensures.ok.header.size, sizes_before c.in_ok-found.found.g old mid _ c.find_log.ensures.reads.sizes c.in_err-head.ensures.shown);
-      complete = λ numbers h s told by log members. complete old new numbers h s told by log members c.in_err-head.field-0.0 refused
-          (cause_before old mid new _ c.find_log.ensures.reads c.in_err-head.ensures.cause);
     })
 
 -- ---- the put
@@ -70,12 +74,14 @@ returns-in_default-clause-ended g c =
     let new = g.B.Bank.view c.put_changed.new.bank in
     let reads = reads_then old (g.B.Bank.view c.find_log.new.bank) mid c.find_log.ensures.reads c.find_members.ensures.reads in
     record {
-      refused = λ told. tt;
+      cause = record {
+        refused = λ told. tt;
+        failed = put_failed old mid new LogFault reads c.in_default.ensures.cause refl;
+        shown = λ is. absurd (cc is);
+        complete = λ numbers h s told by log members. absurd (log (rose_since _ _ _ (reads.moves.faults 0) c.in_default.ensures.cause));
+      };
       held = λ numbers s told holds. refl;
       nothing_written = λ is. absurd (is refl);
-      cause = put_failed old mid new LogFault reads c.in_default.ensures.cause refl;
-      shown = λ is. absurd (cc is);
-      complete = λ numbers h s told by log members. absurd (log (rose_since _ _ _ (reads.moves.faults 0) c.in_default.ensures.cause));
     }
 
 -- ---- the array is mounted
@@ -118,11 +124,14 @@ returns-clause-mounted g c =
           (g.met.B.Bank.lawful c.find_log.new.bank) c.in_ok-found.ensures.ok c.in_ok-head.ensures.ok
           (g.B.Bank.view c.put_changed.new.bank) c.put_changed.new.cell c.in_ok-found.found.index
           c.in_ok-found.found.buffers c.in_ok-found.ensures.index c.in-Ok.ensures.ok c.put_changed.ensures.sizes;
-      knows = mount_knows c.in_ok-found.found.g c.in_ok-found.found.head c.in_ok-head.head c.in_ok-found.found.cell c.in_ok-found.found.stage
+      slots = mount_slots c.in_ok-found.found.g c.in_ok-found.found.head c.in_ok-head.head c.in_ok-found.found.cell c.in_ok-found.found.stage
           (g.B.Bank.view c.args.bank.now) (g.B.Bank.view c.find_log.new.bank) (g.B.Bank.view c.find_members.new.bank) c.find_log.ensures.reads c.find_members.ensures.reads
           (g.met.B.Bank.lawful c.find_log.new.bank) c.in_ok-found.ensures.ok c.in_ok-head.ensures.ok
           (g.B.Bank.view c.put_changed.new.bank) c.put_changed.new.cell c.in_ok-found.found.index
           c.in_ok-found.found.buffers c.in_ok-found.ensures.index c.in-Ok.ensures.ok c.put_changed.ensures.sizes;
+      index = index_put c.in_ok-found.found.g c.in_ok-found.found.head c.in_ok-head.head c.in_ok-found.found.cell c.in_ok-found.found.stage
+          (g.B.Bank.view c.args.bank.now) (g.B.Bank.view c.find_log.new.bank) (g.B.Bank.view c.find_members.new.bank) c.find_log.ensures.reads c.find_members.ensures.reads
+          (g.met.B.Bank.lawful c.find_log.new.bank) c.in_ok-found.ensures.ok c.in_ok-head.ensures.ok c.in_ok-found.found.index c.in_ok-found.ensures.index;
       head = mount_head c.in_ok-found.found.g c.in_ok-found.found.head c.in_ok-head.head c.in_ok-found.found.cell c.in_ok-found.found.stage
           (g.B.Bank.view c.args.bank.now) (g.B.Bank.view c.find_log.new.bank) (g.B.Bank.view c.find_members.new.bank) c.find_log.ensures.reads c.find_members.ensures.reads
           (g.met.B.Bank.lawful c.find_log.new.bank) c.in_ok-found.ensures.ok c.in_ok-head.ensures.ok

@@ -1,5 +1,5 @@
 use Rattle.trap_bank.proofs.Moves.{read_steps}
-use Rattle.trap_mount.proofs.MountReads.{stable_read}
+use Rattle.trap_raid.proofs.OwnDisks.{stable_read}
 use Rattle.trap_mount.proofs.mounting.header.settle.Goals as goal
 
 pub returns-clause-stable : goal.returns-clause-stable

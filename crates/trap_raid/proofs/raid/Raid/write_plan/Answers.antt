@@ -9,9 +9,9 @@ use Rattle.trap_map.specs.Layout.{parity_member, block_place}
 use Rattle.trap_pool.specs.Pooled.{pool_block}
 use Rattle.trap_raid.specs.Condition.{Condition}
 use Rattle.trap_raid.proofs.PoolLemmas.{plan_holds, only_planned, only_planning}
-use Rattle.trap_raid.proofs.ReadLemmas.{still_tells, place_fits_along, place_fits_at, failed_after}
+use Rattle.trap_raid.proofs.ReadLemmas.{place_fits_along, place_fits_at, failed_after}
 use Rattle.trap_raid.proofs.TableLemmas.{stand_along, plan_from_reads}
-use Rattle.trap_bank.proofs.OnlyReads.{reads_then}
+use Rattle.trap_bank.proofs.OnlyReads.{reads_then, told_after}
 use Rattle.trap_raid.specs.Standing.{plan_reads}
 use Rattle.trap_raid.proofs.StandingLemmas.{plan_by_reads}
 use Rattle.trap_raid.proofs.CostLemmas.{takes_failed, plan_failed_first, plan_stopped_first, plan_stopped_second, plan_both, plan_done}
@@ -56,7 +56,7 @@ returns-clause-plan g c = λ told image is_image stands.
     (pool_block c.xor-2.new.self c.args.delta.now) (pool_block c.xor-2.new.self c.args.parity.now)
     is_image c.requires.block size is_place is_member
     (c.in_ok-read_place.ensures.table told image is_image stands) holds.delta_is
-    (c.in_ok-read_place-2.ensures.table (still_tells old mid c.read_place.ensures.any_moment told) image is_image again) holds.parity_is
+    (c.in_ok-read_place-2.ensures.table (told_after old mid c.read_place.ensures.any_moment told) image is_image again) holds.parity_is
 
 -- each read gives what stands there
 pub returns-clause-bytes : goal.returns-clause-bytes
@@ -74,7 +74,7 @@ returns-clause-bytes g c = λ told.
     (pool_block c.xor-2.new.self c.args.delta.now) (pool_block c.xor-2.new.self c.args.parity.now)
     (c.read_place.ensures.any_moment.same told) is_place is_member
     (c.in_ok-read_place.ensures.bytes told) holds.delta_is
-    (c.in_ok-read_place-2.ensures.bytes (still_tells old mid c.read_place.ensures.any_moment told)) holds.parity_is
+    (c.in_ok-read_place-2.ensures.bytes (told_after old mid c.read_place.ensures.any_moment told)) holds.parity_is
 
 pub returns-in_err-read_place-clause-calls : goal.returns-in_err-read_place-clause-calls
 returns-in_err-read_place-clause-calls g c =
