@@ -1,0 +1,4 @@
+pub mod RowLemmas
+mod RowSteps
+mod DiskSteps
+mod LeaseLemmas
