@@ -1,20 +1,23 @@
 -- Why a call answers no value, case by case.
-use Rattle.std.proofs.Common.{◌≡◌, ◌≢◌, ◌↔◌, ℕ, ◌<◌, ◌≤◌, Bool, true, false, if◌then◌else◌, ◌==◌, ◌^◌, nat_lt, Option, Some, None, Result, Err, IfErr, ⊎_elim, refl, subst, arith}
+use Rattle.std.proofs.Common.{◌≡◌, ◌≢◌, ◌↔◌, ℕ, ◌<◌, ◌≤◌, Bool, true, false, if◌then◌else◌, ◌==◌, ◌^◌, nat_lt, Option, Some, None, Result, Err, IfErr, IsErrOf, IsTrue, ⊎_elim, refl, subst, arith}
 use Rattle.trap_bank.specs.Disks.{View}
+use Rattle.trap_bank.specs.Steps.{Always}
 use Rattle.trap_format.specs.declared.head.Head.{Head}
 use Rattle.trap_index.specs.Indexed.{Indexed, last_seq}
 use Rattle.trap_model.specs.Image.{volume}
 use Rattle.trap_model.specs.Limits.{greatest_record}
+use Rattle.trap_model.specs.declared.history.State.{State}
 use Rattle.trap_model.specs.declared.request.Refusal.{Refusal}
 use Rattle.trap_model.specs.declared.request.Refusal.TheVariants.{NoBlock, TimeBack, Worn, Full, NotKept, Ahead}
 use Rattle.trap_raid.proofs.FitLemmas.{others_count}
-use Rattle.trap_array.specs.Calls.{Mounted, MemberFails}
+use Rattle.trap_array.specs.Calls.{Mounted, StandsFor, MemberFails}
 use Rattle.trap_array.specs.Causes.{Reasons, DeniedBy, of_write, of_reading}
-use Rattle.trap_array.specs.Instants.{DeniesInstant, FailsRead, number_refused, time_refused}
+use Rattle.trap_array.specs.Coded.{DeniesCode}
+use Rattle.trap_array.specs.Instants.{DeniesInstant, FailsRead, FailsRecord, number_refused, time_refused}
 use Rattle.trap_array.specs.Turning.{Denies, IsFull, early_refusal}
 use Rattle.trap_array.specs.Untouched.{Untouched}
 use Rattle.trap_array.specs.declared.fault.Denied.{Denied}
-use Rattle.trap_array.specs.declared.fault.Denied.TheVariants.{Refused, LogFault, MemberFault, Stopped}
+use Rattle.trap_array.specs.declared.fault.Denied.TheVariants.{Refused, LogFault, MemberFault, Damaged, Stopped}
 
 -- ---- no call of the bank
 pub untouched_none : (v : View) → Untouched v v
@@ -114,6 +117,25 @@ module _ {T : Type 0} (a : Mounted) (block : ℕ) (own : Option Refusal) (result
     where
       not_both : a.is_stopped ≡ true → ⊥
       not_both stopped = cc (stopped, running)
+
+-- ---- a code that isn't answered
+module _ {T : Type 0} (a : Mounted) (q : ℕ) where
+  pub no_code_stopped : (v : View) → a.is_stopped ≡ true → DeniesCode {T = T} a q (Err Stopped) v v
+  no_code_stopped v stopped = record {
+    stopped = ((λ is. stopped), (λ same. refl));
+    untouched = λ same. untouched_none v;
+    cause = λ running. absurd (cc (stopped, running));
+    damaged = λ offset is. absurd (cc is);
+  }
+
+  pub no_code : (result : Result T Denied) (v w : View) → a.is_stopped ≡ false → IfErr result (FailsRecord a q v w)
+      → ((offset : ℕ) → IsErrOf result (Damaged offset) → IsTrue v.tells → (s : State) → Always v (StandsFor a s) → ⊥) → DeniesCode a q result v w
+  no_code result v w running cause damaged = record {
+    stopped = ((λ is. absurd (error_meets (FailsRecord a q v w) result Stopped cause is)), (λ stopped. absurd (cc (stopped, running))));
+    untouched = λ stopped. absurd (cc (stopped, running));
+    cause = λ same. cause;
+    damaged = damaged;
+  }
 
 -- ---- what the array's own numbers refuse
 not_full_if : (b : Bool) (it : Refusal) (other : Option Refusal) → it ≢ Full → (other ≡ Some Full → ⊥) → (if b then Some it else other) ≡ Some Full → ⊥

@@ -19,3 +19,6 @@ pub mod Removed
 pub mod Sources
 pub mod LookingBack
 pub mod Leasing
+pub mod Codes
+pub mod Asking
+pub mod AtOnce

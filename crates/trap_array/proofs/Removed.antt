@@ -1,9 +1,9 @@
 -- What disks hold without the disk of a member.
-use Rattle.std.proofs.Common.{◌≡◌, ℕ, ◌+◌, List, Bool, Option, Some, None, inl, inr, ⊎_elim, refl, sym, ap, subst, ◌∙◌, arith}
+use Rattle.std.proofs.Common.{◌≡◌, ℕ, ◌+◌, List, inl, inr, ⊎_elim, sym, ap, subst, ◌∙◌, arith}
 use Rattle.std.proofs.lemmas.Bool.{cases_eq}
 use Rattle.trap_bank.specs.Disks.{Disks, size_of}
 use Rattle.trap_bank.proofs.Regions.{byte_of_disk, region_of_disk}
-use Rattle.trap_cell.specs.Slots.{Place, slot_at, value_at, current_slot, cell_value}
+use Rattle.trap_cell.proofs.Keeping.{value_on_disk}
 use Rattle.trap_format.specs.LogDisk.{slot_len, IsLogHeader}
 use Rattle.trap_model.specs.State.{image}
 use Rattle.trap_model.specs.declared.history.State.{State}
@@ -15,14 +15,6 @@ use Rattle.trap_stage.specs.Slots.{slot_start}
 use Rattle.trap_array.specs.Gone.{HoldsBut, IsRemoved}
 use Rattle.trap_array.specs.Holding.{head_place, log_ring, HoldsBy, Holds}
 
--- a cell's value is what stands on its disk
-pub value_of_disk : (p : Place) (x y : Disks) → y p.disk ≡ x p.disk → cell_value p y ≡ cell_value p x
-value_of_disk p x y same = in_slot (current_slot p y) ∙ ap (λ (slot : Option Bool). value_at slot p x) (ap (λ (disk : Option (List ℕ)). current_slot p (λ e. disk)) same)
-  where
-    in_slot : (slot : Option Bool) → value_at slot p y ≡ value_at slot p x
-    in_slot None = refl
-    in_slot (Some second) = ap {B = Option (List ℕ)} Some (region_of_disk x y p.disk (slot_at p second + 2) p.size same)
-
 module _ (g : Geometry) (s : State) (m : ℕ) (x y : Disks) (but : HoldsBut g s m x) (gone : IsRemoved m x y) where
   log_same : y 0 ≡ x 0
   log_same = gone.others 0 (λ e. omega (arith, e))
@@ -32,7 +24,7 @@ module _ (g : Geometry) (s : State) (m : ℕ) (x y : Disks) (but : HoldsBut g s 
       let fits = but.by.fits in
       let same = log_same in
       record {
-        value = value_of_disk head_place x y same ∙ but.by.value;
+        value = value_on_disk head_place x y same ∙ but.by.value;
         fits = record {
           valid = fits.valid;
           head = fits.head;

@@ -1,9 +1,9 @@
 -- The steps of a write, one after the other.
-use Rattle.std.proofs.Common.{◌≡◌, ◌≢◌, ◌⊎◌, ℕ, ◌+◌, ◌<◌, ◌≤◌, ◌^◌, List, length, Option, Some, None, Result, Ok, Err, IfErr, IsTrue, inl, inr, ⊎_elim, sym, ap, subst, ◌∙◌, arith}
+use Rattle.std.proofs.Common.{◌≡◌, ◌≢◌, ◌⊎◌, ℕ, ◌+◌, ◌<◌, ◌≤◌, ◌^◌, List, length, Option, Some, None, Result, Ok, Err, IfErr, IsTrue, false, inl, inr, ⊎_elim, sym, ap, subst, ◌∙◌, arith}
 use Rattle.std.proofs.lemmas.Bool.{cases_lt}
 use Rattle.trap_bank.specs.Disks.{Disks, View}
-use Rattle.trap_bank.specs.Faults.{Rose}
 use Rattle.trap_bank.specs.Steps.{Moves, Same, Always}
+use Rattle.trap_bank.proofs.Rising.{rose_since}
 use Rattle.trap_bank.proofs.Moves.{moves_weaken, read_is_left}
 use Rattle.trap_block.specs.Xor.{xor}
 use Rattle.trap_map.specs.Layout.{block_place}
@@ -28,7 +28,7 @@ use Rattle.trap_model.proofs.Refusals.{is_block, write_back, write_worn, write_m
 use Rattle.trap_raid.specs.Members.{Counts}
 use Rattle.trap_raid.specs.Plan.{IsPlan}
 use Rattle.trap_array.specs.Beside.{StaysFrom}
-use Rattle.trap_array.specs.Calls.{Mounted, StandsFor, HoldsLike, SameArray, AtAnyMoment, StandsAfterCall, MemberFails, WriteReplies, is_over, running}
+use Rattle.trap_array.specs.Calls.{Mounted, StandsFor, HoldsLike, SameArray, AtAnyMoment, StandsAfterCall, MemberFails, WriteReplies, is_fault, running}
 use Rattle.trap_array.specs.Log.{IndexedLog, AreInStep}
 use Rattle.trap_array.specs.NextHead.{entry_for, IsPlanned}
 use Rattle.trap_array.specs.Ready.{KnowsCell}
@@ -56,7 +56,7 @@ fault_denies a v w (MemberFault first second) fault = fault
 fault_denies a v w (Damaged offset) fault = fault
 fault_denies a v w Stopped fault = fault
 
-fault_not_done : (a : Mounted) (v w : View) (e : Denied) → IsFaultOf a v w e → IsTrue (is_over {T = ℕ} (Err e)) → ⊥
+fault_not_done : (a : Mounted) (v w : View) (e : Denied) → IsFaultOf a v w e → is_fault {T = ℕ} (Err e) ≡ false → ⊥
 fault_not_done a v w (Refused why) fault done = fault
 fault_not_done a v w LogFault fault done = cc
 fault_not_done a v w (MemberFault first second) fault done = cc
@@ -69,10 +69,6 @@ fault_replies a v w LogFault fault reply = tt
 fault_replies a v w (MemberFault first second) fault reply = tt
 fault_replies a v w (Damaged offset) fault reply = tt
 fault_replies a v w Stopped fault reply = tt
-
--- a count that rose after a first call has risen since before it
-rose_since : (a b c : ℕ) → a ≤ b → Rose b c → Rose a c
-rose_since a b c le rose = omega arith
 
 member_since : (a b : Mounted) (u v w : View) (first second : ℕ) → SameArray a b → ((e : ℕ) → u.faults e ≤ v.faults e) → MemberFails b first second v w → MemberFails a first second u w
 member_since a b u v w first second on le fails = record {

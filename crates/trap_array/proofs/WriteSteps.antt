@@ -17,7 +17,7 @@ use Rattle.trap_model.specs.declared.request.Reply.{Reply}
 use Rattle.trap_model.specs.declared.request.Request.TheVariants.{Write, Read}
 use Rattle.trap_model.specs.declared.request.Reply.TheVariants.{Is, No}
 use Rattle.trap_model.proofs.Refusals.{no_block, is_block}
-use Rattle.trap_array.specs.Calls.{Mounted, StandsFor, HoldsLike, TakesTo, HasSizes, IsReady, SameArray, AtAnyMoment, StandsAfterCall, is_fault, is_over, running}
+use Rattle.trap_array.specs.Calls.{Mounted, StandsFor, HoldsLike, TakesTo, HasSizes, IsReady, SameArray, AtAnyMoment, StandsAfterCall, is_fault, running}
 use Rattle.trap_pool.specs.Pooled.{free_of}
 use Rattle.trap_stage.specs.Slots.{Stage}
 use Rattle.trap_array.specs.Growing.{HasRecordOf, IndexAfterFault, IndexAfter}
@@ -54,6 +54,11 @@ pub buffers_are : (log : IndexedLog) (buffers : Buffers) (stopped : Bool) (block
 buffers_are log buffers stopped block have =
     ap (λ (n : ℕ). record (mounted log stopped) { blocks = n }) (sym have.blocks)
     ∙ ap (λ (n : ℕ). record (mounted log stopped) { blocks = length buffers.pool.blocks; free = n }) (sym have.free)
+
+-- so is one in memory
+pub array_is : {log : Log} {index : Indexed} {buffers : Buffers} {stopped : Bool} → IsArray log index buffers stopped
+    → mounted (with_index log index) stopped ≡ with_buffers (with_index log index) buffers stopped
+array_is {log} {index} {buffers} {stopped} is = buffers_are (with_index log index) buffers stopped log.g.block is.room
 
 -- whether it is stopped says nothing of the disks
 pub as_going : (log : IndexedLog) (stopped : Bool) (s : State) (x : Disks) → StandsFor (mounted log stopped) s x → StandsFor (running log) s x
@@ -112,15 +117,6 @@ module _ (a : Mounted) (v : View) (time block : ℕ) (bytes : List ℕ) (beyond 
       (λ x y was same s always. inl (holds_still a s y.disks (subst (λ (d : Disks). StandsFor a s d) (sym same) (always x was))))
       (λ x y was left same s always. inl (holds_still a s y.disks (subst (λ (d : Disks). StandsFor a s d) (sym same) (always x was))))
 
--- no fault came
-not_failed : (a : Mounted) (v w : View) (result : Result ℕ Denied) → IfErr result (Denies a v w) → is_fault result ≡ false → IsTrue (is_over result)
-not_failed a v w (Ok value) cause none = refl
-not_failed a v w (Err (Refused why)) cause none = refl
-not_failed a v w (Err LogFault) cause none = cc
-not_failed a v w (Err (MemberFault first second)) cause none = cc
-not_failed a v w (Err (Damaged offset)) cause none = absurd cause
-not_failed a v w (Err Stopped) cause none = absurd cause
-
 -- the sizes of an array that goes on
 sizes_along : (a b : Mounted) (v w : View) → SameArray a b → ((d : ℕ) → w.sizes d ≡ v.sizes d) → HasSizes a.g a.head.lost a.head.rebuilt v → HasSizes b.g b.head.lost b.head.rebuilt w
 sizes_along a b v w on same sizes = sizes_on a.g b.g a.head b.head v w on.g on.follows same sizes
@@ -134,9 +130,9 @@ pub ready_after : (a b : IndexedLog) (next : State → State) (replies : State �
     → HasSizes a.g a.head.lost a.head.rebuilt v → IsReady (mounted b stopped) w
 ready_after a b next replies result v w stopped turns is sizes = record {
   sizes = λ none. let along = sizes_along (running a) (running b) v w turns.same_array turns.sizes sizes in record { log = along.log; members = along.members };
-  stands = λ none. (turns.cell (not_failed (running a) v w result turns.cause (sym is ∙ none))).stands;
-  value = λ none. (turns.cell (not_failed (running a) v w result turns.cause (sym is ∙ none))).value;
-  count = λ none. counted b.head b.stage b.index (turns.in_step (not_failed (running a) v w result turns.cause (sym is ∙ none)));
+  stands = λ none. (turns.cell (sym is ∙ none)).stands;
+  value = λ none. (turns.cell (sym is ∙ none)).value;
+  count = λ none. counted b.head b.stage b.index (turns.in_step (sym is ∙ none));
   room = (refl, refl);
 }
 
@@ -147,7 +143,7 @@ pub array_after : (a b : Log) (i j : Indexed) (room : Buffers) (next : State →
 array_after a b i j room next replies time block result v w stopped turns after is same blocks = record {
   room = subst (λ (g : Geometry). HaveBlocksOf g.block room) (sym turns.same_array.g) blocks;
   same = index_same (running (with_index a i)) (running (with_index b j)) time block result after ∙ same ∙ sym turns.same_array.g;
-  in_step = λ none. turns.in_step (not_failed (running (with_index a i)) v w result turns.cause (sym is ∙ none));
+  in_step = λ none. turns.in_step (sym is ∙ none);
 }
 
 -- calls that only read leave an array ready
@@ -173,7 +169,7 @@ stays_same log buffers was stopped a result block have is running by =
 pub reads_keep : {T : Type 0} (a b : Mounted) (stopped : Bool) (result : Result T Denied) (v w : View) → OnlyReads v w → b ≡ record a { is_stopped = stopped } → TakesTo a b (λ s. s) result v w
 reads_keep {T = T} a b stopped result v w reads is =
     subst (λ (m : Mounted). TakesTo a m (λ s. s) result v w) (sym is) (record {
-      turned = λ done. moves_weaken v w Same Same (AtAnyMoment a v (λ s. s)) (StandsAfterCall a (record a { is_stopped = stopped }) v (λ s. s)) reads.moves
+      turned = λ done running. moves_weaken v w Same Same (AtAnyMoment a v (λ s. s)) (StandsAfterCall a (record a { is_stopped = stopped }) v (λ s. s)) reads.moves
           (λ x y was same s always. inl (held s x.disks y.disks same (always x was)))
           (λ x y was left same s always.
           let there = subst (λ (d : Disks). StandsFor a s d) (sym same) (always x was) in

@@ -43,14 +43,11 @@ pub record CallsInRead {T : Type 0} (a : Mounted) (block : ℕ) (result : Result
 abbrev pub is_slot_free : Mounted → Bool
 is_slot_free a = nat_lt (pending_writes a.head) a.g.slots
 
--- the calls that put these pending writes onto the members, and then the head that says so
-abbrev pub drained_calls : Mounted → List Staged → Slots → ℕ
-drained_calls a writes cell =
-    drain_calls a.g a.head.lost a.head.rebuilt writes + put_calls cell
-
--- the calls that make a slot free: none where one is
+-- the calls that make a slot free: none where one is; otherwise those that put the pending writes
+-- onto the members, and then the head that says so
 abbrev pub room_calls : Mounted → ℕ
-room_calls a = if is_slot_free a then 0 else drained_calls a a.pending a.cell
+room_calls a = if is_slot_free a then 0
+    else drain_calls a.g a.head.lost a.head.rebuilt a.pending + put_calls a.cell
 
 -- the calls that put a block and the parity of its row onto the members
 abbrev pub block_calls : Mounted → ℕ → ℕ

@@ -1,5 +1,5 @@
 -- What the calls of a mounted array do.
-use Rattle.std.specs.Prelude.{◌≡◌, ℕ, List, Bool, true, false, IsTrue, Result, Ok, Err}
+use Rattle.std.specs.Prelude.{◌≡◌, ◌≢◌, ℕ, List, Bool, true, false, IsTrue, Result, Ok, Err}
 use Rattle.trap_bank.specs.Disks.{View}
 use Rattle.trap_bank.specs.Steps.{Moves, Always}
 use Rattle.trap_model.specs.ArrayStep.{step}
@@ -23,21 +23,13 @@ is_fault (Err (MemberFault first second)) = true
 is_fault (Err (Damaged offset)) = false
 is_fault (Err Stopped) = false
 
--- the call did nothing, since the array was stopped, or a fault came
-abbrev pub is_over : {T : Type 0} → Result T Denied → Bool
-is_over (Ok value) = true
-is_over (Err (Refused why)) = true
-is_over (Err LogFault) = false
-is_over (Err (MemberFault first second)) = false
-is_over (Err (Damaged offset)) = true
-is_over (Err Stopped) = false
-
--- What a call makes of the state that the array stood for: unless it failed, the array stands for
--- the next one. Stopped at any moment, the disks hold the state or the next one.
+-- What a call makes of the state that the array stood for: unless a fault came, or the array was
+-- stopped, the array stands for the next one. Stopped at any moment, the disks hold the state or
+-- the next one.
 pub record TakesTo {T : Type 0} (a b : Mounted) (next : State → State) (result : Result T Denied)
     (old new : View) : Type 0 where
-  pub turned : IsTrue (is_over result) → Moves old new (AtAnyMoment a old next)
-      (StandsAfterCall a b old next)
+  pub turned : is_fault result ≡ false → result ≢ Err Stopped
+      → Moves old new (AtAnyMoment a old next) (StandsAfterCall a b old next)
   pub any_moment : Moves old new (AtAnyMoment a old next) (AtAnyMoment a old next)
 
 -- What a read did: its answer is a reply of this kind to the state that the array stood for, and

@@ -1,10 +1,12 @@
 -- Why a call of a mounted array answers no value.
 use Rattle.std.specs.Prelude.{◌≡◌, ◌≢◌, ◌↔◌, ◌⊎◌, ℕ, ◌<◌, ◌≤◌, Option, Some, None, true, false}
+use Rattle.std.specs.Prelude.{Bool}
 use Rattle.std.specs.Prelude.{Result, Err}
 use Rattle.trap_bank.specs.Disks.{View}
 use Rattle.trap_bank.specs.Faults.{Rose}
 use Rattle.trap_model.specs.Image.{volume}
 use Rattle.trap_model.specs.Limits.{greatest_record}
+use Rattle.trap_model.specs.declared.numbers.Geometry.{Geometry}
 use Rattle.trap_model.specs.declared.request.Refusal.{Refusal}
 use Rattle.trap_model.specs.declared.request.Refusal.TheVariants.{NoBlock, Full}
 use Rattle.trap_raid.specs.Members.{Counts}
@@ -49,6 +51,12 @@ of_number a seq = of_reading a (number_refused a.index seq)
 
 abbrev pub of_time : Mounted → ℕ → Reasons
 of_time a time = of_reading a (time_refused a.index time)
+
+-- what is denied before anything else, in this order: a block that isn't there, and then any by a
+-- stopped array
+abbrev pub DeniesAtOnce : Geometry → Bool → ℕ → Denied → Type 0
+DeniesAtOnce g is_stopped block why = ((why ≡ Refused NoBlock) × (volume g ≤ block))
+    ⊎ ((why ≡ Stopped) × (block < volume g) × (is_stopped ≡ true))
 
 -- A block that isn't there is refused first, and then a stopped array denies it. Then the array's
 -- own numbers refuse it, whatever the bank tells. None of these makes a call of the bank. Where a

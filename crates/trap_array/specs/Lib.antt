@@ -23,6 +23,8 @@ pub use Rattle.trap_mount.specs.Creating
 pub use Rattle.trap_mount.specs.MountSteps
 pub use Rattle.trap_mount.specs.Reading
 pub mod Instants
+pub mod Coded
+pub mod Asked
 pub mod Sources
 pub mod Calling
 pub mod SourceLaws

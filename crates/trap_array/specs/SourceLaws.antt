@@ -4,8 +4,7 @@ use Rattle.std.proofs.lemmas.Bool.{cases_eq}
 use Rattle.trap_bank.specs.Steps.{OnlyReads}
 use Rattle.trap_bank.specs.Disks.{Contents, View}
 use Rattle.trap_model.specs.declared.history.State.{State}
-use Rattle.trap_bank.proofs.OnlyReads.{reads_none, reads_then}
-use Rattle.trap_raid.proofs.ReadLemmas.{still_tells}
+use Rattle.trap_bank.proofs.OnlyReads.{reads_none, reads_then, told_after}
 use Rattle.trap_array.specs.Calls.{Mounted, StandsFor, running}
 use Rattle.trap_array.specs.Instants.{FailsByDisk}
 use Rattle.trap_array.specs.Log.{IndexedLog}
@@ -24,7 +23,7 @@ module _ (log same : IndexedLog) (x y z : CallCounts) (a b c : View) (is : log �
       → CallsBeside sum x z a c
   both m n sum is before after told one =
       let front = before told one in
-      let rest = after (still_tells a b first.reads told) (subst IsTrue (sym first.by_one) one) in
+      let rest = after (told_after a b first.reads told) (subst IsTrue (sym first.by_one) one) in
       omega (arith, front, rest, is)
 
   still_none : z.presents ≡ x.presents → (z.asked ≡ x.asked) × CallsBeside 0 x z a c
@@ -97,7 +96,7 @@ failed_since log same x y z a b c e is looks then =
         looks.presents,
       ));
       damaged =
-          λ offset at told s stands. failed.damaged offset at (still_tells a b looks.reads told) s
+          λ offset at told s stands. failed.damaged offset at (told_after a b looks.reads told) s
           (still_stands log a b s looks.reads told stands);
     }
 

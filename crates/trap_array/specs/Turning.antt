@@ -1,5 +1,5 @@
 -- What a write does, step by step, to the state that an array stands for.
-use Rattle.std.specs.Prelude.{◌≡◌, ◌≢◌, ℕ, ◌+◌, Result, IfErr, IsTrue}
+use Rattle.std.specs.Prelude.{◌≡◌, ◌≢◌, ℕ, ◌+◌, Result, IfErr, IsTrue, false}
 use Rattle.trap_bank.specs.Disks.{View}
 use Rattle.trap_bank.specs.Steps.{Moves, Always}
 use Rattle.trap_model.specs.declared.history.State.{State}
@@ -7,7 +7,7 @@ use Rattle.trap_model.specs.declared.request.Refusal.TheVariants.{NoBlock}
 use Rattle.trap_model.specs.declared.request.Reply.{Reply}
 use Rattle.trap_array.specs.Beside.{StaysFrom}
 use Rattle.trap_array.specs.Calls.{Mounted, StandsFor, SameArray, AtAnyMoment, StandsAfterCall}
-use Rattle.trap_array.specs.Calls.{MemberFails, WriteReplies, is_over, running}
+use Rattle.trap_array.specs.Calls.{MemberFails, WriteReplies, is_fault, running}
 use Rattle.trap_array.specs.Ending.{EndsBy}
 use Rattle.trap_array.specs.Log.{IndexedLog, AreInStep}
 use Rattle.trap_array.specs.Ready.{KnowsCell}
@@ -30,10 +30,10 @@ pub record MovesLog (a b : IndexedLog) (next : State → State) (replies : State
     (result : Result ℕ Denied) (old new : View) : Type 0 where
   pub reply : IsTrue old.tells → (s : State) → Always old (StandsFor (running a) s)
       → WriteReplies result (replies s)
-  pub turned : IsTrue (is_over result) → Moves old new (AtAnyMoment (running a) old next)
+  pub turned : is_fault result ≡ false → Moves old new (AtAnyMoment (running a) old next)
       (StandsAfterCall (running a) (running b) old next)
-  pub in_step : IsTrue (is_over result) → AreInStep b.head b.stage b.index
-  pub cell : IsTrue (is_over result) → KnowsCell b.cell b.head new
+  pub in_step : is_fault result ≡ false → AreInStep b.head b.stage b.index
+  pub cell : is_fault result ≡ false → KnowsCell b.cell b.head new
   pub same_array : SameArray (running a) (running b)
   pub sizes : (e : ℕ) → new.sizes e ≡ old.sizes e
   pub others : StaysFrom (a.g.members + 1) old new

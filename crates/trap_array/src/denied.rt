@@ -1,6 +1,8 @@
-//! The faults of the layers below, as a call of an array answers them.
+//! The faults of the layers below, as a call of an array answers them; and which of its answers are
+//! faults.
 
 ghost use Rattle.std.specs.Prelude.{◌≡◌};
+ghost use Rattle.trap_array.specs.Calls.{is_fault};
 ghost use Rattle.trap_array.specs.Ending.{denied_by};
 ghost use Rattle.trap_array.specs.declared.fault.Denied.TheVariants.{LogFault, MemberFault};
 
@@ -40,4 +42,11 @@ impl From<DrainFault> for Denied {
             },
         }
     }
+}
+
+/// Whether a call ended by a fault, which stops the array.
+pub(crate) fn has_failed<T>(answer: &Result<T, Denied>) -> bool
+    ensures { result ≡ is_fault answer.now }
+{
+    matches!(answer, Err(Denied::LogFault | Denied::MemberFault { .. }))
 }

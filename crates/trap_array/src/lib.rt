@@ -2,10 +2,12 @@
 #![tactic(auto)]
 
 mod array;
+mod coded;
 mod denied;
 mod fault;
 mod fetch;
 mod held;
+mod instant;
 pub mod laws;
 mod log_past;
 mod mount;

@@ -17,7 +17,7 @@ impl Array {
         ensures mounted { IfOk result (λ a. MountsFor a (B.view bank.old) (B.view bank.new)) }
         ensures ended { IfErr result (λ why. MountEnds why (B.view bank.old) (B.view bank.new)) }
         ensures no_log { IsNoLog ((B.view bank.old).sizes 0)
-            → IsErrOf result MountFault.NotAnArray }
+            → IsErrOf result MountFault.NotAnArray × (bank.new ≡ bank.old) }
         ensures sizes { (e : ℕ) → (B.view bank.new).sizes e ≡ (B.view bank.old).sizes e }
 
         // Whatever the answer, no disk but the log changes.

@@ -1,33 +1,34 @@
 //! Reads of earlier instants.
 
 ghost use Rattle.std.specs.Prelude.{◌≡◌, ◌↔◌, ◌≤◌, ◌<◌, ℕ, length, IsTrue, IsErrOf, IfErr, ◌||◌};
+ghost use Rattle.std.specs.Prelude.{None};
 ghost use Rattle.trap_bank.specs.Steps.{Always, OnlyReads};
 ghost use Rattle.trap_model.specs.ArrayStep.{step};
 ghost use Rattle.trap_model.specs.Image.{volume};
-ghost use Rattle.trap_model.specs.State.{image_at, image_by};
 ghost use Rattle.trap_model.specs.declared.history.State.{State};
 ghost use Rattle.trap_model.specs.declared.request.Refusal.{Refusal};
 ghost use Rattle.trap_model.specs.declared.request.Request.TheVariants as request;
-ghost use Rattle.trap_index.specs.Describes.{Describes};
 ghost use Rattle.trap_index.specs.Indexed.{IsLastBy};
+ghost use Rattle.trap_array.specs.Asked.{HasBadRecordAfter, IsAfter, IsDamagedSince, request_at};
+ghost use Rattle.trap_array.specs.Asked.{instant_refused, of_instant};
 ghost use Rattle.trap_array.specs.Calls.{AnswersRead, IsReady, StandsFor, AtReplies, is_fault};
 ghost use Rattle.trap_array.specs.Calls.{running};
 ghost use Rattle.trap_array.specs.Causes.{DeniedBy, of_number, of_time};
 ghost use Rattle.trap_array.specs.Instants.{CanLookBack, DeniesInstant, HasBadRecord};
-ghost use Rattle.trap_array.specs.Instants.{HasBadRecordBy, IsDamagedAfter, IsDamagedBy};
-ghost use Rattle.trap_array.specs.Instants.{number_refused, time_refused};
+ghost use Rattle.trap_array.specs.Instants.{HasBadRecordBy, HasInstant};
 ghost use Rattle.trap_array.specs.Log.{HaveBlocksOf, with_index};
 ghost use Rattle.trap_array.specs.Sources.{CallsAtMost, reads_back};
 ghost use Rattle.trap_array.specs.Untouched.{Untouched};
 ghost use Rattle.trap_array.specs.declared.fault.Denied.TheVariants as Denied;
 
-use crate::refusals::{number_refusal, time_refusal};
+use crate::denied::has_failed;
+use crate::instant::Instant;
+use crate::refusals::{admit, refusal};
 use crate::source::look_back;
 use crate::{Array, Denied};
 use trap_bank::Bank;
 use trap_index::Index;
 use trap_log::Log;
-use trap_model::Refusal;
 use trap_mount::Buffers;
 
 impl Array {
@@ -44,16 +45,9 @@ impl Array {
         requires ready { IsReady self.old (B.view bank.old) }
         ensures answers { AnswersRead self.old self.new (request.At seq block)
             (AtReplies result into.new) result (B.view bank.old) (B.view bank.new) }
-
-        // At most the reads of its present contents, none of them a lost member's, and two for each
-        // later write of the block, whose record may go round the ring's end.
-        ensures calls { CallsAtMost (reads_back self.old block seq) (B.view bank.old)
-            (B.view bank.new) }
         ensures ready { IsReady self.new (B.view bank.new) }
         ensures same { self.new
             ≡ record self.old { is_stopped = self.old.is_stopped || is_fault result } }
-        ensures causes { DeniedBy self.old block (of_number self.old seq) result (B.view bank.old)
-            (B.view bank.new) }
 
         // A record is damaged only where it is that of a later write of the block, and none with
         // the header that the array knows is there: so never where the array stands for a state.
@@ -64,27 +58,18 @@ impl Array {
             → IsTrue (B.view bank.old).tells
             → (s : State) → Always (B.view bank.old) (StandsFor self.old s) → ⊥ }
 
+        ensures causes { DeniedBy self.old block (of_number self.old seq) result (B.view bank.old)
+            (B.view bank.new) }
+
+        // At most the reads of its present contents, none of them a lost member's, and two for each
+        // later write of the block, whose record may go round the ring's end.
+        ensures calls { CallsAtMost (reads_back self.old block seq) (B.view bank.old)
+            (B.view bank.new) }
+
         // Stopped at any moment, the disks are as they were.
         ensures any_moment { OnlyReads (B.view bank.old) (B.view bank.new) }
     {
-        if block >= u64::from(self.log.geometry().volume()) {
-            return Err(Denied::Refused(Refusal::NoBlock));
-        }
-        if self.is_stopped {
-            return Err(Denied::Stopped);
-        }
-        let answer = look_back_to_number(
-            &self.log,
-            &self.index,
-            bank,
-            &mut self.buffers,
-            block as u32,
-            seq,
-            into,
-        );
-        // A fault stops the array, and a damaged record doesn't.
-        self.is_stopped = has_failed(&answer);
-        answer
+        self.at_instant(bank, block, Instant::Number(seq), into)
     }
 
     /// Reads the contents of a block after all entries with a time of at most `time`, likewise.
@@ -99,34 +84,59 @@ impl Array {
         requires ready { IsReady self.old (B.view bank.old) }
         ensures answers { AnswersRead self.old self.new (request.By time block)
             (AtReplies result into.new) result (B.view bank.old) (B.view bank.new) }
-        ensures calls { (seq : ℕ) → IsLastBy self.old.index time seq
-            → CallsAtMost (reads_back self.old block seq) (B.view bank.old) (B.view bank.new) }
         ensures ready { IsReady self.new (B.view bank.new) }
         ensures same { self.new
             ≡ record self.old { is_stopped = self.old.is_stopped || is_fault result } }
-        ensures causes { DeniedBy self.old block (of_time self.old time) result (B.view bank.old)
-            (B.view bank.new) }
         ensures bad { (offset : ℕ) → IsErrOf result (Denied.Damaged offset)
             → IsTrue (B.view bank.old).tells → HasBadRecordBy self.old.g self.old.index block time
             (B.view bank.old).now.disks offset }
         ensures damaged { (offset : ℕ) → IsErrOf result (Denied.Damaged offset)
             → IsTrue (B.view bank.old).tells
             → (s : State) → Always (B.view bank.old) (StandsFor self.old s) → ⊥ }
+        ensures causes { DeniedBy self.old block (of_time self.old time) result (B.view bank.old)
+            (B.view bank.new) }
+        ensures calls { (seq : ℕ) → IsLastBy self.old.index time seq
+            → CallsAtMost (reads_back self.old block seq) (B.view bank.old) (B.view bank.new) }
         ensures any_moment { OnlyReads (B.view bank.old) (B.view bank.new) }
     {
-        if block >= u64::from(self.log.geometry().volume()) {
-            return Err(Denied::Refused(Refusal::NoBlock));
-        }
-        if self.is_stopped {
-            return Err(Denied::Stopped);
-        }
-        let answer = look_back_to_time(
+        self.at_instant(bank, block, Instant::Time(time), into)
+    }
+
+    /// Reads the contents of a block as they were at an instant, likewise.
+    fn at_instant<B: Bank>(
+        &mut self,
+        bank: &mut B,
+        block: u64,
+        instant: Instant,
+        into: &mut [u8],
+    ) -> Result<(), Denied>
+        requires size { length into.old ≡ self.old.g.block }
+        requires ready { IsReady self.old (B.view bank.old) }
+        ensures answers { AnswersRead self.old self.new (request_at instant block)
+            (AtReplies result into.new) result (B.view bank.old) (B.view bank.new) }
+        ensures ready { IsReady self.new (B.view bank.new) }
+        ensures same { self.new
+            ≡ record self.old { is_stopped = self.old.is_stopped || is_fault result } }
+        ensures bad { (offset : ℕ) → IsErrOf result (Denied.Damaged offset)
+            → IsTrue (B.view bank.old).tells → HasBadRecordAfter self.old.g self.old.index block
+            instant (B.view bank.old).now.disks offset }
+        ensures damaged { (offset : ℕ) → IsErrOf result (Denied.Damaged offset)
+            → IsTrue (B.view bank.old).tells
+            → (s : State) → Always (B.view bank.old) (StandsFor self.old s) → ⊥ }
+        ensures causes { DeniedBy self.old block (of_instant self.old instant) result
+            (B.view bank.old) (B.view bank.new) }
+        ensures calls { (seq : ℕ) → IsAfter self.old.index instant seq
+            → CallsAtMost (reads_back self.old block seq) (B.view bank.old) (B.view bank.new) }
+        ensures any_moment { OnlyReads (B.view bank.old) (B.view bank.new) }
+    {
+        admit(&self.log, self.is_stopped, block)?;
+        let answer = look_back_to(
             &self.log,
             &self.index,
             bank,
             &mut self.buffers,
             block as u32,
-            time,
+            instant,
             into,
         );
         // A fault stops the array, and a damaged record doesn't.
@@ -135,15 +145,14 @@ impl Array {
     }
 }
 
-/// Fills `into` with a block of the array after the entry with this
-/// number, where that is retained.
-fn look_back_to_number<B: Bank>(
+/// Fills `into` with a block of the array as it was at an instant, where that is retained.
+fn look_back_to<B: Bank>(
     log: &Log,
     index: &Index,
     bank: &mut B,
     room: &mut Buffers,
     block: u32,
-    seq: u64,
+    instant: Instant,
     into: &mut [u8],
 ) -> Result<(), Denied>
     requires room { HaveBlocksOf log.now.g.block room.old }
@@ -152,85 +161,39 @@ fn look_back_to_number<B: Bank>(
     requires into { length into.old ≡ log.now.g.block }
     ensures reply { IsTrue (B.view bank.old).tells → (s : State)
         → StandsFor (running (with_index log.now index.now)) s (B.view bank.old).now.disks
-        → AtReplies result into.new
-        ((step log.now.g).reply s (request.At seq block)) }
+        → AtReplies result into.new ((step log.now.g).reply s (request_at instant block)) }
+    ensures room { HaveBlocksOf log.now.g.block room.new }
+    ensures refused { (why : Refusal) → (result ≡ Err (Denied.Refused why))
+        ↔ (instant_refused index.now instant ≡ Some why) }
+    ensures at_once { (why : Refusal) → instant_refused index.now instant ≡ Some why
+        → Untouched (B.view bank.old) (B.view bank.new) }
     ensures damaged { (offset : ℕ) → IsErrOf result (Denied.Damaged offset)
         → IsTrue (B.view bank.old).tells
         → (s : State) → StandsFor (running (with_index log.now index.now)) s
         (B.view bank.old).now.disks → ⊥ }
-    ensures room { HaveBlocksOf log.now.g.block room.new }
     ensures cause { IfErr result (DeniesInstant (running (with_index log.now index.now))
-        (IsDamagedAfter (running (with_index log.now index.now)) block seq (B.view bank.old))
+        (IsDamagedSince (running (with_index log.now index.now)) block instant (B.view bank.old))
         (B.view bank.old) (B.view bank.new)) }
-    ensures refused { (why : Refusal) → (result ≡ Err (Denied.Refused why))
-        ↔ (number_refused index.now seq ≡ Some why) }
-    ensures at_once { (why : Refusal) → number_refused index.now seq ≡ Some why
-        → Untouched (B.view bank.old) (B.view bank.new) }
-    ensures calls { CallsAtMost (reads_back (running (with_index log.now index.now)) block seq)
-        (B.view bank.old) (B.view bank.new) }
-    ensures any_moment { OnlyReads (B.view bank.old) (B.view bank.new) }
-{
-    if let Some(why) = number_refusal(index, seq) {
-        return Err(Denied::Refused(why));
-    }
-    look_back(log, index, bank, room, block, seq, into)
-}
-
-/// Fills `into` with a block of the array after all entries up to this
-/// time, where that is retained.
-fn look_back_to_time<B: Bank>(
-    log: &Log,
-    index: &Index,
-    bank: &mut B,
-    room: &mut Buffers,
-    block: u32,
-    time: u64,
-    into: &mut [u8],
-) -> Result<(), Denied>
-    requires room { HaveBlocksOf log.now.g.block room.old }
-    requires can { CanLookBack (with_index log.now index.now) (B.view bank.old) }
-    requires block { block < volume log.now.g }
-    requires into { length into.old ≡ log.now.g.block }
-    ensures reply { IsTrue (B.view bank.old).tells → (s : State)
-        → StandsFor (running (with_index log.now index.now)) s (B.view bank.old).now.disks
-        → AtReplies result into.new
-        ((step log.now.g).reply s (request.By time block)) }
-    ensures damaged { (offset : ℕ) → IsErrOf result (Denied.Damaged offset)
-        → IsTrue (B.view bank.old).tells
-        → (s : State) → StandsFor (running (with_index log.now index.now)) s
-        (B.view bank.old).now.disks → ⊥ }
-    ensures room { HaveBlocksOf log.now.g.block room.new }
-    ensures cause { IfErr result (DeniesInstant (running (with_index log.now index.now))
-        (IsDamagedBy (running (with_index log.now index.now)) block time (B.view bank.old))
-        (B.view bank.old) (B.view bank.new)) }
-    ensures refused { (why : Refusal) → (result ≡ Err (Denied.Refused why))
-        ↔ (time_refused index.now time ≡ Some why) }
-    ensures at_once { (why : Refusal) → time_refused index.now time ≡ Some why
-        → Untouched (B.view bank.old) (B.view bank.new) }
-    ensures calls { (seq : ℕ) → IsLastBy index.now time seq → CallsAtMost
+    ensures calls { (seq : ℕ) → IsAfter index.now instant seq → CallsAtMost
         (reads_back (running (with_index log.now index.now)) block seq) (B.view bank.old)
         (B.view bank.new) }
     ensures any_moment { OnlyReads (B.view bank.old) (B.view bank.new) }
 {
-    if let Some(why) = time_refusal(index, time) {
+    if let Some(why) = refusal(index, instant) {
         return Err(Denied::Refused(why));
     }
-    let seq = last_by_time(index, time);
+    let seq = last_entry(index, instant);
     look_back(log, index, bank, room, block, seq, into)
 }
 
-/// The number of the last entry up to a time.
-fn last_by_time(index: &Index, time: u64) -> u64
-    requires { index.now.base_time ≤ time }
-    ensures last_by { IsLastBy index.now time result }
-    ensures image { (s : State) → Describes index.now s → image_by s time ≡ image_at s result }
+/// The number of the last entry that an instant comes after.
+fn last_entry(index: &Index, instant: Instant) -> u64
+    requires { instant_refused index.now instant ≡ None }
+    ensures after { IsAfter index.now instant result }
+    ensures retained { HasInstant index.now result }
 {
-    index.last_by_time(time)
-}
-
-/// Whether a read ended by a fault, which stops the array.
-fn has_failed(answer: &Result<(), Denied>) -> bool
-    ensures { result ≡ is_fault answer.now }
-{
-    matches!(answer, Err(Denied::LogFault | Denied::MemberFault { .. }))
+    match instant {
+        Instant::Number(seq) => seq,
+        Instant::Time(time) => index.last_by_time(time),
+    }
 }

@@ -60,6 +60,40 @@ fn byte_by<B: Bank>(
     Ok(into[0])
 }
 
+/// The code of what an entry changed, over bytes that are all the same, and how long it is.
+fn code_of<B: Bank>(
+    rt: &impl Abort,
+    array: &mut Array,
+    bank: &mut B,
+    seq: u64,
+) -> Result<(usize, [u8; 24]), Denied>
+    requires { IsReady array.old (B.view bank.old) }
+    ensures { IsReady array.new (B.view bank.new) }
+{
+    let mut into = [0xee; 24];
+    assert!(rt; array.geometry().block == 16);
+    assert!(rt; array.entry(seq).is_some());
+    let len = array.coded(bank, seq, &mut into)?;
+    Ok((len, into))
+}
+
+#[test]
+fn the_code_of_what_a_write_changed_is_read_again(rt: HostRuntime) -> Result<(), Fail> {
+    let mut bank = MemoryBank::new(rt.alloc())?;
+    assert_eq!(rt; create(&mut bank, &eight_blocks()), Ok(()));
+    let mut array = Array::mount(rt.alloc(), &mut bank)?;
+    assert_eq!(rt; write(&rt, &mut array, &mut bank, 100, 3, 7), Ok(1));
+    assert_eq!(rt; write(&rt, &mut array, &mut bank, 105, 3, 5), Ok(2));
+    let seven_xor_five = [
+        0, 0, 0, 16, 2, 2, 2, 2, 2, 2, 2, 2, 2, 2, 2, 2, 2, 2, 2, 2, 0xee, 0xee, 0xee, 0xee,
+    ];
+    assert_eq!(rt;
+        code_of(&rt, &mut array, &mut bank, 2),
+        Ok((20, seven_xor_five))
+    );
+    Ok(())
+}
+
 #[test]
 fn a_block_is_as_it_was(rt: HostRuntime) -> Result<(), Fail> {
     let mut bank = MemoryBank::new(rt.alloc())?;

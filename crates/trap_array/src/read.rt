@@ -9,9 +9,9 @@ ghost use Rattle.trap_array.specs.Calls.{AnswersRead, IsReady, ReadReplies, is_f
 ghost use Rattle.trap_array.specs.Causes.{DeniedBy, of_read};
 
 use crate::fetch::read_block;
+use crate::refusals::admit;
 use crate::{Array, Denied};
 use trap_bank::Bank;
-use trap_model::Refusal;
 
 impl Array {
     /// Reads the present contents of a block into `into`, which has as many bytes as a block. After
@@ -21,29 +21,25 @@ impl Array {
         requires ready { IsReady self.old (B.view bank.old) }
         ensures answers { AnswersRead self.old self.new (request.Read block)
             (ReadReplies result into.new) result (B.view bank.old) (B.view bank.new) }
-
-        // The block's place is read, or where its member is lost, each other one of its row; and
-        // none after one that failed.
-        ensures calls { CallsInRead self.old block result (B.view bank.old) (B.view bank.new) }
         ensures ready { IsReady self.new (B.view bank.new) }
         ensures same { self.new
             ≡ record self.old { is_stopped = self.old.is_stopped || is_fault result } }
-        ensures causes { DeniedBy self.old block (of_read self.old) result (B.view bank.old)
-            (B.view bank.new) }
 
         // Neither a record nor anything else of disk 0 is read.
         ensures log { IsErrOf result Denied.LogFault → ⊥ }
         ensures damaged { (offset : ℕ) → IsErrOf result (Denied.Damaged offset) → ⊥ }
 
+        ensures causes { DeniedBy self.old block (of_read self.old) result (B.view bank.old)
+            (B.view bank.new) }
+
+        // The block's place is read, or where its member is lost, each other one of its row; and
+        // none after one that failed.
+        ensures calls { CallsInRead self.old block result (B.view bank.old) (B.view bank.new) }
+
         // Stopped at any moment, the disks are as they were.
         ensures any_moment { OnlyReads (B.view bank.old) (B.view bank.new) }
     {
-        if block >= u64::from(self.log.geometry().volume()) {
-            return Err(Denied::Refused(Refusal::NoBlock));
-        }
-        if self.is_stopped {
-            return Err(Denied::Stopped);
-        }
+        admit(&self.log, self.is_stopped, block)?;
         match read_block(&self.log, bank, &mut self.buffers, block as u32, into) {
             Ok(()) => Ok(()),
             Err(failed) => {

@@ -6,10 +6,11 @@ ghost use Rattle.trap_array.specs.Calls.{IsReady, SameArray, is_fault};
 ghost use Rattle.trap_array.specs.Causes.{DeniedBy, of_write};
 ghost use Rattle.trap_array.specs.Taking.{TakesStep};
 
+use crate::denied::has_failed;
+use crate::refusals::admit;
 use crate::writing::write_block;
 use crate::{Array, Denied};
 use trap_bank::Bank;
-use trap_model::Refusal;
 
 impl Array {
     /// Writes a block, at a time not below the last one, and answers the number of the write. It is
@@ -33,19 +34,15 @@ impl Array {
         ensures same_array { SameArray self.old self.new }
         ensures sizes { (e : ℕ) → (B.view bank.new).sizes e ≡ (B.view bank.old).sizes e }
         ensures others { StaysFrom (self.old.g.members + 1) (B.view bank.old) (B.view bank.new) }
-        ensures causes { DeniedBy self.old block (of_write self.old time) result (B.view bank.old)
-            (B.view bank.new) }
         ensures damaged { (offset : ℕ) → IsErrOf result (Denied.Damaged offset) → ⊥ }
 
         // A fault stops the array.
         ensures stops { self.new.is_stopped ≡ (self.old.is_stopped || is_fault result) }
+
+        ensures causes { DeniedBy self.old block (of_write self.old time) result (B.view bank.old)
+            (B.view bank.new) }
     {
-        if block >= u64::from(self.log.geometry().volume()) {
-            return Err(Denied::Refused(Refusal::NoBlock));
-        }
-        if self.is_stopped {
-            return Err(Denied::Stopped);
-        }
+        admit(&self.log, self.is_stopped, block)?;
         let result = write_block(
             &mut self.log,
             &mut self.index,
@@ -59,11 +56,4 @@ impl Array {
         self.is_stopped = has_failed(&result);
         result
     }
-}
-
-/// Whether a write ended by a fault, which stops the array.
-fn has_failed(answer: &Result<u64, Denied>) -> bool
-    ensures { result ≡ is_fault answer.now }
-{
-    matches!(answer, Err(Denied::LogFault | Denied::MemberFault { .. }))
 }

@@ -75,53 +75,15 @@ pub(crate) fn write_block<B: Bank>(
         return Err(Denied::Refused(why));
     }
     log.drain_for_room(bank)?;
-    plan_and_commit(log, index, bank, room, time, block, bytes)
-}
-
-/// Writes it where a slot is free, and neither time nor number is against it: plans, commits
-/// and drains.
-fn plan_and_commit<B: Bank>(
-    log: &mut Log,
-    index: &mut Index,
-    bank: &mut B,
-    room: &mut Buffers,
-    time: u64,
-    block: u32,
-    bytes: &[u8],
-) -> Result<u64, Denied>
-    requires room { HaveBlocksOf log.old.g.block room.old }
-    requires can { CanWrite (with_index log.old index.old) (B.view bank.old) }
-    requires free { log.old.head.last < log.old.head.drained + log.old.g.slots }
-    requires later { log.old.head.last_time ≤ time }
-    requires not_worn { log.old.head.last < 2 ^ 40 }
-    requires block { block < volume log.old.g }
-    requires bytes { length bytes.now ≡ log.old.g.block }
-    ensures moves { MovesLog (with_index log.old index.old) (with_index log.new index.new)
-        (λ s. (step log.old.g).next s (request.Write time block bytes.now))
-        (λ s. (step log.old.g).reply s (request.Write time block bytes.now)) result
-        (B.view bank.old) (B.view bank.new) }
-    ensures room { HaveBlocksOf log.old.g.block room.new }
-    ensures leaves { LeavesWrite (planned_calls (running (with_index log.old index.old))
-        log.old.stage.pending log.old.cell block) (running (with_index log.old index.old))
-        (running (with_index log.new index.new)) time block result (B.view bank.old)
-        (B.view bank.new) }
-    ensures pending { IfSome (reply_of_write result) (λ reply. pending_writes log.new.head
-        ≡ owed log.old.g (request.Write time block bytes.now) reply
-        (pending_writes log.old.head)) }
-    ensures staged { (why : Refusal) → result ≡ Err (Refused why)
-        → log.new.stage ≡ log.old.stage }
-    ensures refused { (why : Refusal) → result ≡ Err (Refused why) → why ≡ Full }
-    ensures full { result ≡ Err (Refused Full)
-        → IsFull log.old.g log.old.head (greatest_record log.old.g.block) }
-{
     let held = Held::take(&mut room.pool);
-    let answer = write_leased(log, index, bank, room, &held, time, block, bytes);
+    let answer = plan_and_commit(log, index, bank, room, &held, time, block, bytes);
     held.give(&mut room.pool);
     answer
 }
 
-/// The same, over these leases.
-fn write_leased<B: Bank>(
+/// Writes it over these leases, where a slot is free, and neither time nor number is against it:
+/// plans, commits and drains.
+fn plan_and_commit<B: Bank>(
     log: &mut Log,
     index: &mut Index,
     bank: &mut B,
@@ -199,10 +161,10 @@ fn commit_and_drain<B: Bank>(
     ensures index { IndexAfter (running (with_index log.old index.old))
         (running (with_index log.new index.new)) rec.now.time rec.now.block result }
     ensures pending { OnOk result (pending_writes log.new.head ≡ 0) }
+    ensures refused { (why : Refusal) → result ≡ Err (Refused why) → ⊥ }
     ensures calls { CallsInCommit (running (with_index log.old index.old))
         (running (with_index log.new index.new)) rec.now.block result (B.view bank.old)
         (B.view bank.new) }
-    ensures refused { (why : Refusal) → result ≡ Err (Refused why) → ⊥ }
 {
     log.commit(index, bank, rec, bytes, parity, spelled)?;
     // The write is on the members, and its slot is free for the next one, before it is

@@ -5,11 +5,7 @@ use Rattle.trap_format.specs.declared.head.Head.{Head}
 use Rattle.trap_model.specs.declared.numbers.Geometry.{Geometry}
 use Rattle.trap_model.specs.declared.request.Refusal.{Refusal}
 use Rattle.trap_model.specs.declared.request.Refusal.TheVariants.{TimeBack, Worn}
-use Rattle.trap_mount.specs.Holding.{log_ring}
-
--- how many bytes the ring has on disk
-abbrev pub ring_len : Geometry → ℕ
-ring_len g = (log_ring g).len
+pub use Rattle.trap_format.specs.LogDisk.{ring_len}
 
 -- how many bytes of records are retained at most: as many as the ring has on disk
 abbrev pub ring_limit : Geometry → ℕ

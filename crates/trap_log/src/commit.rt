@@ -12,11 +12,12 @@ ghost use Rattle.trap_log.specs.Log.{with_index};
 ghost use Rattle.trap_log.specs.NextHead.{entry_for, next_rec};
 ghost use Rattle.trap_log.specs.Ready.{CanCommit};
 
-use crate::log::{Log, ring_of, value_of};
+use crate::log::{Log, value_of};
 use trap_bank::{Bank, DiskFault};
 use trap_format::Head;
 use trap_index::Index;
 use trap_model::LogRec;
+use trap_mount::ring_of;
 
 impl Log {
     /// Commits the next entry, and adds its record to the index. The caller knows that there is
@@ -44,10 +45,10 @@ impl Log {
         ensures sizes { (e : ℕ) → (B.view bank.new).sizes e ≡ (B.view bank.old).sizes e }
         ensures touches { Touches (InCommit (running (with_index self.old index.old)))
             (B.view bank.old) (B.view bank.new) }
-        ensures calls { TakesCalls (commit_calls self.old (length spelled.now)) result
-            (B.view bank.old) (B.view bank.new) }
         ensures cause { OnErr result (Rose ((B.view bank.old).faults 0)
             ((B.view bank.new).faults 0)) }
+        ensures calls { TakesCalls (commit_calls self.old (length spelled.now)) result
+            (B.view bank.old) (B.view bank.new) }
 
         // Stopped at any moment, the disks hold the state without the entry or the one with it.
         ensures any_moment { Moves (B.view bank.old) (B.view bank.new)

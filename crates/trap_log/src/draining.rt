@@ -31,10 +31,10 @@ impl Log {
         ensures sizes { (e : ℕ) → (B.view bank.new).sizes e ≡ (B.view bank.old).sizes e }
         ensures touches { (i : Indexed) → Touches (InDrain (running (with_index self.old i)))
             (B.view bank.old) (B.view bank.new) }
-        ensures calls { TakesCalls (calls_to_drain self.old upto) result
-            (B.view bank.old) (B.view bank.new) }
         ensures cause { (i : Indexed) → IfErr result
             (IsDrainFault (running (with_index self.old i)) (B.view bank.old) (B.view bank.new)) }
+        ensures calls { TakesCalls (calls_to_drain self.old upto) result
+            (B.view bank.old) (B.view bank.new) }
 
         // Stopped at any moment, the disks hold the same state. The index is the caller's: this
         // holds with whichever.
@@ -67,10 +67,10 @@ impl Log {
         ensures sizes { (e : ℕ) → (B.view bank.new).sizes e ≡ (B.view bank.old).sizes e }
         ensures touches { (i : Indexed) → Touches (InDrain (running (with_index self.old i)))
             (B.view bank.old) (B.view bank.new) }
-        ensures calls { TakesCalls (calls_to_drain self.old self.old.head.last) result
-            (B.view bank.old) (B.view bank.new) }
         ensures cause { (i : Indexed) → IfErr result
             (IsDrainFault (running (with_index self.old i)) (B.view bank.old) (B.view bank.new)) }
+        ensures calls { TakesCalls (calls_to_drain self.old self.old.head.last) result
+            (B.view bank.old) (B.view bank.new) }
         ensures any_moment { (i : Indexed) → Moves (B.view bank.old) (B.view bank.new)
             (AtAnyMoment (running (with_index self.old i)) (B.view bank.old) (λ s. s))
             (AtAnyMoment (running (with_index self.old i)) (B.view bank.old) (λ s. s)) }
@@ -89,10 +89,10 @@ impl Log {
         ensures sizes { (e : ℕ) → (B.view bank.new).sizes e ≡ (B.view bank.old).sizes e }
         ensures touches { (i : Indexed) → Touches (InDrain (running (with_index self.old i)))
             (B.view bank.old) (B.view bank.new) }
-        ensures calls { TakesCalls (calls_for_room self.old) result
-            (B.view bank.old) (B.view bank.new) }
         ensures cause { (i : Indexed) → IfErr result
             (IsDrainFault (running (with_index self.old i)) (B.view bank.old) (B.view bank.new)) }
+        ensures calls { TakesCalls (calls_for_room self.old) result
+            (B.view bank.old) (B.view bank.new) }
         ensures any_moment { (i : Indexed) → Moves (B.view bank.old) (B.view bank.new)
             (AtAnyMoment (running (with_index self.old i)) (B.view bank.old) (λ s. s))
             (AtAnyMoment (running (with_index self.old i)) (B.view bank.old) (λ s. s)) }

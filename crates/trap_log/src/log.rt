@@ -3,16 +3,16 @@
 ghost use Rattle.std.specs.Prelude.{◌≡◌, ◌<◌};
 ghost use Rattle.std.specs.Option.{ForSome};
 ghost use Rattle.trap_format.specs.HeadValue.{IsHead, head_value};
-ghost use Rattle.trap_format.specs.LogDisk.{ring_at};
 ghost use Rattle.trap_mount.specs.Holding.{head_place, log_ring};
 ghost use Rattle.trap_ring.specs.Ring.{ring_pos};
 ghost use Rattle.trap_log.specs.Room as room;
 
 use std::marker::Model;
 use trap_cell::Cell;
-use trap_format::layout::{SLOT_NUMBERS_BYTES, SLOTS_AT};
-use trap_format::{Head, spell_head};
+use trap_format::layout::HEAD_VALUE_BYTES;
+use trap_format::{Head, ring_len, ring_start, spell_head};
 use trap_model::Geometry;
+use trap_mount::ring_of;
 use trap_raid::Raid;
 use trap_ring::Ring;
 use trap_stage::Stage;
@@ -112,27 +112,6 @@ impl Log {
     }
 }
 
-/// The ring of records, after the staging slots.
-pub(crate) fn ring_of(g: &Geometry) -> Ring
-    ensures { result ≡ log_ring g.now }
-{
-    Ring::new(0, ring_start(g), ring_len(g))
-}
-
-/// Where the ring begins on disk 0, after the staging slots.
-fn ring_start(g: &Geometry) -> u64
-    ensures { result ≡ ring_at g.now }
-{
-    SLOTS_AT + u64::from(g.slots) * (SLOT_NUMBERS_BYTES + 2 * u64::from(g.block))
-}
-
-/// How many bytes the ring has on disk 0.
-fn ring_len(g: &Geometry) -> u64
-    ensures { result ≡ room.ring_len g.now }
-{
-    g.ring
-}
-
 /// How many bytes of records are retained at most.
 pub(crate) fn ring_limit(g: &Geometry) -> u64
     ensures { result ≡ room.ring_limit g.now }
@@ -141,11 +120,11 @@ pub(crate) fn ring_limit(g: &Geometry) -> u64
 }
 
 /// The value of a head.
-pub(crate) fn value_of(h: &Head) -> [u8; 62]
+pub(crate) fn value_of(h: &Head) -> [u8; HEAD_VALUE_BYTES]
     requires { ForSome h.now.lost (λ member. member < 16) }
     ensures { result ≡ head_value h.now }
 {
-    let mut value = [0; 62];
+    let mut value = [0; HEAD_VALUE_BYTES];
     spell_head(h, &mut value);
     value
 }

@@ -26,6 +26,7 @@ pub returns-clause-cause : goal.returns-clause-cause
 returns-clause-cause g c =
     let here = with_index c.args.log.now c.args.index.now in
     let most = c.block_at.ensures.at_most in
-    let failed = undo_fails here _ c.args.block c.args.seq most.taken _ _ _ _ _ c.block_at.result c.block_at.ensures.later most.few most.looked c.block_at.ensures.acts.1.0 c.block_at.ensures.acts.1.1.reads
+    let failed = undo_fails here _ c.args.block c.args.seq most.taken _ _ _ _ _ c.block_at.result c.block_at.ensures.later most.few most.looked
+    c.block_at.ensures.acts.1.0 c.block_at.ensures.acts.1.1.reads
     c.block_at.ensures.blame.reason c.block_at.ensures.blame.after in
     search rules

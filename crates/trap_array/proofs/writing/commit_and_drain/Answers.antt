@@ -186,12 +186,21 @@ returns-clause-moves g c =
     let done = g.B.Bank.view c.drain_all.new.bank in
     let kept = with_index c.drain_all.new.self c.commit.new.index in
     let seq : c.args.rec.now.seq ≡ here.head.last + 1 = ap (λ (r : LogRec). r.seq) c.requires.rec in
-    let turned = then_keep_has (running here) (running between) c.commit.ensures.same_array old mid done next c.in_ok-commit.ensures.committed.moves (running kept) (c.in_ok-drain_all.ensures.drained.moves c.commit.new.index) in
-    let step = drained_step c.commit.new.self.head c.drain_all.new.self.head c.commit.new.self.stage c.drain_all.new.self.stage c.commit.new.index _ c.in_ok-drain_all.ensures.drained.head c.in_ok-drain_all.ensures.drained.staged c.in_ok-commit.ensures.committed.in_step in
+    let turned =
+    then_keep_has (running here) (running between) c.commit.ensures.same_array old mid done next c.in_ok-commit.ensures.committed.moves (running kept)
+    (c.in_ok-drain_all.ensures.drained.moves c.commit.new.index) in
+    let step =
+    drained_step c.commit.new.self.head c.drain_all.new.self.head c.commit.new.self.stage c.drain_all.new.self.stage c.commit.new.index _
+    c.in_ok-drain_all.ensures.drained.head c.in_ok-drain_all.ensures.drained.staged c.in_ok-commit.ensures.committed.in_step in
     let cell = c.in_ok-drain_all.ensures.drained.knows in
-    let on = goes_then (running here) (running between) (running kept) c.commit.ensures.same_array (array_of c.commit.new.self c.drain_all.new.self c.commit.new.index c.commit.new.index c.drain_all.ensures.same_log) in
+    let on =
+    goes_then (running here) (running between) (running kept) c.commit.ensures.same_array
+    (array_of c.commit.new.self c.drain_all.new.self c.commit.new.index c.commit.new.index c.drain_all.ensures.same_log) in
     let sizes : (d : ℕ) → done.sizes d ≡ old.sizes d = λ d. c.drain_all.ensures.sizes d ∙ c.commit.ensures.sizes d in
-    let beside = both_stay (running here) (running between) old mid done c.commit.ensures.same_array c.in_ok-commit.ensures.committed.moves.tells (commit_beside (running here) old mid c.commit.ensures.touches) (drain_beside (running between) mid done (c.drain_all.ensures.touches c.commit.new.index)) in
+    let beside =
+    both_stay (running here) (running between) old mid done c.commit.ensures.same_array c.in_ok-commit.ensures.committed.moves.tells
+    (commit_beside (running here) old mid c.commit.ensures.touches) (drain_beside (running between) mid done (c.drain_all.ensures.touches c.commit.new.index)) in
+    -- the answer
     turns_done here kept next (λ (s : State). Kept (last s + 1)) c.args.rec.now.seq old done
     (λ told s always. ap (λ (n : ℕ). Kept (n + 1)) (sym (always old.now (read_is_left old told)).by.fits.head.last) ∙ ap Kept (sym seq))
     turned step cell on sizes beside
@@ -201,7 +210,9 @@ returns-clause-touches g c =
     let old = g.B.Bank.view c.args.bank.now in
     let mid = g.B.Bank.view c.commit.new.bank in
     let end = g.B.Bank.view c.drain_all.new.bank in
-    let whole = write_touches (with_index c.args.log.now c.args.index.now) (with_index c.commit.new.self c.commit.new.index) _ c.commit.ensures.same_array c.in_ok-commit.ensures.committed.pending old mid end c.commit.ensures.touches (c.drain_all.ensures.touches c.commit.new.index) in
+    let whole =
+    write_touches (with_index c.args.log.now c.args.index.now) (with_index c.commit.new.self c.commit.new.index) _ c.commit.ensures.same_array
+    c.in_ok-commit.ensures.committed.pending old mid end c.commit.ensures.touches (c.drain_all.ensures.touches c.commit.new.index) in
     whole
 
 pub returns-in_err-commit-clause-index : goal.returns-in_err-commit-clause-index

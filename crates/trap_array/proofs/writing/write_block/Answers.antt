@@ -49,8 +49,8 @@ returns-in_err-drain_for_room-clause-moves g c =
     c.drain_for_room.ensures.same_log) c.drain_for_room.ensures.sizes (drain_beside (running here) old new (c.drain_for_room.ensures.touches c.args.index.now))
     (c.drain_for_room.ensures.any_moment c.args.index.now))
 
-pub plan_and_commit-requires-clause-can : goal.plan_and_commit-requires-clause-can
-plan_and_commit-requires-clause-can g c =
+pub plan_and_commit-answer-requires-clause-can : goal.plan_and_commit-answer-requires-clause-can
+plan_and_commit-answer-requires-clause-can g c =
     let can = c.in_ok-drain_for_room.ensures.room.can in
     record {
       in_step = drained_step c.args.log.now.head c.drain_for_room.new.self.head c.args.log.now.stage c.drain_for_room.new.self.stage c.args.index.now _
@@ -60,8 +60,8 @@ plan_and_commit-requires-clause-can g c =
       cell = can.cell;
     }
 
-pub plan_and_commit-requires-clause-not_worn : goal.plan_and_commit-requires-clause-not_worn
-plan_and_commit-requires-clause-not_worn g c =
+pub plan_and_commit-answer-requires-clause-not_worn : goal.plan_and_commit-answer-requires-clause-not_worn
+plan_and_commit-answer-requires-clause-not_worn g c =
     let here = with_index c.args.log.now c.args.index.now in
     let none : early_refusal here.head c.args.time ≡ None = search rules in
     let number = (early_none here.head c.args.time none).1 in
@@ -72,16 +72,16 @@ pub returns-clause-moves : goal.returns-clause-moves
 returns-clause-moves g c =
     let old = g.B.Bank.view c.args.bank.now in
     let mid = g.B.Bank.view c.drain_for_room.new.bank in
-    let new = g.B.Bank.view c.plan_and_commit.new.bank in
+    let new = g.B.Bank.view c.plan_and_commit-answer.new.bank in
     let here = with_index c.args.log.now c.args.index.now in
     let between = with_index c.drain_for_room.new.self c.args.index.now in
-    let P : Geometry → Type 0 = λ (geometry : Geometry). MovesLog between (with_index c.plan_and_commit.new.log c.plan_and_commit.new.index)
-    (next_of geometry c.args.time c.args.block c.args.bytes.now) (reply_of geometry c.args.time c.args.block c.args.bytes.now) c.plan_and_commit.result mid new in
-    turns_after here (with_index c.plan_and_commit.new.log c.plan_and_commit.new.index) (next_of here.g c.args.time c.args.block c.args.bytes.now)
+    let P : Geometry → Type 0 = λ (geometry : Geometry). MovesLog between (with_index c.plan_and_commit-answer.new.log c.plan_and_commit-answer.new.index)
+    (next_of geometry c.args.time c.args.block c.args.bytes.now) (reply_of geometry c.args.time c.args.block c.args.bytes.now) c.plan_and_commit-answer.result mid new in
+    turns_after here (with_index c.plan_and_commit-answer.new.log c.plan_and_commit-answer.new.index) (next_of here.g c.args.time c.args.block c.args.bytes.now)
     (reply_of here.g c.args.time c.args.block c.args.bytes.now)
-    between c.plan_and_commit.result old mid new (array_of c.args.log.now c.drain_for_room.new.self c.args.index.now c.args.index.now c.drain_for_room.ensures.same_log)
+    between c.plan_and_commit-answer.result old mid new (array_of c.args.log.now c.drain_for_room.new.self c.args.index.now c.args.index.now c.drain_for_room.ensures.same_log)
     (c.in_ok-drain_for_room.ensures.room.moves c.args.index.now) c.drain_for_room.ensures.sizes (drain_beside (running here) old mid (c.drain_for_room.ensures.touches c.args.index.now))
-    (subst P c.drain_for_room.ensures.same_log.g c.plan_and_commit.ensures.moves)
+    (subst P c.drain_for_room.ensures.same_log.g c.plan_and_commit-answer.ensures.moves)
 
 pub returns-in-Some-clause-leaves : goal.returns-in-Some-clause-leaves
 returns-in-Some-clause-leaves g c = record {
@@ -136,27 +136,27 @@ returns-clause-leaves g c = record {
       since_touches (running (with_index c.args.log.now c.args.index.now)) (running (with_index c.drain_for_room.new.self c.args.index.now)) c.args.block _
       c.drain_for_room.ensures.same_log.g c.in_ok-drain_for_room.ensures.room.head
       (left_or_none (has_slot c.args.log.now) c.drain_for_room.new.self.stage.pending c.args.log.now.stage.pending c.in_ok-drain_for_room.ensures.room.pending)
-      (g.B.Bank.view c.args.bank.now) (g.B.Bank.view c.drain_for_room.new.bank) (g.B.Bank.view c.plan_and_commit.new.bank)
-      (c.drain_for_room.ensures.touches c.args.index.now) c.plan_and_commit.ensures.leaves.touches;
+      (g.B.Bank.view c.args.bank.now) (g.B.Bank.view c.drain_for_room.new.bank) (g.B.Bank.view c.plan_and_commit-answer.new.bank)
+      (c.drain_for_room.ensures.touches c.args.index.now) c.plan_and_commit-answer.ensures.leaves.touches;
   head =
       let here = running (with_index c.args.log.now c.args.index.now) in
       let between = running (with_index c.drain_for_room.new.self c.args.index.now) in
       let mid = g.B.Bank.view c.drain_for_room.new.bank in
-      let new = g.B.Bank.view c.plan_and_commit.new.bank in
-      let t = c.plan_and_commit.new.log.head in
-      head_since here.g here.head between.head t c.args.time c.in_ok-drain_for_room.ensures.room.head between mid new c.plan_and_commit.result c.plan_and_commit.ensures.moves.cause
-      (subst (λ (k : Geometry). HeadAfter k between.head t c.args.time c.plan_and_commit.result) c.drain_for_room.ensures.same_log.g c.plan_and_commit.ensures.leaves.head);
+      let new = g.B.Bank.view c.plan_and_commit-answer.new.bank in
+      let t = c.plan_and_commit-answer.new.log.head in
+      head_since here.g here.head between.head t c.args.time c.in_ok-drain_for_room.ensures.room.head between mid new c.plan_and_commit-answer.result c.plan_and_commit-answer.ensures.moves.cause
+      (subst (λ (k : Geometry). HeadAfter k between.head t c.args.time c.plan_and_commit-answer.result) c.drain_for_room.ensures.same_log.g c.plan_and_commit-answer.ensures.leaves.head);
   index =
       index_since (running (with_index c.args.log.now c.args.index.now)) (running (with_index c.drain_for_room.new.self c.args.index.now))
-      (running (with_index c.plan_and_commit.new.log c.plan_and_commit.new.index)) c.args.time c.args.block
-      c.drain_for_room.ensures.same_log.g refl c.in_ok-drain_for_room.ensures.room.head c.plan_and_commit.result c.plan_and_commit.ensures.leaves.index;
+      (running (with_index c.plan_and_commit-answer.new.log c.plan_and_commit-answer.new.index)) c.args.time c.args.block
+      c.drain_for_room.ensures.same_log.g refl c.in_ok-drain_for_room.ensures.room.head c.plan_and_commit-answer.result c.plan_and_commit-answer.ensures.leaves.index;
   calls =
       let here = running (with_index c.args.log.now c.args.index.now) in
       let between = running (with_index c.drain_for_room.new.self c.args.index.now) in
-      let after = running (with_index c.plan_and_commit.new.log c.plan_and_commit.new.index) in
+      let after = running (with_index c.plan_and_commit-answer.new.log c.plan_and_commit-answer.new.index) in
       let old = g.B.Bank.view c.args.bank.now in
       let mid = g.B.Bank.view c.drain_for_room.new.bank in
-      let new = g.B.Bank.view c.plan_and_commit.new.bank in
+      let new = g.B.Bank.view c.plan_and_commit-answer.new.bank in
       let made = c.in_ok-drain_for_room.ensures.room in
       let geometry = c.drain_for_room.ensures.same_log.g in
       let room = room_is c.args.log.now c.args.index.now c.requires.can.in_step.staged.last in
@@ -164,9 +164,9 @@ returns-clause-leaves g c = record {
       let cell = if has_slot c.args.log.now then c.args.log.now.cell else turned c.args.log.now.cell in
       let end : between.head.end_off ≡ here.head.end_off = ap (λ (h : Head). h.end_off) made.head in
       let whole = calls_after (room_calls here) (planned_calls between between.pending between.cell c.args.block) (planned_calls here pending cell c.args.block) here between after
-      c.plan_and_commit.result old mid new geometry end
+      c.plan_and_commit-answer.result old mid new geometry end
       (λ n. planned_is here between pending cell c.args.block c.drain_for_room.new.self.head.drained n geometry made.head made.pending made.cell)
-      (subst (λ (n : ℕ). CalledTimes n old mid) room c.in_ok-drain_for_room.ensures.calls.ok) c.plan_and_commit.ensures.leaves.calls in
+      (subst (λ (n : ℕ). CalledTimes n old mid) room c.in_ok-drain_for_room.ensures.calls.ok) c.plan_and_commit-answer.ensures.leaves.calls in
       record { kept = whole.kept; most = whole.most };
 }
 
@@ -194,7 +194,7 @@ returns-in_err-drain_for_room-clause-staged g c why refused =
 
 pub returns-clause-staged : goal.returns-clause-staged
 returns-clause-staged g c why refused =
-    let same = ap (λ (stage : Stage). stage.pending) (c.plan_and_commit.ensures.staged why refused) in
+    let same = ap (λ (stage : Stage). stage.pending) (c.plan_and_commit-answer.ensures.staged why refused) in
     ⊎_elim (λ kept. inl (same ∙ kept)) (λ none. inr (same ∙ none))
     (left_or_none (has_slot c.args.log.now) c.drain_for_room.new.self.stage.pending c.args.log.now.stage.pending c.in_ok-drain_for_room.ensures.room.pending)
 

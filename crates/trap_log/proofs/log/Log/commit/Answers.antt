@@ -1,11 +1,12 @@
-use Rattle.std.proofs.Common.{rules, ◌≡◌, ℕ, length, Result, Ok, Err, OnErr, refl, sym, ap, subst, ◌∙◌, arith}
+use Rattle.std.proofs.Common.{rules, ◌≡◌, ℕ, List, length, Result, Ok, Err, OnErr, refl, sym, ap, subst, ◌∙◌, arith}
+use Rattle.trap_bank.specs.Disks.{View}
 use Rattle.trap_bank.specs.Faults.{Rose}
 use Rattle.trap_cell.specs.Slots.{Place}
 use Rattle.trap_format.specs.HeadValue.{IsHead}
 use Rattle.trap_stage.specs.Slots.{Stage}
 use Rattle.trap_bank.specs.Steps.{Moves, Same}
 use Rattle.trap_bank.proofs.Moves.{sync_steps}
-use Rattle.trap_index.specs.Indexed.{with_record}
+use Rattle.trap_index.specs.Indexed.{Indexed, with_record}
 use Rattle.trap_model.specs.ArrayStep.{added}
 use Rattle.trap_model.specs.declared.history.Entry.{Entry}
 use Rattle.trap_model.specs.declared.log_record.LogRec.{LogRec}
@@ -26,137 +27,109 @@ use Rattle.trap_log.proofs.NextHeads.{later_committed}
 use Rattle.trap_log.proofs.Sizes.{fits_still}
 use Rattle.trap_log.proofs.GoingOn.{goes_still, goes_same, goes_later}
 use Rattle.trap_log.proofs.log.Log.commit.Goals as goal
+use Rattle.trap_log.proofs.log.Log.commit.Goals.{After-put}
 
+-- ---- what is said of the log's parts holds of the log
+abbrev AnyMoment : IndexedLog → View → Entry → View → Type 0
+AnyMoment log old entry v = Moves old v (AtAnyMoment (running log) old (λ s. added s entry)) (AtAnyMoment (running log) old (λ s. added s entry))
+
+so_can : (a b : Log) → a ≡ b → (index : Indexed) (old : View) (entry : Entry) (parity spelled : List ℕ) → CanCommit (with_index a index) old entry parity spelled
+    → CanCommit (with_index b index) old entry parity spelled
+so_can a b is index old entry parity spelled = subst (λ (l : Log). CanCommit (with_index l index) old entry parity spelled) is
+
+so_any : (a b : Log) → a ≡ b → (index : Indexed) (old : View) (entry : Entry) (v : View) → AnyMoment (with_index a index) old entry v → AnyMoment (with_index b index) old entry v
+so_any a b is index old entry v = subst (λ (l : Log). AnyMoment (with_index l index) old entry v) is
+
+so_touches : (a b : Log) → a ≡ b → (index : Indexed) (old v : View) → Touches (InCommit (running (with_index a index))) old v → Touches (InCommit (running (with_index b index))) old v
+so_touches a b is index old v = subst (λ (l : Log). Touches (InCommit (running (with_index l index))) old v) is
+
+so_same : (a b : Log) → a ≡ b → (index : Indexed) (after : IndexedLog) → SameArray (running (with_index a index)) (running after) → SameArray (running (with_index b index)) (running after)
+so_same a b is index after = subst (λ (l : Log). SameArray (running (with_index l index)) (running after)) is
+
+so_called : (a b : Log) → a ≡ b → (size : ℕ) (old v : View) → CalledAtMost (commit_calls a size) old v → CalledAtMost (commit_calls b size) old v
+so_called a b is size old v = subst (λ (l : Log). CalledAtMost (commit_calls l size) old v) is
+
+-- ---- the record and the slot
 pub returns-in_err-append-clause-any_moment : goal.returns-in_err-append-clause-any_moment
 returns-in_err-append-clause-any_moment g c =
-    let old = g.B.Bank.view c.args.bank.now in
-    let v1 = g.B.Bank.view c.append.new.bank in
-    let log : IndexedLog = record { g = c.self.inside.g; head = c.self.inside.head; cell = c.self.inside.cell; stage = c.self.inside.stage; index = c.args.index.now } in
-    let entry : Entry = entry_for c.args.rec.now.time c.args.rec.now.block c.args.bytes.now in
-    let can = subst (λ (l : Log). CanCommit (with_index l c.args.index.now) old entry c.args.parity.now c.args.spelled.now) (sym c.self.view_is) c.requires.can in
-    let P : Log → Type 0 = λ (l : Log). Moves old v1 (AtAnyMoment (running (with_index l c.args.index.now)) old (λ s. added s entry))
-    (AtAnyMoment (running (with_index l c.args.index.now)) old (λ s. added s entry)) in
-    subst P c.self.view_is
-    (append_any log c.self.invariant.place c.self.invariant.same old entry c.args.parity.now c.args.spelled.now can refl c.ring_of-ring.result c.ring_of-ring.ensures v1 c.append.ensures.any_moment)
+    let can = so_can _ _ (sym c.self.view_is) _ _ _ _ _ c.requires.can in
+    so_any _ _ c.self.view_is _ _ _ _
+    (append_any _ c.self.invariant.place c.self.invariant.same (g.B.Bank.view c.args.bank.now) _ _ _ can refl c.ring_of-ring.result c.ring_of-ring.ensures
+    (g.B.Bank.view c.append.new.bank) c.append.ensures.any_moment)
 
 pub returns-in_err-fill-clause-any_moment : goal.returns-in_err-fill-clause-any_moment
 returns-in_err-fill-clause-any_moment g c =
-    let old = g.B.Bank.view c.args.bank.now in
-    let v1 = g.B.Bank.view c.append.new.bank in
-    let v2 = g.B.Bank.view c.fill.new.bank in
-    let log : IndexedLog = record { g = c.self.inside.g; head = c.self.inside.head; cell = c.self.inside.cell; stage = c.self.inside.stage; index = c.args.index.now } in
-    let entry : Entry = entry_for c.args.rec.now.time c.args.rec.now.block c.args.bytes.now in
-    let can = subst (λ (l : Log). CanCommit (with_index l c.args.index.now) old entry c.args.parity.now c.args.spelled.now) (sym c.self.view_is) c.requires.can in
-    let P : Log → Type 0 = λ (l : Log). Moves old v2 (AtAnyMoment (running (with_index l c.args.index.now)) old (λ s. added s entry))
-    (AtAnyMoment (running (with_index l c.args.index.now)) old (λ s. added s entry)) in
-    subst P c.self.view_is
-    (fill_any log c.self.invariant.place c.self.invariant.same old entry c.args.parity.now c.args.spelled.now can refl c.ring_of-ring.result c.ring_of-ring.ensures v1
-    c.append.ensures.any_moment v2 c.fill.ensures.any_moment)
+    let can = so_can _ _ (sym c.self.view_is) _ _ _ _ _ c.requires.can in
+    so_any _ _ c.self.view_is _ _ _ _
+    (fill_any _ c.self.invariant.place c.self.invariant.same (g.B.Bank.view c.args.bank.now) _ _ _ can refl c.ring_of-ring.result c.ring_of-ring.ensures
+    (g.B.Bank.view c.append.new.bank) c.append.ensures.any_moment (g.B.Bank.view c.fill.new.bank) c.fill.ensures.any_moment)
 
 -- ---- the sync fails
 pub returns-in_err-sync-clause-any_moment : goal.returns-in_err-sync-clause-any_moment
 returns-in_err-sync-clause-any_moment g c =
-    let old = g.B.Bank.view c.args.bank.now in
-    let v1 = g.B.Bank.view c.append.new.bank in
-    let v2 = g.B.Bank.view c.fill.new.bank in
-    let v3 = g.B.Bank.view c.sync.new.self in
-    let log : IndexedLog = record { g = c.self.inside.g; head = c.self.inside.head; cell = c.self.inside.cell; stage = c.self.inside.stage; index = c.args.index.now } in
-    let entry : Entry = entry_for c.args.rec.now.time c.args.rec.now.block c.args.bytes.now in
-    let can = subst (λ (l : Log). CanCommit (with_index l c.args.index.now) old entry c.args.parity.now c.args.spelled.now) (sym c.self.view_is) c.requires.can in
-    let P : Log → Type 0 = λ (l : Log). Moves old v3 (AtAnyMoment (running (with_index l c.args.index.now)) old (λ s. added s entry))
-    (AtAnyMoment (running (with_index l c.args.index.now)) old (λ s. added s entry)) in
-    subst P c.self.view_is
-    (sync_any log c.self.invariant.place c.self.invariant.same old entry c.args.parity.now c.args.spelled.now can refl c.ring_of-ring.result c.ring_of-ring.ensures v1
-    c.append.ensures.any_moment v2 c.fill.ensures.any_moment v3 (sync_steps _ _ _ _ c.sync.ensures.call))
+    let can = so_can _ _ (sym c.self.view_is) _ _ _ _ _ c.requires.can in
+    so_any _ _ c.self.view_is _ _ _ _
+    (sync_any _ c.self.invariant.place c.self.invariant.same (g.B.Bank.view c.args.bank.now) _ _ _ can refl c.ring_of-ring.result c.ring_of-ring.ensures
+    (g.B.Bank.view c.append.new.bank) c.append.ensures.any_moment (g.B.Bank.view c.fill.new.bank) c.fill.ensures.any_moment
+    (g.B.Bank.view c.sync.new.self) (sync_steps _ _ _ _ c.sync.ensures.call))
 
 pub returns-in_err-sync-clause-touches : goal.returns-in_err-sync-clause-touches
 returns-in_err-sync-clause-touches g c =
-    let old = g.B.Bank.view c.args.bank.now in
-    let v1 = g.B.Bank.view c.append.new.bank in
-    let v2 = g.B.Bank.view c.fill.new.bank in
-    let v3 = g.B.Bank.view c.sync.new.self in
     let log : IndexedLog = record { g = c.self.inside.g; head = c.self.inside.head; cell = c.self.inside.cell; stage = c.self.inside.stage; index = c.args.index.now } in
-    let can = subst (λ (l : Log). CanCommit (with_index l c.args.index.now) old (entry_for c.args.rec.now.time c.args.rec.now.block c.args.bytes.now) c.args.parity.now
-    c.args.spelled.now) (sym c.self.view_is) c.requires.can in
-    subst (λ (l : Log). Touches (InCommit (running (with_index l c.args.index.now))) old v3) c.self.view_is
-    (sync_touches log c.self.invariant.place c.self.invariant.same c.ring_of-ring.result c.ring_of-ring.ensures (length c.args.spelled.now) can.next.offsets.window old v1
-    c.append.ensures.contents c.append.ensures.any_moment v2 c.fill.ensures.contents c.fill.ensures.any_moment v3 c.sync.ensures.call.same (sync_steps _ _ _ _ c.sync.ensures.call))
+    let can = so_can _ _ (sym c.self.view_is) _ _ _ _ _ c.requires.can in
+    so_touches _ _ c.self.view_is c.args.index.now _ _
+    (sync_touches log c.self.invariant.place c.self.invariant.same c.ring_of-ring.result c.ring_of-ring.ensures (length c.args.spelled.now) can.next.offsets.window
+    (g.B.Bank.view c.args.bank.now) (g.B.Bank.view c.append.new.bank) c.append.ensures.contents c.append.ensures.any_moment
+    (g.B.Bank.view c.fill.new.bank) c.fill.ensures.contents c.fill.ensures.any_moment (g.B.Bank.view c.sync.new.self) c.sync.ensures.call.same (sync_steps _ _ _ _ c.sync.ensures.call))
 
 pub returns-in_err-sync-clause-same_array : goal.returns-in_err-sync-clause-same_array
 returns-in_err-sync-clause-same_array g c =
     let log : IndexedLog = record { g = c.self.inside.g; head = c.self.inside.head; cell = c.self.inside.cell; stage = c.self.inside.stage; index = c.args.index.now } in
     let after : IndexedLog = record { g = c.self.inside.g; head = c.self.inside.head; cell = c.self.inside.cell; stage = c.fill.new.self; index = c.args.index.now } in
-    subst (λ (l : Log). SameArray (running (with_index l c.args.index.now)) (running after)) c.self.view_is (goes_same log after refl refl)
+    so_same _ _ c.self.view_is c.args.index.now after (goes_same log after refl refl)
 
 -- ---- what the put asks
 pub put-requires-clause-room : goal.put-requires-clause-room
 put-requires-clause-room g c =
-    let old = g.B.Bank.view c.args.bank.now in
+    let can = so_can _ _ (sym c.self.view_is) _ _ _ _ _ c.requires.can in
     let before_put = g.B.Bank.view c.sync.new.self in
-    let log : IndexedLog = record { g = c.self.inside.g; head = c.self.inside.head; cell = c.self.inside.cell; stage = c.self.inside.stage; index = c.args.index.now } in
-    let entry : Entry = entry_for c.args.rec.now.time c.args.rec.now.block c.args.bytes.now in
-    let can = subst (λ (l : Log). CanCommit (with_index l c.args.index.now) old entry c.args.parity.now c.args.spelled.now) (sym c.self.view_is) c.requires.can in
     let still = c.sync.ensures.call.sizes 0 ∙ c.fill.ensures.sizes 0 ∙ c.append.ensures.sizes 0 in
-    cell_room log.g before_put log.cell.place c.self.invariant.place (fits_still old before_put 0 _ still can.sizes.log)
+    cell_room c.self.inside.g before_put c.self.inside.cell.place c.self.invariant.place (fits_still (g.B.Bank.view c.args.bank.now) before_put 0 _ still can.sizes.log)
 
 pub put-requires-clause-stands : goal.put-requires-clause-stands
 put-requires-clause-stands g c =
-    let old = g.B.Bank.view c.args.bank.now in
-    let v1 = g.B.Bank.view c.append.new.bank in
-    let v2 = g.B.Bank.view c.fill.new.bank in
+    let can = so_can _ _ (sym c.self.view_is) _ _ _ _ _ c.requires.can in
     let at_put = g.B.Bank.view c.sync.new.self in
     let sync = sync_steps _ _ _ _ c.sync.ensures.call in
-    let log : IndexedLog = record { g = c.self.inside.g; head = c.self.inside.head; cell = c.self.inside.cell; stage = c.self.inside.stage; index = c.args.index.now } in
-    let entry : Entry = entry_for c.args.rec.now.time c.args.rec.now.block c.args.bytes.now in
-    let can = subst (λ (l : Log). CanCommit (with_index l c.args.index.now) old entry c.args.parity.now c.args.spelled.now) (sym c.self.view_is) c.requires.can in
-    cell_still log c.self.invariant.place c.self.invariant.same old entry c.args.parity.now c.args.spelled.now can refl c.ring_of-ring.result c.ring_of-ring.ensures v1
-    c.append.ensures.any_moment v2 c.fill.ensures.any_moment at_put sync
+    cell_still _ c.self.invariant.place c.self.invariant.same (g.B.Bank.view c.args.bank.now) _ _ _ can refl c.ring_of-ring.result c.ring_of-ring.ensures
+    (g.B.Bank.view c.append.new.bank) c.append.ensures.any_moment (g.B.Bank.view c.fill.new.bank) c.fill.ensures.any_moment at_put sync
 
 -- ---- the state before or the one after
-pub returns-in_err-put-clause-any_moment : goal.returns-in_err-put-clause-any_moment
-returns-in_err-put-clause-any_moment g c =
-    let old = g.B.Bank.view c.args.bank.now in
-    let v1 = g.B.Bank.view c.append.new.bank in
-    let v2 = g.B.Bank.view c.fill.new.bank in
+put_moved : (g : _) (c : After-put g) → AnyMoment (with_index c.args.self.now c.args.index.now) (g.B.Bank.view c.args.bank.now)
+    (entry_for c.args.rec.now.time c.args.rec.now.block c.args.bytes.now) (g.B.Bank.view c.put.new.bank)
+put_moved g c =
+    let can = so_can _ _ (sym c.self.view_is) _ _ _ _ _ c.requires.can in
     let v3 = g.B.Bank.view c.sync.new.self in
-    let v4 = g.B.Bank.view c.put.new.bank in
-    let log : IndexedLog = record { g = c.self.inside.g; head = c.self.inside.head; cell = c.self.inside.cell; stage = c.self.inside.stage; index = c.args.index.now } in
-    let entry : Entry = entry_for c.args.rec.now.time c.args.rec.now.block c.args.bytes.now in
-    let can = subst (λ (l : Log). CanCommit (with_index l c.args.index.now) old entry c.args.parity.now c.args.spelled.now) (sym c.self.view_is) c.requires.can in
-    let P : Log → Type 0 = λ (l : Log). Moves old v4 (AtAnyMoment (running (with_index l c.args.index.now)) old (λ s. added s entry))
-    (AtAnyMoment (running (with_index l c.args.index.now)) old (λ s. added s entry)) in
-    subst P c.self.view_is
-    (put_any log c.self.invariant.place c.self.invariant.same old entry c.args.parity.now c.args.spelled.now can refl c.ring_of-ring.result c.ring_of-ring.ensures v1
-    c.append.ensures.any_moment v2 c.fill.ensures.any_moment v3 (sync_steps _ _ _ _ c.sync.ensures.call) c.in_ok-append.ensures.written c.fill.ensures.contents
-    c.in_ok-fill.ensures.written c.sync.ensures.call.same (settled_there _ v2 v3 c.in_ok-sync.ensures.call) v4 c.value_of-value.result c.value_of-value.ensures c.put.ensures.any_moment)
+    so_any _ _ c.self.view_is _ _ _ _
+    (put_any _ c.self.invariant.place c.self.invariant.same (g.B.Bank.view c.args.bank.now) _ _ _ can refl c.ring_of-ring.result c.ring_of-ring.ensures
+    (g.B.Bank.view c.append.new.bank) c.append.ensures.any_moment (g.B.Bank.view c.fill.new.bank) c.fill.ensures.any_moment
+    v3 (sync_steps _ _ _ _ c.sync.ensures.call) c.in_ok-append.ensures.written c.fill.ensures.contents c.in_ok-fill.ensures.written c.sync.ensures.call.same
+    (settled_there _ (g.B.Bank.view c.fill.new.bank) v3 c.in_ok-sync.ensures.call) (g.B.Bank.view c.put.new.bank) c.value_of-value.result c.value_of-value.ensures c.put.ensures.any_moment)
+
+pub returns-in_err-put-clause-any_moment : goal.returns-in_err-put-clause-any_moment
+returns-in_err-put-clause-any_moment g c = put_moved g (goal.at.returns-in_err-put-clause-any_moment g c).After-put
 
 pub returns-clause-any_moment : goal.returns-clause-any_moment
-returns-clause-any_moment g c =
-    let old = g.B.Bank.view c.args.bank.now in
-    let v1 = g.B.Bank.view c.append.new.bank in
-    let v2 = g.B.Bank.view c.fill.new.bank in
-    let v3 = g.B.Bank.view c.sync.new.self in
-    let v4 = g.B.Bank.view c.put.new.bank in
-    let log : IndexedLog = record { g = c.self.inside.g; head = c.self.inside.head; cell = c.self.inside.cell; stage = c.self.inside.stage; index = c.args.index.now } in
-    let entry : Entry = entry_for c.args.rec.now.time c.args.rec.now.block c.args.bytes.now in
-    let can = subst (λ (l : Log). CanCommit (with_index l c.args.index.now) old entry c.args.parity.now c.args.spelled.now) (sym c.self.view_is) c.requires.can in
-    let P : Log → Type 0 = λ (l : Log). Moves old v4 (AtAnyMoment (running (with_index l c.args.index.now)) old (λ s. added s entry))
-    (AtAnyMoment (running (with_index l c.args.index.now)) old (λ s. added s entry)) in
-    subst P c.self.view_is
-    (put_any log c.self.invariant.place c.self.invariant.same old entry c.args.parity.now c.args.spelled.now can refl c.ring_of-ring.result c.ring_of-ring.ensures v1
-    c.append.ensures.any_moment v2 c.fill.ensures.any_moment v3 (sync_steps _ _ _ _ c.sync.ensures.call) c.in_ok-append.ensures.written c.fill.ensures.contents
-    c.in_ok-fill.ensures.written c.sync.ensures.call.same (settled_there _ v2 v3 c.in_ok-sync.ensures.call) v4 c.value_of-value.result c.value_of-value.ensures c.put.ensures.any_moment)
+returns-clause-any_moment g c = put_moved g (goal.at.returns-clause-any_moment g c).After-put
 
 pub returns-clause-committed : goal.returns-clause-committed
 returns-clause-committed g c =
     let old = g.B.Bank.view c.args.bank.now in
-    let v1 = g.B.Bank.view c.append.new.bank in
-    let v2 = g.B.Bank.view c.fill.new.bank in
     let v3 = g.B.Bank.view c.sync.new.self in
     let v4 = g.B.Bank.view c.put.new.bank in
     let log : IndexedLog = record { g = c.self.inside.g; head = c.self.inside.head; cell = c.self.inside.cell; stage = c.self.inside.stage; index = c.args.index.now } in
     let entry : Entry = entry_for c.args.rec.now.time c.args.rec.now.block c.args.bytes.now in
-    let can = subst (λ (l : Log). CanCommit (with_index l c.args.index.now) old entry c.args.parity.now c.args.spelled.now) (sym c.self.view_is) c.requires.can in
+    let can = so_can _ _ (sym c.self.view_is) _ _ _ _ _ c.requires.can in
     let rec_is = subst (λ (l : Log). c.args.rec.now ≡ next_rec l.head c.args.rec.now.time c.args.rec.now.block (length c.args.spelled.now)) (sym c.self.view_is) c.requires.rec in
     let known = c.add.ensures ∙ ap (λ (r : LogRec). with_record log.index r) rec_is in
     let P : Log → Type 0 = λ (l : Log). Moves old v4 (AtAnyMoment (running (with_index l c.args.index.now)) old (λ s. added s entry))
@@ -169,9 +142,10 @@ returns-clause-committed g c =
     })) old (λ s. added s entry)) in
     record {
       moves = subst P c.self.view_is
-          (put_ok log c.self.invariant.place c.self.invariant.same old entry c.args.parity.now c.args.spelled.now can refl c.ring_of-ring.result c.ring_of-ring.ensures v1
-          c.append.ensures.any_moment v2 c.fill.ensures.any_moment v3 (sync_steps _ _ _ _ c.sync.ensures.call) c.in_ok-append.ensures.written c.fill.ensures.contents
-          c.in_ok-fill.ensures.written c.sync.ensures.call.same (settled_there _ v2 v3 c.in_ok-sync.ensures.call) v4 c.value_of-value.result c.value_of-value.ensures
+          (put_ok log c.self.invariant.place c.self.invariant.same old entry c.args.parity.now c.args.spelled.now can refl c.ring_of-ring.result c.ring_of-ring.ensures
+          (g.B.Bank.view c.append.new.bank) c.append.ensures.any_moment (g.B.Bank.view c.fill.new.bank) c.fill.ensures.any_moment v3 (sync_steps _ _ _ _ c.sync.ensures.call)
+          c.in_ok-append.ensures.written c.fill.ensures.contents c.in_ok-fill.ensures.written c.sync.ensures.call.same
+          (settled_there _ (g.B.Bank.view c.fill.new.bank) v3 c.in_ok-sync.ensures.call) v4 c.value_of-value.result c.value_of-value.ensures
           c.put.new.self c.fill.new.self c.add.new.self known c.in_ok-fill.ensures.ok c.in_ok-put.ensures.ok);
       head = search rules;
       pending = search rules;
@@ -186,37 +160,30 @@ returns-clause-committed g c =
 pub returns-in_err-append-clause-calls : goal.returns-in_err-append-clause-calls
 returns-in_err-append-clause-calls g c =
     let log : Log = record { g = c.self.inside.g; head = c.self.inside.head; cell = c.self.inside.cell; stage = c.self.inside.stage } in
-    let old = g.B.Bank.view c.args.bank.now in
-    let v1 = g.B.Bank.view c.append.new.bank in
     record {
       ok = search rules;
-      most = subst (λ (l : Log). CalledAtMost (commit_calls l (length c.args.spelled.now)) old v1) c.self.view_is
-          (append_calls log (length c.args.spelled.now) c.ring_of-ring.result c.ring_of-ring.ensures old v1 c.append.ensures.calls.most);
+      most = so_called _ _ c.self.view_is _ _ _ (append_calls log _ c.ring_of-ring.result c.ring_of-ring.ensures _ (g.B.Bank.view c.append.new.bank) c.append.ensures.calls.most);
     }
 
 pub returns-in_err-fill-clause-calls : goal.returns-in_err-fill-clause-calls
 returns-in_err-fill-clause-calls g c =
     let log : Log = record { g = c.self.inside.g; head = c.self.inside.head; cell = c.self.inside.cell; stage = c.self.inside.stage } in
-    let old = g.B.Bank.view c.args.bank.now in
-    let v1 = g.B.Bank.view c.append.new.bank in
-    let v2 = g.B.Bank.view c.fill.new.bank in
     record {
       ok = search rules;
-      most = subst (λ (l : Log). CalledAtMost (commit_calls l (length c.args.spelled.now)) old v2) c.self.view_is
-          (fill_calls log (length c.args.spelled.now) c.ring_of-ring.result c.ring_of-ring.ensures old v1 c.append.ensures.calls.most v2 c.fill.ensures.calls);
+      most = so_called _ _ c.self.view_is _ _ _
+          (fill_calls log _ c.ring_of-ring.result c.ring_of-ring.ensures _ (g.B.Bank.view c.append.new.bank) c.append.ensures.calls.most (g.B.Bank.view c.fill.new.bank) c.fill.ensures.calls);
     }
 
+-- ---- likewise, from the sync on
 pub returns-in_err-sync-clause-calls : goal.returns-in_err-sync-clause-calls
 returns-in_err-sync-clause-calls g c =
     let log : Log = record { g = c.self.inside.g; head = c.self.inside.head; cell = c.self.inside.cell; stage = c.self.inside.stage } in
-    let old = g.B.Bank.view c.args.bank.now in
-    let v1 = g.B.Bank.view c.append.new.bank in
     let v2 = g.B.Bank.view c.fill.new.bank in
     let v3 = g.B.Bank.view c.sync.new.self in
     record {
       ok = search rules;
-      most = subst (λ (l : Log). CalledAtMost (commit_calls l (length c.args.spelled.now)) old v3) c.self.view_is
-          (sync_calls log (length c.args.spelled.now) c.ring_of-ring.result c.ring_of-ring.ensures old v1 c.append.ensures.calls.most v2 c.fill.ensures.calls
+      most = so_called _ _ c.self.view_is _ _ _
+          (sync_calls log _ c.ring_of-ring.result c.ring_of-ring.ensures _ (g.B.Bank.view c.append.new.bank) c.append.ensures.calls.most v2 c.fill.ensures.calls
           v3 (called_once c.sync.result v2 v3 c.sync.ensures.call.goes));
     }
 
@@ -224,15 +191,14 @@ pub returns-in_err-put-clause-calls : goal.returns-in_err-put-clause-calls
 returns-in_err-put-clause-calls g c =
     let log : Log = record { g = c.self.inside.g; head = c.self.inside.head; cell = c.self.inside.cell; stage = c.self.inside.stage } in
     let old = g.B.Bank.view c.args.bank.now in
-    let v1 = g.B.Bank.view c.append.new.bank in
     let v2 = g.B.Bank.view c.fill.new.bank in
     let v3 = g.B.Bank.view c.sync.new.self in
     let v4 = g.B.Bank.view c.put.new.bank in
     let is : Err c.in_err-put.field-0.0 ≡ c.from_residual-in_err-put.result = search rules in
     subst (λ (r : Result (Unit {0}) DiskFault). TakesCalls (commit_calls c.args.self.now (length c.args.spelled.now)) r old v4) is (record {
       ok = tt;
-      most = subst (λ (l : Log). CalledAtMost (commit_calls l (length c.args.spelled.now)) old v4) c.self.view_is
-          (put_calls_most log (length c.args.spelled.now) c.ring_of-ring.result c.ring_of-ring.ensures old v1 c.append.ensures.calls.most v2 c.fill.ensures.calls
+      most = so_called _ _ c.self.view_is _ _ _
+          (put_calls_most log _ c.ring_of-ring.result c.ring_of-ring.ensures old (g.B.Bank.view c.append.new.bank) c.append.ensures.calls.most v2 c.fill.ensures.calls
           v3 (called_once c.sync.result v2 v3 c.sync.ensures.call.goes) v4 c.put.ensures.cell.calls.most);
     })
 
@@ -240,71 +206,49 @@ pub returns-clause-calls : goal.returns-clause-calls
 returns-clause-calls g c =
     let log : Log = record { g = c.self.inside.g; head = c.self.inside.head; cell = c.self.inside.cell; stage = c.self.inside.stage } in
     let old = g.B.Bank.view c.args.bank.now in
-    let v1 = g.B.Bank.view c.append.new.bank in
     let v2 = g.B.Bank.view c.fill.new.bank in
     let v3 = g.B.Bank.view c.sync.new.self in
     let v4 = g.B.Bank.view c.put.new.bank in
     took_calls _ _ old v4 (subst (λ (l : Log). CalledTimes (commit_calls l (length c.args.spelled.now)) old v4) c.self.view_is
-    (whole_calls log (length c.args.spelled.now) c.ring_of-ring.result c.ring_of-ring.ensures old v1 c.in_ok-append.ensures.calls.ok
+    (whole_calls log (length c.args.spelled.now) c.ring_of-ring.result c.ring_of-ring.ensures old (g.B.Bank.view c.append.new.bank) c.in_ok-append.ensures.calls.ok
     v2 v3 v4 c.fill.ensures.calls (called_once c.sync.result v2 v3 c.sync.ensures.call.goes) c.in_ok-put.ensures.cell.calls.ok))
 
 -- ---- what stands then
 pub returns-in_err-append-clause-touches : goal.returns-in_err-append-clause-touches
 returns-in_err-append-clause-touches g c =
-    let old = g.B.Bank.view c.args.bank.now in
-    let v1 = g.B.Bank.view c.append.new.bank in
     let log : IndexedLog = record { g = c.self.inside.g; head = c.self.inside.head; cell = c.self.inside.cell; stage = c.self.inside.stage; index = c.args.index.now } in
-    let can = subst (λ (l : Log). CanCommit (with_index l c.args.index.now) old (entry_for c.args.rec.now.time c.args.rec.now.block c.args.bytes.now) c.args.parity.now
-    c.args.spelled.now) (sym c.self.view_is) c.requires.can in
-    subst (λ (l : Log). Touches (InCommit (running (with_index l c.args.index.now))) old v1) c.self.view_is
-    (append_touches log c.self.invariant.place c.self.invariant.same c.ring_of-ring.result c.ring_of-ring.ensures (length c.args.spelled.now) can.next.offsets.window old
-    v1 c.append.ensures.contents c.append.ensures.any_moment)
+    let can = so_can _ _ (sym c.self.view_is) _ _ _ _ _ c.requires.can in
+    so_touches _ _ c.self.view_is c.args.index.now _ _
+    (append_touches log c.self.invariant.place c.self.invariant.same c.ring_of-ring.result c.ring_of-ring.ensures (length c.args.spelled.now) can.next.offsets.window
+    (g.B.Bank.view c.args.bank.now) (g.B.Bank.view c.append.new.bank) c.append.ensures.contents c.append.ensures.any_moment)
 
 pub returns-in_err-fill-clause-touches : goal.returns-in_err-fill-clause-touches
 returns-in_err-fill-clause-touches g c =
-    let old = g.B.Bank.view c.args.bank.now in
-    let v1 = g.B.Bank.view c.append.new.bank in
-    let v2 = g.B.Bank.view c.fill.new.bank in
     let log : IndexedLog = record { g = c.self.inside.g; head = c.self.inside.head; cell = c.self.inside.cell; stage = c.self.inside.stage; index = c.args.index.now } in
-    let can = subst (λ (l : Log). CanCommit (with_index l c.args.index.now) old (entry_for c.args.rec.now.time c.args.rec.now.block c.args.bytes.now) c.args.parity.now
-    c.args.spelled.now) (sym c.self.view_is) c.requires.can in
-    subst (λ (l : Log). Touches (InCommit (running (with_index l c.args.index.now))) old v2) c.self.view_is
-    (fill_touches log c.self.invariant.place c.self.invariant.same c.ring_of-ring.result c.ring_of-ring.ensures (length c.args.spelled.now) can.next.offsets.window old v1
-    c.append.ensures.contents c.append.ensures.any_moment v2 c.fill.ensures.contents c.fill.ensures.any_moment)
+    let can = so_can _ _ (sym c.self.view_is) _ _ _ _ _ c.requires.can in
+    so_touches _ _ c.self.view_is c.args.index.now _ _
+    (fill_touches log c.self.invariant.place c.self.invariant.same c.ring_of-ring.result c.ring_of-ring.ensures (length c.args.spelled.now) can.next.offsets.window
+    (g.B.Bank.view c.args.bank.now) (g.B.Bank.view c.append.new.bank) c.append.ensures.contents c.append.ensures.any_moment
+    (g.B.Bank.view c.fill.new.bank) c.fill.ensures.contents c.fill.ensures.any_moment)
 
-pub returns-in_err-put-clause-touches : goal.returns-in_err-put-clause-touches
-returns-in_err-put-clause-touches g c =
-    let old = g.B.Bank.view c.args.bank.now in
-    let v1 = g.B.Bank.view c.append.new.bank in
-    let v2 = g.B.Bank.view c.fill.new.bank in
+put_touched : (g : _) (c : After-put g) → Touches (InCommit (running (with_index c.args.self.now c.args.index.now))) (g.B.Bank.view c.args.bank.now) (g.B.Bank.view c.put.new.bank)
+put_touched g c =
+    let log : IndexedLog = record { g = c.self.inside.g; head = c.self.inside.head; cell = c.self.inside.cell; stage = c.self.inside.stage; index = c.args.index.now } in
+    let can = so_can _ _ (sym c.self.view_is) _ _ _ _ _ c.requires.can in
     let torn_v3 = g.B.Bank.view c.sync.new.self in
     let torn_same = c.sync.ensures.call.same in
     let torn_sync = sync_steps _ _ _ _ c.sync.ensures.call in
-    let v4 = g.B.Bank.view c.put.new.bank in
-    let log : IndexedLog = record { g = c.self.inside.g; head = c.self.inside.head; cell = c.self.inside.cell; stage = c.self.inside.stage; index = c.args.index.now } in
-    let can = subst (λ (l : Log). CanCommit (with_index l c.args.index.now) old (entry_for c.args.rec.now.time c.args.rec.now.block c.args.bytes.now) c.args.parity.now
-    c.args.spelled.now) (sym c.self.view_is) c.requires.can in
-    subst (λ (l : Log). Touches (InCommit (running (with_index l c.args.index.now))) old v4) c.self.view_is
-    (commit_touches log c.self.invariant.place c.self.invariant.same c.ring_of-ring.result c.ring_of-ring.ensures (length c.args.spelled.now) can.next.offsets.window old
-    v1 c.append.ensures.contents c.append.ensures.any_moment v2 c.fill.ensures.contents c.fill.ensures.any_moment torn_v3 torn_same torn_sync v4
-    c.value_of-value.result c.put.ensures.contents c.put.ensures.any_moment)
+    so_touches _ _ c.self.view_is c.args.index.now _ _
+    (commit_touches log c.self.invariant.place c.self.invariant.same c.ring_of-ring.result c.ring_of-ring.ensures (length c.args.spelled.now) can.next.offsets.window
+    (g.B.Bank.view c.args.bank.now) (g.B.Bank.view c.append.new.bank) c.append.ensures.contents c.append.ensures.any_moment
+    (g.B.Bank.view c.fill.new.bank) c.fill.ensures.contents c.fill.ensures.any_moment torn_v3 torn_same torn_sync
+    (g.B.Bank.view c.put.new.bank) c.value_of-value.result c.put.ensures.contents c.put.ensures.any_moment)
+
+pub returns-in_err-put-clause-touches : goal.returns-in_err-put-clause-touches
+returns-in_err-put-clause-touches g c = put_touched g (goal.at.returns-in_err-put-clause-touches g c).After-put
 
 pub returns-clause-touches : goal.returns-clause-touches
-returns-clause-touches g c =
-    let old = g.B.Bank.view c.args.bank.now in
-    let v1 = g.B.Bank.view c.append.new.bank in
-    let v2 = g.B.Bank.view c.fill.new.bank in
-    let whole_v3 = g.B.Bank.view c.sync.new.self in
-    let whole_same = c.sync.ensures.call.same in
-    let whole_sync = sync_steps _ _ _ _ c.sync.ensures.call in
-    let v4 = g.B.Bank.view c.put.new.bank in
-    let log : IndexedLog = record { g = c.self.inside.g; head = c.self.inside.head; cell = c.self.inside.cell; stage = c.self.inside.stage; index = c.args.index.now } in
-    let can = subst (λ (l : Log). CanCommit (with_index l c.args.index.now) old (entry_for c.args.rec.now.time c.args.rec.now.block c.args.bytes.now) c.args.parity.now
-    c.args.spelled.now) (sym c.self.view_is) c.requires.can in
-    subst (λ (l : Log). Touches (InCommit (running (with_index l c.args.index.now))) old v4) c.self.view_is
-    (commit_touches log c.self.invariant.place c.self.invariant.same c.ring_of-ring.result c.ring_of-ring.ensures (length c.args.spelled.now) can.next.offsets.window old
-    v1 c.append.ensures.contents c.append.ensures.any_moment v2 c.fill.ensures.contents c.fill.ensures.any_moment whole_v3 whole_same whole_sync v4
-    c.value_of-value.result c.put.ensures.contents c.put.ensures.any_moment)
+returns-clause-touches g c = put_touched g (goal.at.returns-clause-touches g c).After-put
 
 pub returns-in_err-append-clause-same_array : goal.returns-in_err-append-clause-same_array
 returns-in_err-append-clause-same_array g c = goes_still (running (with_index c.args.self.now c.args.index.now))
@@ -313,13 +257,13 @@ pub returns-in_err-fill-clause-same_array : goal.returns-in_err-fill-clause-same
 returns-in_err-fill-clause-same_array g c =
     let log : IndexedLog = record { g = c.self.inside.g; head = c.self.inside.head; cell = c.self.inside.cell; stage = c.self.inside.stage; index = c.args.index.now } in
     let after : IndexedLog = record { g = c.self.inside.g; head = c.self.inside.head; cell = c.self.inside.cell; stage = c.fill.new.self; index = c.args.index.now } in
-    subst (λ (l : Log). SameArray (running (with_index l c.args.index.now)) (running after)) c.self.view_is (goes_same log after refl refl)
+    so_same _ _ c.self.view_is c.args.index.now after (goes_same log after refl refl)
 
 pub returns-in_err-put-clause-same_array : goal.returns-in_err-put-clause-same_array
 returns-in_err-put-clause-same_array g c =
     let log : IndexedLog = record { g = c.self.inside.g; head = c.self.inside.head; cell = c.self.inside.cell; stage = c.self.inside.stage; index = c.args.index.now } in
     let after : IndexedLog = record { g = c.self.inside.g; head = c.self.inside.head; cell = c.put.new.self; stage = c.fill.new.self; index = c.args.index.now } in
-    subst (λ (l : Log). SameArray (running (with_index l c.args.index.now)) (running after)) c.self.view_is (goes_same log after refl refl)
+    so_same _ _ c.self.view_is c.args.index.now after (goes_same log after refl refl)
 
 pub returns-clause-same_array : goal.returns-clause-same_array
 returns-clause-same_array g c =
@@ -331,8 +275,7 @@ returns-clause-same_array g c =
       stage = c.fill.new.self;
       index = c.add.new.self;
     } in
-    subst (λ (l : Log). SameArray (running (with_index l c.args.index.now)) (running after)) c.self.view_is
-    (goes_later log after refl (later_committed log.head c.args.rec.now.time (length c.args.spelled.now)))
+    so_same _ _ c.self.view_is c.args.index.now after (goes_later log after refl (later_committed c.self.inside.head c.args.rec.now.time (length c.args.spelled.now)))
 
 -- ---- what the log is after it
 pub invariant_of-self-in_err-put : goal.invariant_of-self-in_err-put

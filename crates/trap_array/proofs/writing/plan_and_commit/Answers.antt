@@ -21,7 +21,7 @@ use Rattle.trap_array.proofs.Counting.{calls_after, calls_failed, planned_first}
 use Rattle.trap_array.specs.Calls.{running}
 use Rattle.trap_array.proofs.AreaSteps.{touches_then, touches_same}
 use Rattle.trap_array.proofs.KeepSteps.{next_of, reply_of, plan_failed, full_turns, can_commit, kept_turns}
-use Rattle.trap_array.proofs.writing.write_leased.Goals as goal
+use Rattle.trap_array.proofs.writing.plan_and_commit.Goals as goal
 
 pub returns-in_err-plan-clause-moves : goal.returns-in_err-plan-clause-moves
 returns-in_err-plan-clause-moves g c =
