@@ -1,0 +1,4 @@
+pub mod SentFrames
+pub mod Telling
+pub mod Gathering
+pub mod Copies

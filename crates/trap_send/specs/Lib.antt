@@ -1,0 +1,5 @@
+pub mod Sending
+pub mod EntryFrames
+pub mod Sends
+pub mod Copying
+pub mod Pieces
