@@ -1,0 +1,9 @@
+pub mod Framing
+pub mod Making
+pub mod Creates
+pub mod Mounted
+pub mod Exports
+pub mod Streams
+pub mod Applied
+pub mod Applies
+pub mod Loads

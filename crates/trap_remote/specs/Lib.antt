@@ -1,0 +1,11 @@
+pub mod Ended
+pub mod Found
+pub mod Stream
+pub mod Making
+pub mod Creating
+pub mod Loaded
+pub mod Loading
+pub mod Exporting
+pub mod Receiving
+pub mod Applying
+pub mod Running
