@@ -1,7 +1,8 @@
 -- The store of a mounted array, as it goes on.
-use Rattle.std.proofs.Common.{◌≡◌, ◌⊎◌, inl, inr, ⊎_elim, ℕ, ◌+◌, ◌<◌, ◌≤◌, Option, Some, None, true, Result, Ok, Err, subst, ◌∙◌, arith}
+use Rattle.std.proofs.Common.{◌≡◌, ◌⊎◌, inl, inr, ⊎_elim, ℕ, ◌+◌, ◌<◌, ◌≤◌, List, Option, Some, None, true, Result, Ok, Err, subst, ◌∙◌, arith}
 use Rattle.std.specs.Prelude.{◌≢◌}
 use Rattle.trap_bank.specs.Disks.{Contents, Disks, View}
+use Rattle.trap_bank.specs.Stream.{Stream}
 use Rattle.trap_model.specs.ArrayStep.{step, or_refused, refusal, accepted}
 use Rattle.trap_model.specs.declared.numbers.Geometry.{Geometry}
 use Rattle.trap_model.specs.declared.history.State.{State}
@@ -16,7 +17,8 @@ use Rattle.trap_array.specs.Calls.{Mounted, HoldsLike, SameArray}
 use Rattle.trap_array.specs.declared.fault.Denied.{Denied}
 use Rattle.trap_array.specs.declared.fault.Denied.TheVariants.{Refused, LogFault, MemberFault, Damaged, Stopped}
 use Rattle.trap_array.proofs.Turns.{later_then}
-use Rattle.trap_session.specs.Store.{Store, array_store, FaultCause, Served, Answering, CutShort, Struck, Waits, StandsForNone, FaultRose}
+use Rattle.trap_session.specs.Serving.{StopsAs, StopsTorn}
+use Rattle.trap_session.specs.Store.{Store, store_of, array_store, Served, Answering, CutShort, Struck, Waits, StandsForNone, FaultRose}
 use Rattle.trap_session.specs.declared.outcome.Next.{Next}
 use Rattle.trap_session.specs.declared.outcome.Next.TheVariants.{More, Quit}
 use Rattle.trap_session.specs.declared.outcome.SessionFault.{SessionFault}
@@ -45,28 +47,40 @@ pub array_torn : (a : Mounted) (disks : Disks) (t : State) (asked : Request) →
     → (array_store a).holds disks t ⊎ (array_store a).holds disks ((array_store a).machine.next t asked)
 array_torn a disks t asked torn = torn
 
--- what a fault comes with may be said of something weaker
-pub comes_also : (denied : Denied) (P Q : Type 0) → (P → Q) → FaultCause denied P → FaultCause denied Q
-comes_also (Refused why) P Q also p = also p
-comes_also LogFault P Q also p = also p
-comes_also (MemberFault first second) P Q also p = also p
-comes_also (Damaged offset) P Q also p = absurd p
-comes_also Stopped P Q also p = also p
+-- A fault of the array comes with what was done, and no record was damaged.
+pub struck_of : {S : Type 0} (store : Store S) (denied : Denied) (s : S) (asked : Request) (x y : Contents)
+    → Served store (Err (Array denied)) s asked x y → Struck store s asked x y
+struck_of store (Damaged offset) s asked x y served = absurd served
+struck_of store other s asked x y served = served
 
--- and where it comes at all, it is so
-pub comes_gives : {claim : Type 0} (denied : Denied) → FaultCause denied claim → claim
-comes_gives (Refused why) comes = comes
-comes_gives LogFault comes = comes
-comes_gives (MemberFault first second) comes = comes
-comes_gives (Damaged offset) comes = absurd comes
-comes_gives Stopped comes = comes
+pub served_also : {S T : Type 0} (store : Store S) (also : Store T) (denied : Denied) (s : S) (t : T) (asked : Request) (x y : Contents)
+    → (Struck store s asked x y → Struck also t asked x y) → Served store (Err (Array denied)) s asked x y → Served also (Err (Array denied)) t asked x y
+served_also store also (Damaged offset) s t asked x y so served = served
+served_also store also other s t asked x y so served = so served
+
+-- so with the session that ends by it
+pub torn_of : {S : Type 0} (store : Store S) (denied : Denied) (s : S) (input : List ℕ) (x y : Contents) (from to : Stream)
+    → StopsAs store (Err (Array denied)) s input x y from to → StopsTorn store s input x y
+torn_of store (Damaged offset) s input x y from to stops = absurd stops
+torn_of store other s input x y from to stops = stops
+
+pub torn_also : {S T : Type 0} (store : Store S) (also : Store T) (denied : Denied) (s : S) (t : T) (input : List ℕ) (x y z : Contents) (from to : Stream)
+    → (StopsTorn store s input x z → StopsTorn also t input y z)
+    → StopsAs store (Err (Array denied)) s input x z from to → StopsAs also (Err (Array denied)) t input y z from to
+torn_also store also (Damaged offset) s t input x y z from to so stops = stops
+torn_also store also other s t input x y z from to so stops = so stops
+
+pub torn_by : {S : Type 0} (store : Store S) (denied : Denied) (s t : S) (asked : Request) (input : List ℕ) (x y z : Contents) (from to : Stream)
+    → (Struck store t asked y z → StopsTorn store s input x z) → Served store (Err (Array denied)) t asked y z → StopsAs store (Err (Array denied)) s input x z from to
+torn_by store (Damaged offset) s t asked input x y z from to so served = served
+torn_by store other s t asked input x y z from to so served = so served
 
 -- whatever a line's answer is, the disks hold a state after it
 pub served_some : (a : Mounted) (result : Result Next SessionFault) (s : State) (asked : Request) (x y : Contents)
     → Served (array_store a) result s asked x y → (t : State) × HoldsLike a.g a.head t y.disks
 served_some a (Ok More) s asked x y served = (_, served.holds)
-served_some a (Ok Quit) s asked x y served = (_, served.holds)
-served_some a (Err (Array denied)) s asked x y served = ⊎_elim (λ holds. (_, holds)) (λ holds. (_, holds)) (comes_gives denied served).torn
+served_some a (Ok Quit) s asked x y served = (_, served.1.holds)
+served_some a (Err (Array denied)) s asked x y served = ⊎_elim (λ holds. (_, holds)) (λ holds. (_, holds)) (struck_of (array_store a) denied s asked x y served).torn
 served_some a (Err WriteFault) s asked x y served = (_, served.holds)
 served_some a (Err ReadFault) s asked x y served = absurd served
 served_some a (Err TooLong) s asked x y served = absurd served
@@ -76,12 +90,7 @@ goes_then {a} {b} {c} p q = record { g = q.g ∙ p.g; follows = later_then a.hea
 
 -- the store by numbers that are an array's, and the head of an array
 abbrev store_by : Geometry → Mounted → Store State
-store_by g b = record {
-  machine = step g;
-  block = g.block;
-  holds = λ disks s. HoldsLike g b.head s disks;
-  torn = λ disks s asked. HoldsLike g b.head s disks ⊎ HoldsLike g b.head ((step g).next s asked) disks;
-}
+store_by g b = store_of g (λ disks s. HoldsLike g b.head s disks)
 
 -- What the disks hold by a later array they hold by the first.
 module _ (a b : Mounted) (goes : SameArray a b) where
@@ -104,8 +113,8 @@ module _ (a b : Mounted) (goes : SameArray a b) where
 
     served_like : (result : Result Next SessionFault) → Served (store_by a.g b) result s asked x y → Served (array_store a) result s asked x y
     served_like (Ok More) served = record { more = served.more; said = served.said; holds = like ((step a.g).next s asked) y.disks served.holds }
-    served_like (Ok Quit) served = record { ends = served.ends; said = served.said; holds = like s y.disks served.holds }
-    served_like (Err (Array denied)) served = comes_also denied (Struck (store_by a.g b) s asked x y) (Struck (array_store a) s asked x y) struck_like served
+    served_like (Ok Quit) served = (served.0, record { said = served.1.said; holds = like s y.disks served.1.holds })
+    served_like (Err (Array denied)) served = served_also (store_by a.g b) (array_store a) denied s s asked x y struck_like served
     served_like (Err WriteFault) served = cut_like served
     served_like (Err ReadFault) served = absurd served
     served_like (Err TooLong) served = absurd served

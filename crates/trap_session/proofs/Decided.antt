@@ -20,7 +20,7 @@ use Rattle.trap_array.specs.Turning.{early_refusal}
 use Rattle.trap_array.specs.Untouched.{Untouched}
 use Rattle.trap_array.specs.declared.fault.Denied.{Denied}
 use Rattle.trap_array.specs.declared.fault.Denied.TheVariants.{Refused}
-use Rattle.trap_session.specs.Deciding.{refused_as, decided_of_block}
+use Rattle.trap_session.specs.Deciding.{refusal_reply, decided_of_block}
 use Rattle.trap_session.specs.Denying.{EndsSession}
 
 -- a reason that is neither that the block isn't there nor that there is no room
@@ -66,18 +66,18 @@ module _ {T : Type 0} (a : Mounted) (block : ℕ) (reasons : Reasons) (call : Re
       (leb_tells (volume a.g) block)
     where
       Decides : Bool → Type 0
-      Decides above = (if above then Some (No NoBlock) else if a.is_stopped then None else refused_as reasons.own) ≡ Some reply
+      Decides above = (if above then Some (No NoBlock) else if a.is_stopped then None else refusal_reply reasons.own) ≡ Some reply
 
       beyond : volume a.g ≤ block → Some (No NoBlock) ≡ Some reply → IsRefused call reply v u
       beyond above is = record { why = NoBlock; is = denied.no_block.1 above; says = cc is; still = denied.untouched (inl above) }
 
-      by_reason : block < volume a.g → a.is_stopped ≡ false → (reason : Option Refusal) → reasons.own ≡ reason → refused_as reason ≡ Some reply → IsRefused call reply v u
+      by_reason : block < volume a.g → a.is_stopped ≡ false → (reason : Option Refusal) → reasons.own ≡ reason → refusal_reply reason ≡ Some reply → IsRefused call reply v u
       by_reason below running None reason is = absurd (cc is)
       by_reason below running (Some why) reason is =
           let mine = own why reason in
           record { why = why; is = (denied.refused why mine.0 mine.1).1 (below, running, reason); says = cc is; still = denied.at_once why reason }
 
-      there : block < volume a.g → (stopped : Bool) → a.is_stopped ≡ stopped → (if stopped then None else refused_as reasons.own) ≡ Some reply → IsRefused call reply v u
+      there : block < volume a.g → (stopped : Bool) → a.is_stopped ≡ stopped → (if stopped then None else refusal_reply reasons.own) ≡ Some reply → IsRefused call reply v u
       there below true stopped is = absurd (cc is)
       there below false running is = by_reason below running reasons.own refl is
 
@@ -105,13 +105,13 @@ module _ {T : Type 0} (a : Mounted) (block : ℕ) (reasons : Reasons) (call : Re
 module _ {T : Type 0} (a : Mounted) (block : ℕ) (reasons : Reasons) (call : Result T Denied) (v u : View) (denied : DeniedBy a block reasons call v u) where
   by_own : (why : Refusal) → IsOwn why → call ≡ Err (Refused why) → decided_of_block a block reasons.own ≡ Some (No why)
   by_own why own is = let all = (denied.refused why own.0 own.1).0 is in
-      ap (λ (above : Bool). if above then Some (No NoBlock) else if a.is_stopped then None else refused_as reasons.own) (lt-leb (volume a.g) block all.0)
-      ∙ ap (λ (stopped : Bool). if stopped then None else refused_as reasons.own) all.1
-      ∙ ap refused_as all.2
+      ap (λ (above : Bool). if above then Some (No NoBlock) else if a.is_stopped then None else refusal_reply reasons.own) (lt-leb (volume a.g) block all.0)
+      ∙ ap (λ (stopped : Bool). if stopped then None else refusal_reply reasons.own) all.1
+      ∙ ap refusal_reply all.2
 
   pub refused_possible : (why : Refusal) → call ≡ Err (Refused why) → (decided_of_block a block reasons.own ≡ Some (No why)) ⊎ ((why ≡ Full) × reasons.tight)
   refused_possible NoLine is = inl (by_own NoLine ((λ e. cc e), (λ e. cc e)) is)
-  refused_possible NoBlock is = inl (ap (λ (above : Bool). if above then Some (No NoBlock) else if a.is_stopped then None else refused_as reasons.own)
+  refused_possible NoBlock is = inl (ap (λ (above : Bool). if above then Some (No NoBlock) else if a.is_stopped then None else refusal_reply reasons.own)
       (le-leb (volume a.g) block (denied.no_block.0 is)))
   refused_possible (TimeBack last) is = inl (by_own (TimeBack last) ((λ e. cc e), (λ e. cc e)) is)
   refused_possible Worn is = inl (by_own Worn ((λ e. cc e), (λ e. cc e)) is)

@@ -8,7 +8,6 @@ use Rattle.trap_model.specs.ArrayStep.{step}
 use Rattle.trap_model.specs.declared.history.State.{State}
 use Rattle.trap_model.specs.declared.numbers.Geometry.{Geometry}
 use Rattle.trap_model.specs.declared.request.Request.{Request}
-use Rattle.trap_model.specs.declared.request.Request.TheVariants as request
 use Rattle.trap_script.specs.Lines.{lines, line_feeds, request_of, goes_on, HasNoFeed}
 use Rattle.trap_lines.specs.declared.found.ReadFault.{ReadFault}
 use Rattle.trap_lines.specs.declared.found.ReadFault.TheVariants as read
@@ -20,8 +19,8 @@ use Rattle.trap_array.proofs.TurnSteps.{goes_still}
 use Rattle.trap_session.specs.Answers.{is_stopping, AnswersLine}
 use Rattle.trap_session.specs.Exchange.{IsSessionOver}
 use Rattle.trap_session.specs.Leaving.{HasServed}
-use Rattle.trap_session.specs.Serving.{Serves, HasStopped, StopsAs, StopsBy, StopsReading, AreWholeLines, HadNoQuit, StandsAtEnd, Took, bytes_taken, ended_by}
-use Rattle.trap_session.specs.Store.{array_store, NamesBad, NamesBadLine}
+use Rattle.trap_session.specs.Serving.{Serves, HasStopped, StopsAs, StopsAfter, StopsBy, AreWholeLines, HadNoQuit, StandsAtEnd, Took, bytes_taken, ended_by}
+use Rattle.trap_session.specs.Store.{array_store, NamesDamage}
 use Rattle.trap_session.specs.declared.outcome.Ended.{Ended}
 use Rattle.trap_session.specs.declared.outcome.Ended.TheVariants as ended
 use Rattle.trap_session.specs.declared.outcome.Next.{Next}
@@ -86,7 +85,7 @@ pub record HasEnded {B : Type 0} (view : B → View) (a c : Mounted) (result : R
   pub leaves : HasServed a c result (view first) (view last) from to
   pub held : StandsAtEnd a (view first) (view last)
   pub cause : StopsBy a result (view first) (view last) from to
-  pub bad : IfErr result (λ fault. NamesBadLine c fault (view last))
+  pub damaged : IfErr result (λ fault. NamesDamage c fault (view last))
 
 module _ {B : Type 0} (view : B → View) (a b : Mounted) (first mid : B) (from at to : Stream) (r r' : LineReader) (run : HasRun view a b first mid from at r) where
   within : r'.end ≤ length r'.chunk.items
@@ -116,7 +115,7 @@ module _ {B : Type 0} (view : B → View) (a b : Mounted) (first mid : B) (from 
     feeds input left = feeds_taken input run.passed none.0 run.r0 r r' from at to run.none run.untaken left run.passes none.2 none.1 none.3.0 within
 
     reads : (s : State) (input : List ℕ) → from.left ≡ Some input → (x y : Contents) → Walked (array_store a) s input run.passed x y
-        → StopsReading (array_store a) s input x y from to
+        → StopsAfter (array_store a) s input (line_feeds (bytes_taken input from to)) x y
     reads s input left x y walked =
         stops_reading (array_store a) s input run.passed none.0 x y run.r0 r r' from at to walked run.none run.untaken left run.passes none.2 none.1 none.3.0 within
 
@@ -128,7 +127,7 @@ module _ {B : Type 0} (view : B → View) (a b : Mounted) (first mid : B) (from 
     leaves = leaves (Err Unread) refl (took none.0 none.2) (λ is. absurd (cc is));
     held = held;
     cause = let rose = none.3.1 in let later = run.passes.faults in omega (arith, rose, later);
-    bad = (request.Quit, tt);
+    damaged = λ offset is. absurd (cc is);
   }
 
   pub too_much : FindsNone read.TooLong r r' at to → HasEnded view a b (Err TooLong) first mid from to
@@ -139,7 +138,7 @@ module _ {B : Type 0} (view : B → View) (a b : Mounted) (first mid : B) (from 
     leaves = leaves (Err TooLong) refl (took none.0 none.2) (λ is. absurd (cc is));
     held = held;
     cause = (let both = passes_trans run.passes none.2 in let given = both.given in let long = none.3.1.0 in omega (arith, given, long, run.untaken), none.3.1.1);
-    bad = (request.Quit, tt);
+    damaged = λ offset is. absurd (cc is);
   }
 
   -- No line was left.
@@ -153,7 +152,7 @@ module _ {B : Type 0} (view : B → View) (a b : Mounted) (first mid : B) (from 
         leaves = leaves (Ok ended.Input) refl (took [] next) (λ is. none_left r' to end.0);
         held = held;
         cause = end.1;
-        bad = tt;
+        damaged = tt;
       }
 
   -- A line was found, and the array answered it.
@@ -178,7 +177,7 @@ module _ {B : Type 0} (view : B → View) (a b : Mounted) (first mid : B) (from 
       held = held_then;
       cause = fault_stops a (view first) (view last) from to run.began fault
           (risen a (view first) from b (view mid) run.passed run.turn run.goes run.turns run.steps c (view last) line no_feed next answers run.running fault is);
-      bad = (request_of b.g.block line, subst (λ (r : Result Next SessionFault). IfErr r (λ f. NamesBad c (request_of b.g.block line) f (view last))) is answers.bad);
+      damaged = λ offset same told. (request_of b.g.block line, answers.damaged offset (is ∙ ap Err same) told);
     }
 
     -- with a line feed
@@ -207,7 +206,7 @@ module _ {B : Type 0} (view : B → View) (a b : Mounted) (first mid : B) (from 
             (took (line ++ 10 ∷ []) passes) (λ input. absurd (cc input));
         held = held_then;
         cause = took_quit a.g.block run.r0 r r' from at to run.passed line run.none run.untaken within run.whole run.passes passes no_feed (quits.0 is);
-        bad = tt;
+        damaged = tt;
       }
 
       pub line_answered : next ≡ Ok More → to.ended ≡ false → HasRun view a c first last from to r'
@@ -260,5 +259,5 @@ module _ {B : Type 0} (view : B → View) (a b : Mounted) (first mid : B) (from 
             held = held_then;
             cause = ended_last a (view first) (view last) from to way (goes_on (request_of a.g.block line)) end.1 so
                 (λ quit. took_last_quit a.g.block run.r0 r r' from at to run.passed line run.none run.untaken within run.whole run.passes passes end no_feed quit);
-            bad = tt;
+            damaged = tt;
           }

@@ -1,5 +1,5 @@
 -- What a crash leaves while one line is answered, from the calls that it makes.
-use Rattle.std.proofs.Common.{◌≡◌, ◌⊎◌, ◌↔◌, inl, inr, ℕ, ◌+◌, ◌<◌, ◌≤◌, Option, List, ◌++◌, length, take, Some, None, Bool, true, false, ◌||◌, IsTrue, Result, Ok, Err, OnErr, IfOk, IfErr, IsErr, IsErrAnd, refl, sym, ap, subst, ◌∙◌, arith}
+use Rattle.std.proofs.Common.{◌≡◌, ◌⊎◌, ◌↔◌, inl, inr, ⊎_elim, ℕ, ◌+◌, ◌<◌, ◌≤◌, Option, List, ◌++◌, length, take, Some, None, Bool, true, false, ◌||◌, IsTrue, Result, Ok, Err, OnErr, IfOk, IfErr, IsErr, IsErrAnd, refl, sym, ap, subst, ◌∙◌, arith}
 use Rattle.std.specs.Prelude.{◌≢◌, IfSome}
 use Rattle.std.proofs.Math.Seq.{take-append_seam}
 use Rattle.trap_bank.specs.Disks.{Contents, Disks, View, Quiet}
@@ -20,7 +20,7 @@ use Rattle.trap_model.specs.declared.request.Reply.{Reply}
 use Rattle.trap_model.specs.declared.request.Reply.TheVariants.{No, Span}
 use Rattle.trap_script.specs.Lines.{goes_on}
 use Rattle.trap_script.specs.Replies.{reply_text}
-use Rattle.trap_array.specs.Areas.{Touches, InWrite, MayTouch}
+use Rattle.trap_array.specs.Areas.{Touches, InWrite}
 use Rattle.trap_array.specs.Holding.{HoldsBy}
 use Rattle.trap_array.specs.Beside.{StaysFrom}
 use Rattle.trap_array.specs.Calls.{Mounted, WriteReplies, ReadReplies, AtReplies, is_fault, MemberFails, StandsFor, HoldsLike, IsReady, SameArray, AtAnyMoment, StandsAfterCall}
@@ -39,13 +39,12 @@ use Rattle.trap_array.proofs.TurnSteps.{goes_still}
 use Rattle.trap_array.proofs.Turns.{later_same}
 use Rattle.trap_session.specs.After.{KnowsSame, AfterReply, AfterFault}
 use Rattle.trap_session.specs.Calling.{CallsInLine}
-use Rattle.trap_session.specs.Changing.{InLine, InNothing, makes_no_call}
-use Rattle.trap_session.specs.Fitting.{FaultFits, FailsReading, ReadsNoRecord, ReadsNoLog, AsksBlock}
-use Rattle.trap_session.specs.Store.{Store, array_store, FaultCause, Replied, CutShort, Struck, StandsForNone, FaultRose, IsBadFor, NamesBad}
+use Rattle.trap_session.specs.Changing.{InLine, InNothing}
+use Rattle.trap_session.specs.Fitting.{FaultFits, FailsReading, AsksBlock}
+use Rattle.trap_session.specs.Store.{Store, array_store, Replied, CutShort, Struck, Served, StandsForNone, FaultRose, IsDamagedFor}
 use Rattle.trap_session.specs.Deciding.{decided_of_block, decided_reply, MayReply}
-use Rattle.trap_session.specs.Indexing.{IndexAfterLine}
 use Rattle.trap_session.specs.Denying.{EndsSession}
-use Rattle.trap_session.specs.Answers.{Answers, HasAnswered, StandsOn, stops_array, is_stopping, UnlessStopped, UnlessFailed, SaidInOneCall, Speaks, Replies, AnswersLine}
+use Rattle.trap_session.specs.Answers.{LeavesInLine, HasAnswered, StandsOn, is_stopping, SaidInOneCall, Speaks, RepliesPossibly, AnswersLine}
 use Rattle.trap_session.specs.declared.outcome.Next.{Next}
 use Rattle.trap_session.specs.declared.outcome.Next.TheVariants.{More, Quit}
 use Rattle.trap_session.specs.declared.outcome.SessionFault.{SessionFault}
@@ -86,19 +85,19 @@ HasDone a v asked old new = (s : State) → Always v (StandsFor a s) → IsDone 
 -- A reply is said after a request that is done.
 pub reply_after : (a : Mounted) (v u w : View) (asked : Request) (reply : Reply) (result : Result Next SessionFault)
     → (IsTrue v.tells → (s : State) → Always v (StandsFor a s) → (step a.g).reply s asked ≡ reply)
-    → Steps v u (Answers a v asked) (HasDone a v asked) → Says (reply_text reply) result u w
+    → Steps v u (LeavesInLine a v asked) (HasDone a v asked) → Says (reply_text reply) result u w
     → IfOk result (λ next. next ≡ More) → IfErr result (λ fault. fault ≡ WriteFault)
-    → Steps v w (Answers a v asked) (HasAnswered a v result asked)
-reply_after a v u w asked reply (Ok More) is done call ok err = then_ v u w (Answers a v asked) (HasDone a v asked) (SpokePart (reply_text reply)) (Spoke (reply_text reply))
-    (Answers a v asked) (HasAnswered a v (Ok More) asked) done (said_steps {T = Next} {E = SessionFault} More u w (reply_text reply) call)
+    → Steps v w (LeavesInLine a v asked) (HasAnswered a v result asked)
+reply_after a v u w asked reply (Ok More) is done call ok err = then_ v u w (LeavesInLine a v asked) (HasDone a v asked) (SpokePart (reply_text reply)) (Spoke (reply_text reply))
+    (LeavesInLine a v asked) (HasAnswered a v (Ok More) asked) done (said_steps {T = Next} {E = SessionFault} More u w (reply_text reply) call)
     (λ x y was step. step)
     (λ x y z was done mid spoke s stands. inr (inr (cut_part (array_store a) s asked (reply_text reply) (ap reply_text (sym (is was.told s stands))) x y z (done s stands) spoke)))
     (λ x y z was done mid spoke s stands. said_all (array_store a) s asked (reply_text reply) (ap reply_text (sym (is was.told s stands))) x y z (done s stands) spoke)
 reply_after a v u w asked reply (Ok Quit) is done call ok err = absurd (cc ok)
 reply_after a v u w asked reply (Err (Array denied)) is done call ok err = absurd (cc err)
 reply_after a v u w asked reply (Err ReadFault) is done call ok err = absurd (cc err)
-reply_after a v u w asked reply (Err WriteFault) is done call ok err = then_ v u w (Answers a v asked) (HasDone a v asked) (SpokePart (reply_text reply)) (SpokePart (reply_text reply))
-    (Answers a v asked) (HasAnswered a v (Err WriteFault) asked) done (say_steps {T = Next} {E = SessionFault} (Err WriteFault) u w (reply_text reply) call)
+reply_after a v u w asked reply (Err WriteFault) is done call ok err = then_ v u w (LeavesInLine a v asked) (HasDone a v asked) (SpokePart (reply_text reply)) (SpokePart (reply_text reply))
+    (LeavesInLine a v asked) (HasAnswered a v (Err WriteFault) asked) done (say_steps {T = Next} {E = SessionFault} (Err WriteFault) u w (reply_text reply) call)
     (λ x y was step. step)
     (λ x y z was done mid spoke s stands. inr (inr (cut_part (array_store a) s asked (reply_text reply) (ap reply_text (sym (is was.told s stands))) x y z (done s stands) spoke)))
     (λ x y z was done mid spoke s stands. cut_part (array_store a) s asked (reply_text reply) (ap reply_text (sym (is was.told s stands))) x y z (done s stands) spoke)
@@ -125,31 +124,14 @@ rose_port : (a : Mounted) (v u w : View) (result : Result Next SessionFault) →
 rose_port a v u w (Ok next) later rose is = rose
 rose_port a v u w (Err fault) later rose is = subst (λ f. FaultRose a f v w) (sym is) (omega (arith, later, rose))
 
--- such a fault names no record
-names_port : (a : Mounted) (asked : Request) (w : View) (result : Result Next SessionFault) → IfErr result (λ fault. fault ≡ WriteFault)
-    → IfErr result (λ fault. NamesBad a asked fault w)
-names_port a asked w (Ok next) is = is
-names_port a asked w (Err fault) is = subst (λ f. NamesBad a asked f w) (sym is) tt
-
--- nor does a call that finds none damaged
-names_none : (a : Mounted) (asked : Request) (w : View) (denied : Denied) → ((offset : ℕ) → denied ≡ Damaged offset → ⊥) → NamesBad a asked (Array denied) w
-names_none a asked w (Refused why) never = tt
-names_none a asked w LogFault never = tt
-names_none a asked w (MemberFault first second) never = tt
-names_none a asked w (Damaged offset) never = absurd (never offset refl)
-names_none a asked w Stopped never = tt
-
--- and one that changes nothing but whether the array is stopped names the one that it found
+-- A call that changes nothing but whether the array is stopped names the damaged record that it found.
 names_same : (a b : Mounted) (asked : Request) (v u : View) (stopped : Bool) → b ≡ record a { is_stopped = stopped } → u.tells ≡ v.tells → (IsTrue v.tells → u.now ≡ v.now)
-    → (denied : Denied) → ((offset : ℕ) → denied ≡ Damaged offset → IsTrue v.tells → IsBadFor a.g a.index asked v.now.disks offset) → NamesBad b asked (Array denied) u
-names_same a b asked v u stopped same tells alike (Refused why) bad = tt
-names_same a b asked v u stopped same tells alike LogFault bad = tt
-names_same a b asked v u stopped same tells alike (MemberFault first second) bad = tt
-names_same a b asked v u stopped same tells alike (Damaged offset) bad = λ told.
+    → (denied : Denied) → ((offset : ℕ) → denied ≡ Damaged offset → IsTrue v.tells → IsDamagedFor a.g a.index asked v.now.disks offset)
+    → (offset : ℕ) → denied ≡ Damaged offset → IsTrue u.tells → IsDamagedFor b.g b.index asked u.now.disks offset
+names_same a b asked v u stopped same tells alike denied damaged offset is told =
     let told_before = subst IsTrue tells told in
-    subst (λ (m : Mounted). IsBadFor m.g m.index asked u.now.disks offset) (sym same)
-    (subst (λ (x : Contents). IsBadFor a.g a.index asked x.disks offset) (sym (alike told_before)) (bad offset refl told_before))
-names_same a b asked v u stopped same tells alike Stopped bad = tt
+    subst (λ (m : Mounted). IsDamagedFor m.g m.index asked u.now.disks offset) (sym same)
+    (subst (λ (x : Contents). IsDamagedFor a.g a.index asked x.disks offset) (sym (alike told_before)) (damaged offset is told_before))
 
 -- no disk changes while a piece is said
 stays_said : (d : ℕ) (u w : View) → (IsTrue u.tells → w.now.disks ≡ u.now.disks) → StaysFrom d u w
@@ -159,6 +141,11 @@ stays_said d u w same told e above = ap (λ (disks : Disks). disks e) (same told
 port_only : (result : Result Next SessionFault) {denied : Denied} → IfErr result (λ fault. fault ≡ WriteFault) → result ≡ Err (Array denied) → ⊥
 port_only (Ok next) port is = cc is
 port_only (Err fault) port is = cc (port, is)
+
+-- nor is a line with a reply the last one
+not_quit : (result : Result Next SessionFault) → IfOk result (λ next. next ≡ More) → result ≡ Ok Quit → ⊥
+not_quit (Ok next) more is = cc (more, is)
+not_quit (Err fault) more is = cc is
 
 -- where only disks were worked on, nothing was said
 pub quiet_moves : (v u : View) (during after : Disks → Disks → Type 0) → Moves v u during after → IsTrue v.tells → u.now.said ≡ v.now.said
@@ -170,7 +157,7 @@ quiet_moves v u during after moves told =
 said_once : (v u w : View) → u.tells ≡ v.tells → (IsTrue v.tells → u.now.said ≡ v.now.said) → SaidInOneCall u w → SaidInOneCall v w
 said_once v u w tells quiet once told by_one =
     let since = once (subst IsTrue (sym tells) told) by_one in
-    record { before = since.before; last_call = since.last_call; entry = since.entry; left = since.left; said = since.said ∙ quiet told }
+    (since.0, since.1, since.2, since.3, since.4 ∙ quiet told)
 
 speaks_reply : (result : Result Next SessionFault) (v w : View) → SaidInOneCall v w → IfOk result (λ next. next ≡ More) → IfErr result (λ fault. fault ≡ WriteFault)
     → Speaks result v w
@@ -184,46 +171,16 @@ speaks_reply (Err TooLong) v w once ok err = absurd (cc err)
 -- the port stops no array
 not_stopping : (result : Result Next SessionFault) → IfErr result (λ fault. fault ≡ WriteFault) → is_stopping result ≡ false
 not_stopping (Ok next) err = refl
-not_stopping (Err fault) err = ap stops_array err
+not_stopping (Err fault) err = ap (λ (f : SessionFault). is_stopping {T = Next} (Err f)) err
 
 or_false : (b : Bool) → b ≡ (b || false)
 or_false true = refl
 or_false false = refl
 
--- what is so is so unless a disk failed
-unless_stopped : {P : Type 0} (fault : SessionFault) → P → UnlessStopped fault P
-unless_stopped (Array (Refused why)) p = p
-unless_stopped (Array LogFault) p = tt
-unless_stopped (Array (MemberFault first second)) p = tt
-unless_stopped (Array (Damaged offset)) p = p
-unless_stopped (Array Stopped) p = tt
-unless_stopped ReadFault p = p
-unless_stopped WriteFault p = p
-unless_stopped TooLong p = p
-
-pub unless_failed : {T P : Type 0} (result : Result T SessionFault) → P → UnlessFailed result P
-unless_failed (Ok value) p = p
-unless_failed (Err fault) p = unless_stopped fault p
-
-unless_stopped_also : {P Q : Type 0} (fault : SessionFault) → (P → Q) → UnlessStopped fault P → UnlessStopped fault Q
-unless_stopped_also (Array (Refused why)) also p = also p
-unless_stopped_also (Array LogFault) also p = tt
-unless_stopped_also (Array (MemberFault first second)) also p = tt
-unless_stopped_also (Array (Damaged offset)) also p = also p
-unless_stopped_also (Array Stopped) also p = tt
-unless_stopped_also ReadFault also p = also p
-unless_stopped_also WriteFault also p = also p
-unless_stopped_also TooLong also p = also p
-
--- and what follows from it
-pub unless_also : {T P Q : Type 0} (result : Result T SessionFault) → (P → Q) → UnlessFailed result P → UnlessFailed result Q
-unless_also (Ok value) also p = also p
-unless_also (Err fault) also p = unless_stopped_also fault also p
-
 -- a possible reply that is said after calls that say nothing
 replied_as : (a b : Mounted) (asked : Request) (reply : Reply) (v u w : View) (result : Result Next SessionFault)
     → (decided_reply a asked ≡ Some reply) ⊎ MayReply a asked reply → AfterReply a b asked reply → u.tells ≡ v.tells → (IsTrue v.tells → u.now.said ≡ v.now.said)
-    → Says (reply_text reply) result u w → IfOk result (λ next. next ≡ More) → IfErr result (λ fault. fault ≡ WriteFault) → Replies a b asked result v w
+    → Says (reply_text reply) result u w → IfOk result (λ next. next ≡ More) → IfErr result (λ fault. fault ≡ WriteFault) → RepliesPossibly a b asked result v w
 replied_as a b asked reply v u w (Ok More) possible after tells quiet call ok err = record {
   reply = reply;
   possible = possible;
@@ -242,29 +199,29 @@ replied_as a b asked reply v u w (Err WriteFault) possible after tells quiet cal
 }
 replied_as a b asked reply v u w (Err TooLong) possible after tells quiet call ok err = absurd (cc err)
 
+-- what was denied, in a fault of the session
+same_denied : {first second : Denied} → ◌≡◌ {A = Result Next SessionFault} (Err (Array first)) (Err (Array second)) → first ≡ second
+same_denied is = cc is
+
+same_fault : {first second : Denied} → Array first ≡ Array second → first ≡ second
+same_fault is = cc is
+
 -- a line with a reply makes a call
-calls_said : {P : Type 0} (result : Result Next SessionFault) → IfOk result (λ next. next ≡ More) → IfErr result (λ fault. fault ≡ WriteFault) → makes_no_call result ≡ true → P
-calls_said (Ok More) ok err none = absurd (cc none)
-calls_said (Ok Quit) ok err none = absurd (cc ok)
-calls_said (Err (Array denied)) ok err none = absurd (cc err)
-calls_said (Err ReadFault) ok err none = absurd (cc err)
-calls_said (Err WriteFault) ok err none = absurd (cc none)
-calls_said (Err TooLong) ok err none = absurd (cc err)
+calls_said : {P : Type 0} (result : Result Next SessionFault) → IfOk result (λ next. next ≡ More) → IfErr result (λ fault. fault ≡ WriteFault)
+    → (result ≡ Ok Quit) ⊎ (result ≡ Err (Array Stopped)) → P
+calls_said result ok err none = absurd (⊎_elim (λ quit. not_quit result ok quit) (λ stopped. port_only result err stopped) none)
 
 -- a line that fails makes none where the array is stopped
-calls_denied : {P : Type 0} (denied : Denied) → (denied ≡ Stopped → P) → makes_no_call (Err (Array denied)) ≡ true → P
-calls_denied (Refused why) still none = absurd (cc none)
-calls_denied LogFault still none = absurd (cc none)
-calls_denied (MemberFault first second) still none = absurd (cc none)
-calls_denied (Damaged offset) still none = absurd (cc none)
-calls_denied Stopped still none = still refl
+calls_denied : {P : Type 0} (denied : Denied) → (denied ≡ Stopped → P)
+    → (◌≡◌ {A = Result Next SessionFault} (Err (Array denied)) (Ok Quit)) ⊎ (◌≡◌ {A = Result Next SessionFault} (Err (Array denied)) (Err (Array Stopped))) → P
+calls_denied denied still none = ⊎_elim (λ quit. absurd (cc quit)) (λ stopped. still (same_denied stopped)) none
 
 -- the port may fail in every reply
 fits_port : (a : Mounted) (asked : Request) → goes_on asked ≡ true → FaultFits a asked WriteFault
-fits_port a (Write time block bytes) more = tt
-fits_port a (Read block) more = (tt, tt, tt)
-fits_port a (At seq block) more = tt
-fits_port a (By time block) more = tt
+fits_port a (Write time block bytes) more = λ offset is. cc is
+fits_port a (Read block) more = ((λ first second is. absurd (cc is)), (λ offset is. cc is), (λ is. cc is))
+fits_port a (At seq block) more = λ first second is. absurd (cc is)
+fits_port a (By time block) more = λ first second is. absurd (cc is)
 fits_port a (Keep seq) more = refl
 fits_port a Info more = refl
 fits_port a Q more = absurd (cc more)
@@ -275,54 +232,40 @@ port_fits a asked more (Ok next) is = is
 port_fits a asked more (Err fault) is = subst (FaultFits a asked) (sym is) (fits_port a asked more)
 
 -- a call that reads no record again finds none damaged
-pub no_record : (denied : Denied) → ((offset : ℕ) → denied ≡ Damaged offset → ⊥) → ReadsNoRecord (Array denied)
-no_record (Refused why) never = tt
-no_record LogFault never = tt
-no_record (MemberFault first second) never = tt
-no_record (Damaged offset) never = never offset refl
-no_record Stopped never = tt
+pub no_record : (denied : Denied) → ((offset : ℕ) → denied ≡ Damaged offset → ⊥) → (offset : ℕ) → Array denied ≢ Array (Damaged offset)
+no_record denied never offset is = never offset (same_fault is)
 
 -- and one that uses disk 0 for nothing doesn't fail by it
-pub no_log : (denied : Denied) → (denied ≡ LogFault → ⊥) → ReadsNoLog (Array denied)
-no_log (Refused why) never = tt
-no_log LogFault never = never refl
-no_log (MemberFault first second) never = tt
-no_log (Damaged offset) never = tt
-no_log Stopped never = tt
+pub no_log : (denied : Denied) → (denied ≡ LogFault → ⊥) → Array denied ≢ Array LogFault
+no_log denied never is = never (same_fault is)
 
 -- nor one that never reads the lost member by that one
 pub not_by_lost : (a : Mounted) {T : Type 0} (call : Result T Denied) (denied : Denied) → call ≡ Err denied
     → ((first second : ℕ) → call ≡ Err (MemberFault first second) → a.head.lost ≢ Some second) → FailsReading a (Array denied)
-not_by_lost a call (Refused why) is used = tt
-not_by_lost a call LogFault is used = tt
-not_by_lost a call (MemberFault first second) is used = used first second is
-not_by_lost a call (Damaged offset) is used = tt
-not_by_lost a call Stopped is used = tt
+not_by_lost a call denied is used first second same = used first second (is ∙ ap Err (same_fault same))
 
 -- One line whose reply is said: all that is owed of it.
 pub line_replied : (a b : Mounted) (v u w : View) (asked : Request) → goes_on asked ≡ true → (reply : Reply) (result : Result Next SessionFault)
     → (IsTrue v.tells → (s : State) → Always v (StandsFor a s) → (step a.g).reply s asked ≡ reply)
-    → Steps v u (Answers a v asked) (HasDone a v asked) → StandsOn a b asked v u
+    → Steps v u (LeavesInLine a v asked) (HasDone a v asked) → StandsOn a b asked v u
     → (decided_reply a asked ≡ Some reply) ⊎ MayReply a asked reply → AfterReply a b asked reply
-    → ((r : Reply) → decided_reply a asked ≡ Some r → (reply ≡ r) × Untouched v u) → IndexAfterLine asked a.index b.index → Touches (MayTouch a) v u → Touches (InLine a asked) v u
+    → ((r : Reply) → decided_reply a asked ≡ Some r → (reply ≡ r) × Untouched v u) → Touches (InLine a asked) v u
     → ((e : ℕ) → u.sizes e ≡ v.sizes e) → StaysFrom (a.g.members + 1) v u → IsReady b u → b.is_stopped ≡ a.is_stopped → SameArray a b → (IsTrue v.tells → u.now.said ≡ v.now.said)
     → Says (reply_text reply) result u w → SaidInOneCall u w → IfOk result (λ next. next ≡ More) → IfErr result (λ fault. fault ≡ WriteFault) → (AsksBlock a.g asked → a.is_stopped ≡ true → ⊥)
     → CallsInLine a b asked result v w → AnswersLine a b result asked v w
-line_replied a b v u w asked more reply result is done stands possible after own index touched near sizes others ready alike goes_on quiet call once ok err asks calls = record {
+line_replied a b v u w asked more reply result is done stands possible after own near sizes others ready alike goes_on quiet call once ok err asks calls = record {
   steps = reply_after a v u w asked reply result is done call ok err;
-  stands = unless_failed result (λ s was. always_said u w result (reply_text reply) (StandsFor b ((step a.g).next s asked)) call (stands s was));
+  stands = λ going other s was. always_said u w result (reply_text reply) (StandsFor b ((step a.g).next s asked)) call (stands s was);
   stopped = alike ∙ or_false a.is_stopped ∙ ap (λ (stops : Bool). a.is_stopped || stops) (sym (not_stopping result err));
   speaks = speaks_reply result v w (said_once v u w done.tells quiet once) ok err;
   denied = (λ is. absurd (port_only result err is), λ both. absurd (asks both.0 both.1));
   ready = ready_as b u w call.sizes (λ has. always_said u w result (reply_text reply) has call) ready;
   goes_on = goes_on;
   cause = rose_port a v u w result done.port_faults call.cause err;
-  bad = names_port b asked w result err;
+  damaged = λ offset is told. absurd (port_only result err is);
   asks = port_fits a asked more result err;
   replies = replied_as a b asked reply v u w result possible after done.tells quiet call ok err;
   own = λ r same. let both = own r same in says_since (reply_text r) result v u w both.1 (subst (λ (t : Reply). Says (reply_text t) result u w) both.0 call);
-  index = index;
-  changes = says_then (MayTouch a) (reply_text reply) result v u w touched call;
   touches = says_then (InLine a asked) (reply_text reply) result v u w near call;
   untouched = calls_said result ok err;
   calls = calls;
@@ -342,14 +285,11 @@ holds_on a b s disks goes stands = record {
   follows = goes.follows;
 }
 
--- a fault that rose comes with what was done, where the array stood for a state
-comes : (a : Mounted) (v u : View) (denied : Denied) → FaultRose a (Array denied) v u → (x : Contents) → MayLeave v x → (s : State) → Always v (StandsFor a s)
-    → (claim : Type 0) → claim → FaultCause denied claim
-comes a v u (Refused why) risen x was s stands claim done = absurd risen
-comes a v u LogFault risen x was s stands claim done = done
-comes a v u (MemberFault first second) risen x was s stands claim done = done
-comes a v u (Damaged offset) risen x was s stands claim done = absurd (risen was.told s stands)
-comes a v u Stopped risen x was s stands claim done = done
+-- where the array stood for a state, no record is damaged
+comes : (a : Mounted) (v u : View) (denied : Denied) → FaultRose a (Array denied) v u → (x y : Contents) → MayLeave v x → (s : State) → Always v (StandsFor a s)
+    → (asked : Request) → Struck (array_store a) s asked x y → Served (array_store a) (Err (Array denied)) s asked x y
+comes a v u (Damaged offset) risen x y was s stands asked done = absurd (risen was.told s stands)
+comes a v u other risen x y was s stands asked done = done
 
 -- A request that calls of the array turn the state by.
 module _ (a : Mounted) (v u : View) (asked : Request) (more : goes_on asked ≡ true) where
@@ -358,9 +298,9 @@ module _ (a : Mounted) (v u : View) (asked : Request) (more : goes_on asked ≡ 
 
   -- it was done
   pub turned_done : (b : Mounted) → SameArray a b → Moves v u (AtAnyMoment a v (λ s. (step a.g).next s asked)) (StandsAfterCall a b v (λ s. (step a.g).next s asked))
-      → Steps v u (Answers a v asked) (HasDone a v asked)
+      → Steps v u (LeavesInLine a v asked) (HasDone a v asked)
   turned_done b goes moves = weaken v u (Quiet (AtAnyMoment a v (λ s. (step a.g).next s asked))) (Quiet (StandsAfterCall a b v (λ s. (step a.g).next s asked)))
-      (Answers a v asked) (HasDone a v asked) moves
+      (LeavesInLine a v asked) (HasDone a v asked) moves
       (λ x y was may s stands. inr (inl (torn_at x y may s stands)))
       (λ x y was left turned s stands. record { more = more; said = turned.said; holds = holds_on a b ((step a.g).next s asked) y.disks goes (turned.disks s stands) })
 
@@ -370,19 +310,19 @@ module _ (a : Mounted) (v u : View) (asked : Request) (more : goes_on asked ≡ 
 
   -- or a disk failed
   pub turned_struck : (denied : Denied) → FaultRose a (Array denied) v u → Moves v u (AtAnyMoment a v (λ s. (step a.g).next s asked)) (AtAnyMoment a v (λ s. (step a.g).next s asked))
-      → Steps v u (Answers a v asked) (HasAnswered a v (Err (Array denied)) asked)
+      → Steps v u (LeavesInLine a v asked) (HasAnswered a v (Err (Array denied)) asked)
   turned_struck denied risen moves = weaken v u (Quiet (AtAnyMoment a v (λ s. (step a.g).next s asked))) (Quiet (AtAnyMoment a v (λ s. (step a.g).next s asked)))
-      (Answers a v asked) (HasAnswered a v (Err (Array denied)) asked) moves
+      (LeavesInLine a v asked) (HasAnswered a v (Err (Array denied)) asked) moves
       (λ x y was may s stands. inr (inl (torn_at x y may s stands)))
-      (λ x y was left may s stands. comes a v u denied risen x was s stands (Struck (array_store a) s asked x y) (torn_at x y may s stands))
+      (λ x y was left may s stands. comes a v u denied risen x y was s stands asked (torn_at x y may s stands))
 
   -- The disks are as they were.
   module _ (moves : Moves v u Same Same) where
     held_still : (x y : Contents) → MayLeave v x → Quiet Same x y → (s : State) → Always v (StandsFor a s) → HoldsLike a.g a.head s y.disks
     held_still x y was same s stands = subst (HoldsLike a.g a.head s) (sym same.disks) (holds_own a s x.disks (stands x was))
 
-    pub same_done : ((s : State) → (step a.g).next s asked ≡ s) → Steps v u (Answers a v asked) (HasDone a v asked)
-    same_done still = weaken v u (Quiet Same) (Quiet Same) (Answers a v asked) (HasDone a v asked) moves
+    pub same_done : ((s : State) → (step a.g).next s asked ≡ s) → Steps v u (LeavesInLine a v asked) (HasDone a v asked)
+    same_done still = weaken v u (Quiet Same) (Quiet Same) (LeavesInLine a v asked) (HasDone a v asked) moves
         (λ x y was same s stands. inl (record { said = same.said; holds = held_still x y was same s stands }))
         (λ x y was left same s stands. record { more = more; said = same.said; holds = subst (λ t. HoldsLike a.g a.head t y.disks) (sym (still s)) (held_still x y was same s stands) })
 
@@ -392,10 +332,10 @@ module _ (a : Mounted) (v u : View) (asked : Request) (more : goes_on asked ≡ 
         subst (λ m. StandsFor m ((step a.g).next s asked) c.disks) (sym same)
         (subst (λ t. StandsFor (record a { is_stopped = stopped }) t c.disks) (sym (still s)) (record { by = was.by; cell = was.cell; pending = was.pending; index = was.index })))
 
-    pub same_struck : (denied : Denied) → FaultRose a (Array denied) v u → Steps v u (Answers a v asked) (HasAnswered a v (Err (Array denied)) asked)
-    same_struck denied risen = weaken v u (Quiet Same) (Quiet Same) (Answers a v asked) (HasAnswered a v (Err (Array denied)) asked) moves
+    pub same_struck : (denied : Denied) → FaultRose a (Array denied) v u → Steps v u (LeavesInLine a v asked) (HasAnswered a v (Err (Array denied)) asked)
+    same_struck denied risen = weaken v u (Quiet Same) (Quiet Same) (LeavesInLine a v asked) (HasAnswered a v (Err (Array denied)) asked) moves
         (λ x y was same s stands. inl (record { said = same.said; holds = held_still x y was same s stands }))
-        (λ x y was left same s stands. comes a v u denied risen x was s stands (Struck (array_store a) s asked x y)
+        (λ x y was left same s stands. comes a v u denied risen x y was s stands asked
         (record { more = more; said = same.said; torn = inl (held_still x y was same s stands) }))
 
 -- a read changes no state, refused or not
@@ -413,40 +353,37 @@ at_still g s seq block = stays (refusal g s (At seq block)) s
 pub by_still : (g : Geometry) (s : State) (time block : ℕ) → (step g).next s (By time block) ≡ s
 by_still g s time block = stays (refusal g s (By time block)) s
 
--- what was denied, in a fault of the session
-same_denied : {first second : Denied} → ◌≡◌ {A = Result Next SessionFault} (Err (Array first)) (Err (Array second)) → first ≡ second
-same_denied is = cc is
-
 -- a record is damaged only where the array stood for no state
 stands_struck : (a b : Mounted) (v u : View) (asked : Request) (denied : Denied) → u.tells ≡ v.tells → FaultRose a (Array denied) v u
-    → UnlessStopped (Array denied) (StandsOn a b asked v u)
-stands_struck a b v u asked (Refused why) tells risen = absurd risen
-stands_struck a b v u asked LogFault tells risen = tt
-stands_struck a b v u asked (MemberFault first second) tells risen = tt
-stands_struck a b v u asked (Damaged offset) tells risen = λ s stands c left. absurd (risen (subst IsTrue tells left.told) s stands)
-stands_struck a b v u asked Stopped tells risen = tt
+    → is_stopping {T = Next} (Err (Array denied)) ≡ false → (◌≡◌ {A = Result Next SessionFault} (Err (Array denied)) (Err (Array Stopped)) → ⊥) → StandsOn a b asked v u
+stands_struck a b v u asked (Refused why) tells risen going other = absurd risen
+stands_struck a b v u asked LogFault tells risen going other = absurd (cc going)
+stands_struck a b v u asked (MemberFault first second) tells risen going other = absurd (cc going)
+stands_struck a b v u asked (Damaged offset) tells risen going other = λ s stands c left. absurd (risen (subst IsTrue tells left.told) s stands)
+stands_struck a b v u asked Stopped tells risen going other = absurd (other refl)
 
 -- what stops the array in its own call
-denied_stops : (T : Type 0) (denied : Denied) → is_fault {T = T} (Err denied) ≡ stops_array (Array denied)
+denied_stops : (T : Type 0) (denied : Denied) → is_fault {T = T} (Err denied) ≡ is_stopping {T = Next} (Err (Array denied))
 denied_stops T (Refused why) = refl
 denied_stops T LogFault = refl
 denied_stops T (MemberFault first second) = refl
 denied_stops T (Damaged offset) = refl
 denied_stops T Stopped = refl
 
-pub stops_as : {T : Type 0} (call : Result T Denied) (denied : Denied) → call ≡ Err denied → is_fault call ≡ stops_array (Array denied)
+pub stops_as : {T : Type 0} (call : Result T Denied) (denied : Denied) → call ≡ Err denied → is_fault call ≡ is_stopping {T = Next} (Err (Array denied))
 stops_as {T} call denied is = ap (λ (r : Result T Denied). is_fault r) is ∙ denied_stops T denied
 
 -- One line in which a disk failed.
 pub line_struck : (a b : Mounted) (v u : View) (asked : Request) (denied : Denied)
-    → Steps v u (Answers a v asked) (HasAnswered a v (Err (Array denied)) asked)
-    → ((r : Reply) → decided_reply a asked ≡ Some r → ⊥) → IndexAfterLine asked a.index b.index
-    → Touches (MayTouch a) v u → Touches (InLine a asked) v u → (a.is_stopped ≡ true → Untouched v u)
-    → b.is_stopped ≡ (a.is_stopped || stops_array (Array denied)) → (IsTrue v.tells → u.now.said ≡ v.now.said)
-    → ((e : ℕ) → u.sizes e ≡ v.sizes e) → StaysFrom (a.g.members + 1) v u → IsReady b u → SameArray a b → FaultRose a (Array denied) v u → NamesBad b asked (Array denied) u
+    → Steps v u (LeavesInLine a v asked) (HasAnswered a v (Err (Array denied)) asked)
+    → ((r : Reply) → decided_reply a asked ≡ Some r → ⊥)
+    → Touches (InLine a asked) v u → (a.is_stopped ≡ true → Untouched v u)
+    → b.is_stopped ≡ (a.is_stopped || is_stopping {T = Next} (Err (Array denied))) → (IsTrue v.tells → u.now.said ≡ v.now.said)
+    → ((e : ℕ) → u.sizes e ≡ v.sizes e) → StaysFrom (a.g.members + 1) v u → IsReady b u → SameArray a b → FaultRose a (Array denied) v u
+    → ((offset : ℕ) → denied ≡ Damaged offset → IsTrue u.tells → IsDamagedFor b.g b.index asked u.now.disks offset)
     → FaultFits a asked (Array denied) → AfterFault a b asked denied → (denied ≡ Stopped) ↔ (AsksBlock a.g asked × (a.is_stopped ≡ true))
     → CallsInLine a b asked (Err (Array denied)) v u → AnswersLine a b (Err (Array denied)) asked v u
-line_struck a b v u asked denied steps own index touched near still stopped quiet sizes others ready goes risen names fits after exact calls = record {
+line_struck a b v u asked denied steps own near still stopped quiet sizes others ready goes risen names fits after exact calls = record {
   steps = steps;
   stands = stands_struck a b v u asked denied steps.tells risen;
   stopped = stopped;
@@ -455,12 +392,10 @@ line_struck a b v u asked denied steps own index touched near still stopped quie
   ready = ready;
   goes_on = goes;
   cause = risen;
-  bad = names;
+  damaged = λ offset is told. names offset (same_denied is) told;
   asks = fits;
   replies = after;
   own = λ r same. absurd (own r same);
-  index = index;
-  changes = says_nothing (MayTouch a) v u touched;
   touches = says_nothing (InLine a asked) v u near;
   untouched = calls_denied denied (λ same. still (exact.0 same).1);
   calls = calls;
@@ -478,52 +413,38 @@ pub write_replied : (a b : Mounted) (v u w : View) (time block : ℕ) (bytes fre
     → (IsTrue v.tells → (s : State) → Always v (StandsFor a s) → (step a.g).reply s (Write time block bytes) ≡ reply)
     → Moves v u (AtAnyMoment a v (λ s. (step a.g).next s (Write time block bytes))) (StandsAfterCall a b v (λ s. (step a.g).next s (Write time block bytes)))
     → (decided_of_block a block (early_refusal a.head time) ≡ Some reply) ⊎ MayReply a (Write time block bytes) reply → AfterReply a b (Write time block bytes) reply
-    → ((r : Reply) → decided_of_block a block (early_refusal a.head time) ≡ Some r → (reply ≡ r) × Untouched v u) → IndexAfterLine (Write time block bytes) a.index b.index
-    → Touches (MayTouch a) v u → Touches (InWrite a block) v u
+    → ((r : Reply) → decided_of_block a block (early_refusal a.head time) ≡ Some r → (reply ≡ r) × Untouched v u)
+    → Touches (InWrite a block) v u
     → ((e : ℕ) → u.sizes e ≡ v.sizes e) → StaysFrom (a.g.members + 1) v u → IsReady b u → b.is_stopped ≡ a.is_stopped → SameArray a b
     → Says (reply_text reply) result u w → SaidInOneCall u w → IfOk result (λ next. next ≡ More) → IfErr result (λ fault. fault ≡ WriteFault) → (block < volume a.g → a.is_stopped ≡ true → ⊥)
     → CallsInLine a b (Write time block bytes) result v w → AnswersLine a b result (Write time block fresh) v w
-write_replied a b v u w time block bytes fresh same reply result is moves possible after own index touched near sizes others ready alike goes call once ok err asks calls =
+write_replied a b v u w time block bytes fresh same reply result is moves possible after own near sizes others ready alike goes call once ok err asks calls =
     subst (λ l. AnswersLine a b result (Write time block l) v w) same
     (line_replied a b v u w (Write time block bytes) refl reply result is (turned_done a v u (Write time block bytes) refl b goes moves)
-    (turned_stands a v u (Write time block bytes) refl b moves) possible after own index touched near sizes others ready alike goes
+    (turned_stands a v u (Write time block bytes) refl b moves) possible after own near sizes others ready alike goes
     (quiet_moves v u (AtAnyMoment a v (λ s. (step a.g).next s (Write time block bytes))) (StandsAfterCall a b v (λ s. (step a.g).next s (Write time block bytes))) moves) call once ok err asks calls)
 
 -- a write in which a disk failed
 pub write_struck : (a b : Mounted) (v u : View) (time block : ℕ) (bytes fresh : List ℕ) → bytes ≡ fresh → (denied : Denied)
     → Moves v u (AtAnyMoment a v (λ s. (step a.g).next s (Write time block bytes))) (AtAnyMoment a v (λ s. (step a.g).next s (Write time block bytes)))
-    → ((r : Reply) → decided_of_block a block (early_refusal a.head time) ≡ Some r → ⊥) → IndexAfterLine (Write time block bytes) a.index b.index
-    → Touches (MayTouch a) v u → Touches (InWrite a block) v u → (a.is_stopped ≡ true → Untouched v u)
-    → b.is_stopped ≡ (a.is_stopped || stops_array (Array denied))
+    → ((r : Reply) → decided_of_block a block (early_refusal a.head time) ≡ Some r → ⊥)
+    → Touches (InWrite a block) v u → (a.is_stopped ≡ true → Untouched v u)
+    → b.is_stopped ≡ (a.is_stopped || is_stopping {T = Next} (Err (Array denied)))
     → ((e : ℕ) → u.sizes e ≡ v.sizes e) → StaysFrom (a.g.members + 1) v u → IsReady b u → SameArray a b → FaultRose a (Array denied) v u → ((offset : ℕ) → denied ≡ Damaged offset → ⊥)
     → AfterFault a b (Write time block bytes) denied
     → (denied ≡ Stopped) ↔ ((block < volume a.g) × (a.is_stopped ≡ true))
     → CallsInLine a b (Write time block bytes) (Err (Array denied)) v u → AnswersLine a b (Err (Array denied)) (Write time block fresh) v u
-write_struck a b v u time block bytes fresh same denied moves own index touched near still stopped sizes others ready goes risen never after exact calls =
+write_struck a b v u time block bytes fresh same denied moves own near still stopped sizes others ready goes risen never after exact calls =
     subst (λ l. AnswersLine a b (Err (Array denied)) (Write time block l) v u) same
-    (line_struck a b v u (Write time block bytes) denied (turned_struck a v u (Write time block bytes) refl denied risen moves) own index touched near still stopped
+    (line_struck a b v u (Write time block bytes) denied (turned_struck a v u (Write time block bytes) refl denied risen moves) own near still stopped
     (quiet_moves v u (AtAnyMoment a v (λ s. (step a.g).next s (Write time block bytes))) (AtAnyMoment a v (λ s. (step a.g).next s (Write time block bytes))) moves) sizes others ready goes risen
-    (names_none b (Write time block bytes) u denied never) (no_record denied never) after exact calls)
+    (λ offset is told. absurd (never offset is)) (no_record denied never) after exact calls)
 
 -- a call that changes nothing of the array but perhaps whether it is stopped
 pub same_goes : (a b : Mounted) (stopped : Bool) → b ≡ record a { is_stopped = stopped } → SameArray a b
 same_goes a b stopped same = subst (SameArray a) (sym same) (record { g = refl; follows = later_same a.head })
 
--- such a call leaves the index
-same_index : (a b : Mounted) (asked : Request) (stopped : Bool) → b ≡ record a { is_stopped = stopped } → IndexAfterLine asked a.index b.index
-same_index a b asked stopped same = left asked (ap (λ (m : Mounted). m.index) same)
-  where
-    left : (asked : Request) → b.index ≡ a.index → IndexAfterLine asked a.index b.index
-    left (Write time block bytes) is = inl is
-    left (Read block) is = is
-    left (At seq block) is = is
-    left (By time block) is = is
-    left (Keep seq) is = is
-    left Info is = is
-    left Q is = is
-    left Bad is = is
-
--- and all that the array knows
+-- and leaves all that the array knows
 known_same : (a b : Mounted) (stopped : Bool) → b ≡ record a { is_stopped = stopped } → KnowsSame a b
 known_same a b stopped same = same ∙ ap (λ (now : Bool). record a { is_stopped = now }) (sym (ap (λ (m : Mounted). m.is_stopped) same))
 
@@ -538,42 +459,40 @@ pub same_replied : (a b : Mounted) (v u w : View) (asked : Request) → goes_on 
     → CallsInLine a b asked result v w → AnswersLine a b result asked v w
 same_replied a b v u w asked more still stopped same is_same reply result is possible after own moves sizes alike ready call once ok err asks calls =
     line_replied a b v u w asked more reply result is (same_done a v u asked more moves still) (same_stands a v u asked more moves b stopped same still)
-    possible (after (known_same a b stopped same)) own (same_index a b asked stopped same) (touches_same (MayTouch a) v u alike moves) (touches_same (InLine a asked) v u alike moves)
+    possible (after (known_same a b stopped same)) own (touches_same (InLine a asked) v u alike moves)
     sizes (stays_same (a.g.members + 1) v u alike) ready
     (ap (λ (m : Mounted). m.is_stopped) same ∙ is_same) (same_goes a b stopped same)
     (λ told. ap (λ (c : Contents). c.said) (alike told)) call once ok err asks calls
 
 -- a request that changes no state, in which the array failed
 pub same_failed : (a b : Mounted) (v u : View) (asked : Request) → goes_on asked ≡ true → (stopped : Bool) → b ≡ record a { is_stopped = stopped } → (denied : Denied)
-    → stopped ≡ (a.is_stopped || stops_array (Array denied))
+    → stopped ≡ (a.is_stopped || is_stopping {T = Next} (Err (Array denied)))
     → ((r : Reply) → decided_reply a asked ≡ Some r → ⊥)
     → Moves v u Same Same → ((e : ℕ) → u.sizes e ≡ v.sizes e) → (IsTrue v.tells → u.now ≡ v.now) → IsReady b u → FaultRose a (Array denied) v u
-    → ((offset : ℕ) → denied ≡ Damaged offset → IsTrue v.tells → IsBadFor a.g a.index asked v.now.disks offset) → FaultFits a asked (Array denied) → (KnowsSame a b → AfterFault a b asked denied)
+    → ((offset : ℕ) → denied ≡ Damaged offset → IsTrue v.tells → IsDamagedFor a.g a.index asked v.now.disks offset) → FaultFits a asked (Array denied) → (KnowsSame a b → AfterFault a b asked denied)
     → (a.is_stopped ≡ true → Untouched v u) → (denied ≡ Stopped) ↔ (AsksBlock a.g asked × (a.is_stopped ≡ true))
     → CallsInLine a b asked (Err (Array denied)) v u → AnswersLine a b (Err (Array denied)) asked v u
-same_failed a b v u asked more stopped same denied stops own moves sizes alike ready risen bad fits after still exact calls =
-    line_struck a b v u asked denied (same_struck a v u asked more moves denied risen) own (same_index a b asked stopped same)
-    (touches_same (MayTouch a) v u alike moves) (touches_same (InLine a asked) v u alike moves) still
+same_failed a b v u asked more stopped same denied stops own moves sizes alike ready risen damaged fits after still exact calls =
+    line_struck a b v u asked denied (same_struck a v u asked more moves denied risen) own
+    (touches_same (InLine a asked) v u alike moves) still
     (ap (λ (m : Mounted). m.is_stopped) same ∙ stops) (λ told. ap (λ (c : Contents). c.said) (alike told)) sizes (stays_same (a.g.members + 1) v u alike) ready (same_goes a b stopped same) risen
-    (names_same a b asked v u stopped same moves.tells alike denied bad) fits (after (known_same a b stopped same)) exact calls
+    (names_same a b asked v u stopped same moves.tells alike denied damaged) fits (after (known_same a b stopped same)) exact calls
 
 -- The line ends the session.
 pub line_quits : (a : Mounted) (v : View) → IsReady a v → AnswersLine a a (Ok Quit) Q v v
 line_quits a v ready = record {
-  steps = nothing_done v (Answers a v Q) (HasAnswered a v (Ok Quit) Q) (λ x was s stands. record { ends = refl; said = refl; holds = holds_own a s x.disks (stands x was) });
-  stands = λ s stands. stands;
+  steps = nothing_done v (LeavesInLine a v Q) (HasAnswered a v (Ok Quit) Q) (λ x was s stands. (refl, record { said = refl; holds = holds_own a s x.disks (stands x was) }));
+  stands = λ going other s stands. stands;
   stopped = or_false a.is_stopped;
   speaks = λ told. refl;
   denied = (λ is. cc is, λ both. absurd both.0);
   ready = ready;
   goes_on = goes_still a;
   cause = tt;
-  bad = tt;
+  damaged = λ offset is. absurd (cc is);
   asks = tt;
   replies = refl;
   own = λ r is. absurd (cc is);
-  index = refl;
-  changes = changes_none (MayTouch a) v;
   touches = changes_none InNothing v;
   untouched = λ is. untouched_none v;
   calls = not_called v;
@@ -691,10 +610,10 @@ denied_as call denied is exact = (λ same. exact.0 (is ∙ ap Err same), λ p. c
 
 -- the reply is said by one call
 pub one_say : {T E : Type 0} (piece : List ℕ) (result : Result T E) (u w : View) → IsLawful u → Says piece result u w → SaidInOneCall u w
-one_say piece result u w lawful call told by_one = record {
-  before = u.moment;
-  last_call = call.goes.by_one told (subst IsTrue call.goes.same_by_one by_one);
-  entry = u.now;
-  left = call.time.keeps u.moment u.now (omega arith) (lawful.counts_now u.moment told (omega arith));
-  said = refl;
-}
+one_say piece result u w lawful call told by_one = (
+  u.moment,
+  u.now,
+  call.goes.by_one told (subst IsTrue call.goes.same_by_one by_one),
+  call.time.keeps u.moment u.now (omega arith) (lawful.counts_now u.moment told (omega arith)),
+  refl,
+)

@@ -21,8 +21,8 @@ use Rattle.trap_array.specs.Calls.{Mounted, StandsFor, IsReady, SameArray}
 use Rattle.trap_array.specs.declared.fault.Denied.TheVariants.{Refused, LogFault, MemberFault, Damaged, Stopped}
 use Rattle.trap_array.proofs.Beside.{stays_none, both_stay}
 use Rattle.trap_session.specs.Store.{array_store, Answering, Served, StandsForNone, FaultRose}
-use Rattle.trap_session.specs.Answers.{Answers, HasAnswered, StandsOn, is_stopping, UnlessFailed, AnswersLine}
-use Rattle.trap_session.specs.Serving.{Serves, HasStopped, StopsAs, StopsBy, StopsAtPort, StandsAtEnd, Took}
+use Rattle.trap_session.specs.Answers.{LeavesInLine, HasAnswered, StandsOn, is_stopping, AnswersLine}
+use Rattle.trap_session.specs.Serving.{Serves, HasStopped, StopsAs, StopsBy, StandsAtEnd, Took}
 use Rattle.trap_session.specs.Changing.{ChangesOnly}
 use Rattle.trap_session.specs.Leaving.{StandsAfter, HasRecordsMore, HasServed}
 use Rattle.trap_session.specs.declared.outcome.Next.{Next}
@@ -31,13 +31,27 @@ use Rattle.trap_session.specs.declared.outcome.Ended.{Ended}
 use Rattle.trap_session.specs.declared.outcome.Ended.TheVariants as ended
 use Rattle.trap_session.specs.declared.outcome.SessionFault.{SessionFault}
 use Rattle.trap_session.specs.declared.outcome.SessionFault.TheVariants.{Array, ReadFault, WriteFault, TooLong}
-use Rattle.trap_session.proofs.Walking.{Walked, walk_start}
-use Rattle.trap_session.proofs.Replying.{holds_own, holds_on, unless_failed, unless_also}
+use Rattle.trap_session.proofs.Walking.{Walked, StopsAtPort, walk_start}
+use Rattle.trap_session.proofs.Replying.{holds_own, holds_on}
 use Rattle.trap_session.proofs.Quits.{quit_stays}
-use Rattle.trap_session.proofs.Touching.{changes_none, changed_then}
+use Rattle.trap_session.proofs.Touching.{changes_none, changed_then, line_changes}
 use Rattle.trap_session.proofs.Indexing.{records_none, records_then, line_records}
 use Rattle.trap_session.proofs.Arrays.{array_answers, array_torn, answering_first, served_first, served_some, risen_first, goes_then}
 use Rattle.trap_session.proofs.Stopping.{part_line, more_line, more_state, quit_line, fault_line, part_last, done_last, fault_last}
+
+-- a fault of a line stops the array where it does as one of the session
+stops_alike : (fault : SessionFault) → is_stopping {T = Next} (Err fault) ≡ is_stopping {T = Ended} (Err fault)
+stops_alike (Array (Refused why)) = refl
+stops_alike (Array LogFault) = refl
+stops_alike (Array (MemberFault first second)) = refl
+stops_alike (Array (Damaged offset)) = refl
+stops_alike (Array Stopped) = refl
+stops_alike ReadFault = refl
+stops_alike WriteFault = refl
+stops_alike TooLong = refl
+
+same_fault : (x y : SessionFault) → ◌≡◌ {A = Result Next SessionFault} (Err x) (Err y) → x ≡ y
+same_fault x y is = cc is
 
 -- The lines so far were answered, and the array's state turned so.
 pub record WalkedTo (a : Mounted) (s : State) (input passed : List ℕ) (turn : State → State) (old now : Contents) : Type 0 where
@@ -98,7 +112,7 @@ module _ (a : Mounted) (v : View) (from : Stream) where
       goes_on = goes;
       stopped = running ∙ sym none;
       ready = ready;
-      stands = unless_failed result stands_so_far;
+      stands = λ going other. stands_so_far;
       changes = kept.changes;
       index = kept.index;
       sizes = kept.sizes;
@@ -120,7 +134,7 @@ module _ (a : Mounted) (v : View) (from : Stream) where
       asked_first : AnswersLine b c next (request_of a.g.block line) w u
       asked_first = subst (λ (g : Geometry). AnswersLine b c next (request_of g.block line) w u) goes.g answers
 
-      answering_now : (s : State) → Always v (StandsFor a s) → (y z : Contents) → Answers b w (request_of a.g.block line) y z
+      answering_now : (s : State) → Always v (StandsFor a s) → (y z : Contents) → LeavesInLine b w (request_of a.g.block line) y z
           → Answering (array_store a) (turn s) (request_of a.g.block line) y z
       answering_now s stands y z answering = answering_first a b goes (turn s) (request_of a.g.block line) y z (answering (turn s) (turns s stands))
 
@@ -133,8 +147,8 @@ module _ (a : Mounted) (v : View) (from : Stream) where
 
       pub kept_further : HasKept a b v w → HasKept a c v u
       kept_further kept = record {
-        changes = changed_then a b v w u goes kept.changes answers.changes;
-        index = records_then a.index b.index c.index kept.index (line_records (request_of b.g.block line) b.index c.index answers.index);
+        changes = changed_then a b v w u goes kept.changes (line_changes b c w u (request_of b.g.block line) next answers);
+        index = records_then a.index b.index c.index kept.index (line_records b c w u (request_of b.g.block line) next answers);
         sizes = λ e. answers.sizes e ∙ kept.sizes e;
         others = both_stay a b v w u goes steps.tells kept.others answers.others;
       }
@@ -180,15 +194,15 @@ module _ (a : Mounted) (v : View) (from : Stream) where
                 (line_feeds passed, within, quit_stays a.g (turn s) (request_of a.g.block line) quit ∙ sym same))
                 (cases_Bool (goes_on (request_of a.g.block line)))
 
-        stands_unless : UnlessFailed next (IsTrue v.tells → (s : State) → Always v (StandsFor a s) → StandsAfter a c s u from)
-        stands_unless = unless_also next stands_after asked_first.stands
+        stands_unless : is_stopping next ≡ false → (next ≡ Err (Array Stopped) → ⊥) → IsTrue v.tells → (s : State) → Always v (StandsFor a s) → StandsAfter a c s u from
+        stands_unless going other = stands_after (asked_first.stands going other)
 
         pub served_fault : (to : Stream) (fault : SessionFault) → HasKept a b v w → next ≡ Err fault → b.is_stopped ≡ false → Took from to → HasServed a c (Err fault) v u from to
         served_fault to fault kept is running took = let after = kept_further kept in record {
           goes_on = goes_further;
-          stopped = answers.stopped ∙ ap (λ (was : Bool). was || is_stopping next) running ∙ ap is_stopping is;
+          stopped = answers.stopped ∙ ap (λ (was : Bool). was || is_stopping next) running ∙ ap is_stopping is ∙ stops_alike fault;
           ready = answers.ready;
-          stands = subst (λ (r : Result Next SessionFault). UnlessFailed r (IsTrue v.tells → (s : State) → Always v (StandsFor a s) → StandsAfter a c s u from)) is stands_unless;
+          stands = λ going other. stands_unless (ap is_stopping is ∙ stops_alike fault ∙ going) (λ stopped. other (ap Err (same_fault fault (Array Stopped) (sym is ∙ stopped))));
           changes = after.changes;
           index = after.index;
           sizes = after.sizes;
@@ -203,7 +217,7 @@ module _ (a : Mounted) (v : View) (from : Stream) where
           goes_on = goes_further;
           stopped = answers.stopped ∙ ap (λ (was : Bool). was || is_stopping next) running ∙ ap is_stopping is;
           ready = answers.ready;
-          stands = subst (λ (r : Result Next SessionFault). UnlessFailed r (IsTrue v.tells → (s : State) → Always v (StandsFor a s) → StandsAfter a c s u from)) is stands_unless;
+          stands = λ going other. stands_unless (ap is_stopping is) (λ stopped. cc (is, stopped));
           changes = after.changes;
           index = after.index;
           sizes = after.sizes;
@@ -218,7 +232,7 @@ module _ (a : Mounted) (v : View) (from : Stream) where
           → Answering (array_store a) (turn s) (request_of a.g.block line) y z → StopsAtPort (array_store a) s input x z)
           → ((x y z : Contents) → MayLeave v x → Walks a v from passed turn x y → HasAnswered b w next (request_of a.g.block line) y z → After x z)
           → Steps v u (Serves a v from) After
-      after_line After part at_end = then_ v w u (Serves a v from) (Walks a v from passed turn) (Answers b w (request_of a.g.block line)) (HasAnswered b w next (request_of a.g.block line))
+      after_line After part at_end = then_ v w u (Serves a v from) (Walks a v from passed turn) (LeavesInLine b w (request_of a.g.block line)) (HasAnswered b w next (request_of a.g.block line))
           (Serves a v from) After steps asked_first.steps
           (λ x y was some. some)
           (λ x y z was walks mid answering s stands input known. part s input known x y z (walks s stands input known) (answering_now s stands y z answering))
@@ -250,7 +264,7 @@ module _ (a : Mounted) (v : View) (from : Stream) where
 
         pub line_turns : next ≡ Ok More → Turns a c v u (λ s. (step a.g).next (turn s) (request_of a.g.block line))
         line_turns is s stands = subst (λ (g : Geometry). Always u (StandsFor c ((step g).next (turn s) (request_of a.g.block line)))) goes.g
-            (subst (λ (r : Result Next SessionFault). UnlessFailed r (StandsOn b c (request_of a.g.block line) w u)) is asked_first.stands (turn s) (turns s stands))
+            (asked_first.stands (ap is_stopping is) (λ stopped. cc (is, stopped)) (turn s) (turns s stands))
 
         pub line_quit : (to : Stream) (ended : Ended) → next ≡ Ok Quit → Steps v u (Serves a v from) (HasStopped a v (Ok ended) from to)
         line_quit to ended is = after_line (HasStopped a v (Ok ended) from to) line_part (stopped (Ok ended) to (λ s input known x y z walks served.

@@ -18,11 +18,11 @@ use Rattle.trap_session.specs.declared.outcome.Next.{Next}
 use Rattle.trap_session.specs.declared.outcome.Next.TheVariants.{More, Quit}
 use Rattle.trap_session.specs.declared.outcome.SessionFault.{SessionFault}
 use Rattle.trap_session.specs.declared.outcome.SessionFault.TheVariants.{Array, ReadFault, WriteFault, TooLong}
-use Rattle.trap_session.specs.Store.{Store, Served, Struck, Answering}
+use Rattle.trap_session.specs.Store.{Store, Served, Answering}
 use Rattle.trap_array.specs.Calls.{Mounted}
-use Rattle.trap_session.specs.Serving.{StopsAs, StopsBy, StopsDone, StopsAfter, StopsReading, StopsAtPort, StopsTorn, AreWholeLines, Took, TookQuit, ended_by, bytes_taken}
-use Rattle.trap_session.proofs.Arrays.{comes_also}
-use Rattle.trap_session.proofs.Walking.{Walked, next_line, next_last, walk_on, stops_done, stops_last, stops_torn, stops_at_port, stops_part, last_here}
+use Rattle.trap_session.specs.Serving.{StopsAs, StopsBy, StopsDone, StopsAfter, AreWholeLines, Took, TookQuit, ended_by, bytes_taken}
+use Rattle.trap_session.proofs.Arrays.{torn_by}
+use Rattle.trap_session.proofs.Walking.{Walked, StopsAtPort, next_line, next_last, walk_on, stops_done, stops_last, stops_torn, stops_at_port, stops_part, last_here}
 
 -- What the reader passed over is a front of the input.
 module _ (r0 r : LineReader) (s0 s : Stream) (none0 : unread r0 ≡ []) (input : List ℕ) (left : s0.left ≡ Some input)
@@ -74,7 +74,7 @@ pub stops_reading : {S : Type 0} (store : Store S) (st : S) (input passed front 
     (r0 r r' : LineReader) (s0 s s' : Stream) → Walked store st input passed old now
     → unread r0 ≡ [] → taken r0 ≡ 0 → s0.left ≡ Some input
     → Passes passed r0 r s0 s → Passes front r r' s s' → HasNoFeed front → unread r' ≡ [] → r'.end ≤ length r'.chunk.items
-    → StopsReading store st input old now s0 s'
+    → StopsAfter store st input (line_feeds (bytes_taken input s0 s')) old now
 stops_reading store st input passed front old now r0 r r' s0 s s' walked none0 untaken left before next none none' inside =
     let feeds = feeds_taken input passed front r0 r r' s0 s s' none0 untaken left before next none none' inside in
     subst (λ j. StopsAfter store st input j old now) (sym feeds) walked.answered
@@ -101,7 +101,7 @@ module _ {S : Type 0} (store : Store S) (by_lines : AnswersByLines store.machine
       → ((goes_on (request_of store.block line) ≡ true) → drop (line_feeds passed) (lines store.block input) ≡ request_of store.block line ∷ rest)
       → Served store (Err fault) state (request_of store.block line) y z → StopsAs store (Err fault) st input x z from to
   fault_of from to rest (Array denied) next served =
-      comes_also denied (Struck store (state_after store.machine st (lines store.block input) (line_feeds passed)) (request_of store.block line) y z) (StopsTorn store st input x z)
+      torn_by store denied st (state_after store.machine st (lines store.block input) (line_feeds passed)) (request_of store.block line) input x y z from to
       (λ struck. stops_torn store st input passed x y walked (request_of store.block line) rest z (next struck.more) struck)
       (served_now (Err (Array denied)) served)
   fault_of from to rest ReadFault next served = absurd served
@@ -130,7 +130,7 @@ module _ {S : Type 0} (store : Store S) (by_lines : AnswersByLines store.machine
     quit_line served =
         let left = served_now (Ok Quit) served in
         stops_done store st input passed x y walked z
-        (walked.ahead ∙ ap (lines store.block) here ∙ lines-quit store.block line rest none left.ends) left.said left.holds
+        (walked.ahead ∙ ap (lines store.block) here ∙ lines-quit store.block line rest none left.0) left.1.said left.1.holds
 
     pub fault_line : (from to : Stream) (fault : SessionFault) → Served store (Err fault) state (request_of store.block line) y z → StopsAs store (Err fault) st input x z from to
     fault_line from to fault served = fault_of from to (lines store.block rest) fault (λ more. next_line store st input passed x y walked line rest here none more) served
@@ -145,7 +145,7 @@ module _ {S : Type 0} (store : Store S) (by_lines : AnswersByLines store.machine
     done_last Quit served =
         let left = served_now (Ok Quit) served in
         stops_done store st input passed x y walked z
-        (walked.ahead ∙ ap (lines store.block) here ∙ lines-last_quit store.block line none some left.ends) left.said left.holds
+        (walked.ahead ∙ ap (lines store.block) here ∙ lines-last_quit store.block line none some left.0) left.1.said left.1.holds
 
     pub fault_last : (from to : Stream) (fault : SessionFault) → Served store (Err fault) state (request_of store.block line) y z → StopsAs store (Err fault) st input x z from to
     fault_last from to fault served = fault_of from to [] fault (λ more. next_last store st input passed x y walked line here none some more) served

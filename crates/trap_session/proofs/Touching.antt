@@ -1,6 +1,6 @@
 -- Which bytes the lines of a session may touch.
-use Rattle.std.proofs.Common.{inl, inr, ⊎_elim, ℕ, ◌+◌, ◌-◌, ◌*◌, ◌<◌, ◌≤◌, Option, List, IsTrue, Result, refl, sym, ap, subst, ◌∙◌, arith}
-use Rattle.std.proofs.lemmas.Bool.{cases_lt}
+use Rattle.std.proofs.Common.{Bool, Some, None, if◌then◌else◌, inl, inr, ⊎_elim, ℕ, ◌+◌, ◌-◌, ◌*◌, ◌<◌, ◌≤◌, Option, List, IsTrue, Result, refl, sym, ap, subst, ◌∙◌, arith}
+use Rattle.std.proofs.lemmas.Bool.{cases_lt, le-leb}
 use Rattle.trap_bank.specs.Disks.{Area, Contents, Disks, View, Within, Differs, Quiet, byte, size_of}
 use Rattle.trap_bank.specs.Calls.{Says}
 use Rattle.trap_bank.specs.Steps.{SpokePart}
@@ -10,15 +10,26 @@ use Rattle.trap_format.specs.LogDisk.{slots_at, slot_len}
 use Rattle.trap_map.proofs.PlaceLemmas.{row_of-within}
 use Rattle.trap_model.specs.Image.{volume}
 use Rattle.trap_model.specs.declared.numbers.Geometry.{Geometry}
+use Rattle.trap_model.specs.declared.request.Refusal.TheVariants.{NoBlock}
+use Rattle.trap_model.specs.declared.request.Reply.TheVariants.{No}
+use Rattle.trap_model.specs.declared.request.Request.{Request}
+use Rattle.trap_model.specs.declared.request.Request.TheVariants.{Write}
+use Rattle.trap_script.specs.Replies.{reply_text}
 use Rattle.trap_ring.specs.Ring.{InRing}
 use Rattle.trap_stage.specs.Slots.{slot_area}
 use Rattle.trap_stage.proofs.HeldSlots.{slot_room}
 use Rattle.trap_array.specs.Areas.{Touches, InCommit, InDrain, InBlock, InWrite, InAnyCounted, MayTouch}
 use Rattle.trap_array.specs.Calls.{Mounted, SameArray}
 use Rattle.trap_array.specs.Holding.{log_ring}
+use Rattle.trap_array.specs.Turning.{early_refusal}
 use Rattle.trap_array.specs.Untouched.{Untouched}
-use Rattle.trap_array.proofs.AreaSteps.{touches_mono, touches_same}
-use Rattle.trap_session.specs.Changing.{DiffersIn, ChangesOnly}
+use Rattle.trap_array.proofs.AreaSteps.{touches_same}
+use Rattle.trap_array.proofs.Denials.{untouched_none}
+use Rattle.trap_session.specs.Answers.{AnswersLine}
+use Rattle.trap_session.specs.Changing.{DiffersIn, ChangesOnly, InNothing}
+use Rattle.trap_session.specs.Deciding.{refusal_reply}
+use Rattle.trap_session.specs.declared.outcome.Next.{Next}
+use Rattle.trap_session.specs.declared.outcome.SessionFault.{SessionFault}
 
 -- ---- a write
 -- what it may touch is what any call may touch, where its block is there
@@ -55,7 +66,7 @@ module _ (a : Mounted) (block : ℕ) (there : block < volume a.g) (e i : ℕ) wh
   write_may inside = ⊎_elim commit_may (λ rest. ⊎_elim drain_may block_may rest) inside
 
 -- a call that makes none of the bank
-pub untouched_touches : (area : Area) (v u : View) → Untouched v u → Touches area v u
+untouched_touches : (area : Area) (v u : View) → Untouched v u → Touches area v u
 untouched_touches area v u still = touches_same area v u (λ told. still.now) (record {
   tells = still.tells;
   faults = λ e. omega (arith, still.faults e);
@@ -77,13 +88,6 @@ untouched_touches area v u still = touches_same area v u (λ told. still.now) (r
     by = record { disks = refl; said = refl };
   };
 })
-
--- a write
-pub write_touches : (a : Mounted) (block : ℕ) (v u : View) → (volume a.g ≤ block → Untouched v u) → Touches (InWrite a block) v u → Touches (MayTouch a) v u
-write_touches a block v u beyond touches = ⊎_elim
-    (λ (there : block < volume a.g). touches_mono (InWrite a block) (MayTouch a) v u (λ e i inside. write_may a block there e i inside) touches)
-    (λ (above : volume a.g ≤ block). untouched_touches (MayTouch a) v u (beyond above))
-    (cases_lt block (volume a.g))
 
 -- ---- a line
 -- a reply after it changes no more
@@ -123,6 +127,18 @@ changes_then large small u v w within first second = record {
       (λ x y z was torn mid more. differs_again large x.disks y.disks z.disks torn (differs_mono small large y.disks z.disks within more))
       (λ x y z was torn mid more. differs_again large x.disks y.disks z.disks torn (differs_mono small large y.disks z.disks within more));
 }
+
+changes_within : (small large : Area) (v w : View) → ((e i : ℕ) → small e i → large e i) → ChangesOnly small v w → ChangesOnly large v w
+changes_within small large v w within changes = changes_then large small v v w within (changes_none large v) changes
+
+-- What a line changes is what calls of the array may touch. A write of a block that isn't there is refused, with no call of the bank but for the reply.
+pub line_changes : (a b : Mounted) (v w : View) (asked : Request) (result : Result Next SessionFault) → AnswersLine a b result asked v w → ChangesOnly (MayTouch a) v w
+line_changes a b v w (Write time block bytes) result line = ⊎_elim
+    (λ (there : block < volume a.g). changes_within (InWrite a block) (MayTouch a) v w (λ e i inside. write_may a block there e i inside) line.touches)
+    (λ (above : volume a.g ≤ block). says_then (MayTouch a) (reply_text (No NoBlock)) result v v w (untouched_touches (MayTouch a) v v (untouched_none v))
+    (line.own (No NoBlock) (ap (λ (b : Bool). if b then Some (No NoBlock) else if a.is_stopped then None else refusal_reply (early_refusal a.head time)) (le-leb (volume a.g) block above))))
+    (cases_lt block (volume a.g))
+line_changes a b v w other result line = changes_within InNothing (MayTouch a) v w (λ e i inside. absurd inside) line.touches
 
 -- ---- a later array
 -- What it may touch an earlier one may: the window begins where it began, and its end only grows.

@@ -7,13 +7,17 @@ use Rattle.trap_model.specs.Given.{given}
 use Rattle.trap_model.specs.declared.request.Request.{Request}
 use Rattle.trap_script.specs.Lines.{lines, line_feeds, request_of, goes_on, HasNoFeed}
 use Rattle.trap_script.specs.Replies.{reply_text}
-use Rattle.trap_script.specs.Walk.{state_after, reply_texts, first_texts, all_texts}
+use Rattle.trap_script.specs.Walk.{state_after, reply_texts, first_texts, all_texts, AnsweredPart}
 use Rattle.trap_script.proofs.WalkLemmas.{state_after-next, first_texts-next, state_after-all, first_texts-all, texts_after}
 use Rattle.trap_script.proofs.InputLemmas.{lines-next, lines-last, lines_go_on, line_feeds-line, drop-line}
 use Rattle.trap_script.proofs.GivenLemmas.{AnswersByLines, given_or_next}
 use Rattle.trap_script.proofs.Answering.{answered_part}
 use Rattle.trap_session.specs.Store.{Store, Replied, CutShort, Struck, Answering}
-use Rattle.trap_session.specs.Serving.{StopsDone, StopsAfter, StopsAtPort, StopsTorn}
+use Rattle.trap_session.specs.Serving.{StopsDone, StopsAfter, StopsTorn}
+
+-- a part of the replies was said
+abbrev pub StopsAtPort : {S : Type 0} → Store S → S → List ℕ → Contents → Contents → Type 0
+StopsAtPort store s input old now = AnsweredPart store.machine (store.holds now.disks) s (lines store.block input) old.said now.said
 
 -- The bytes so far are whole lines, and each was answered.
 pub record Walked {S : Type 0} (store : Store S) (s : S) (input passed : List ℕ) (old now : Contents) : Type 0 where

@@ -5,8 +5,8 @@ use Rattle.trap_bank.specs.Disks.{View}
 use Rattle.trap_index.specs.Indexed.{IsLastBy}
 use Rattle.trap_model.specs.Limits.{greatest_record}
 use Rattle.trap_model.specs.declared.request.Request.{Request}
-use Rattle.trap_model.specs.declared.request.Request.TheVariants.{Write, Read, At, By, Info, Keep}
-use Rattle.trap_model.specs.declared.request.Request.TheVariants.{Bad, Quit as Q}
+use Rattle.trap_model.specs.declared.request.Request.TheVariants.{Write, Read, At, By}
+use Rattle.trap_model.specs.declared.request.Request.TheVariants.{Quit as Q}
 use Rattle.trap_array.specs.Calling.{kept_calls}
 use Rattle.trap_array.specs.Calls.{Mounted}
 use Rattle.trap_array.specs.Sources.{CallsAtMost, present_of, reads_back}
@@ -39,7 +39,5 @@ CallsInLine a b (Read block) result old new = CallsToRead a block result old new
 CallsInLine a b (At seq block) result old new = CallsAtMost (reads_back a block seq + 1) old new
 CallsInLine a b (By time block) result old new =
     (seq : ℕ) → IsLastBy a.index time seq → CallsAtMost (reads_back a block seq + 1) old new
-CallsInLine a b (Keep seq) result old new = CalledTimes 1 old new
-CallsInLine a b Info result old new = CalledTimes 1 old new
 CallsInLine a b Q result old new = CalledTimes 0 old new
-CallsInLine a b Bad result old new = CalledTimes 1 old new
+CallsInLine a b other result old new = CalledTimes 1 old new

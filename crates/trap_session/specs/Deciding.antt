@@ -8,8 +8,7 @@ use Rattle.trap_model.specs.declared.request.Refusal.TheVariants.{NoLine, NoBloc
 use Rattle.trap_model.specs.declared.request.Reply.{Reply}
 use Rattle.trap_model.specs.declared.request.Reply.TheVariants.{Kept, Is, At as Was, Span, No}
 use Rattle.trap_model.specs.declared.request.Request.{Request}
-use Rattle.trap_model.specs.declared.request.Request.TheVariants.{Write, Read, At, By, Info, Keep}
-use Rattle.trap_model.specs.declared.request.Request.TheVariants.{Bad, Quit}
+use Rattle.trap_model.specs.declared.request.Request.TheVariants.{Write, Read, At, By, Info, Bad}
 use Rattle.trap_script.specs.Replies.{reply_text}
 use Rattle.trap_array.specs.Calls.{Mounted}
 use Rattle.trap_array.specs.Instants.{number_refused, time_refused}
@@ -17,9 +16,9 @@ use Rattle.trap_array.specs.Turning.{IsFull, early_refusal}
 use Rattle.trap_session.specs.After.{AfterReply}
 
 -- the reply of a refusal, where there is one
-abbrev pub refused_as : Option Refusal → Option Reply
-refused_as None = None
-refused_as (Some why) = Some (No why)
+abbrev pub refusal_reply : Option Refusal → Option Reply
+refusal_reply None = None
+refusal_reply (Some why) = Some (No why)
 
 -- A request of a block that isn't there is refused first. A stopped array replies to no other
 -- request of a block, and else the request may be refused for this reason.
@@ -27,7 +26,7 @@ abbrev pub decided_of_block : Mounted → ℕ → Option Refusal → Option Repl
 decided_of_block a block why =
     if nat_le (volume a.g) block then Some (No NoBlock)
     else if a.is_stopped then None
-    else refused_as why
+    else refusal_reply why
 
 -- the reply to a request, where the array's own numbers decide it
 abbrev pub decided_reply : Mounted → Request → Option Reply
@@ -37,8 +36,7 @@ decided_reply a (At seq block) = decided_of_block a block (number_refused a.inde
 decided_reply a (By time block) = decided_of_block a block (time_refused a.index time)
 decided_reply a Info = Some (Span a.head.first a.head.last a.head.base_time a.head.last_time)
 decided_reply a Bad = Some (No NoLine)
-decided_reply a (Keep seq) = None
-decided_reply a Quit = None
+decided_reply a other = None
 
 -- A write may be kept, by the next number, or find no room. A read may give the bytes of a block.
 abbrev pub MayReply : Mounted → Request → Reply → Type 0
@@ -49,10 +47,7 @@ MayReply a (At seq block) reply =
     (bytes : List ℕ) × (length bytes ≡ a.g.block) × (reply ≡ Was bytes)
 MayReply a (By time block) reply =
     (bytes : List ℕ) × (length bytes ≡ a.g.block) × (reply ≡ Was bytes)
-MayReply a Info reply = ⊥
-MayReply a Bad reply = ⊥
-MayReply a (Keep seq) reply = ⊥
-MayReply a Quit reply = ⊥
+MayReply a other reply = ⊥
 
 -- this reply to the request, which is decided or may be given, was said so, and what the array
 -- knows now is what follows from it

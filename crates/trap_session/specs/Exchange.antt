@@ -12,8 +12,7 @@ use Rattle.trap_session.specs.declared.outcome.Ended.{Ended}
 use Rattle.trap_session.specs.declared.outcome.Ended.TheVariants as ended
 use Rattle.trap_session.specs.declared.outcome.Next.TheVariants.{More, Quit}
 use Rattle.trap_session.specs.declared.outcome.SessionFault.{SessionFault}
-use Rattle.trap_session.specs.declared.outcome.SessionFault.TheVariants.{Array, ReadFault}
-use Rattle.trap_session.specs.declared.outcome.SessionFault.TheVariants.{WriteFault, TooLong}
+use Rattle.trap_session.specs.declared.outcome.SessionFault.TheVariants.{ReadFault, TooLong}
 
 -- A session over an array and a bank answers these requests, one line after another, and ends so.
 -- No call of the bank comes between two lines, nor before the first or after the last.
@@ -54,11 +53,9 @@ AreTaken from to asked = (input : List ℕ) → from.left ≡ Some input
 
 -- where the source failed, or gave too much, every line that was taken whole was answered
 abbrev pub ReadsLines : Result Ended SessionFault → Stream → Stream → List Request → Type 0
-ReadsLines (Ok value) from to asked = Unit {0}
-ReadsLines (Err (Array denied)) from to asked = Unit {0}
 ReadsLines (Err ReadFault) from to asked = AreTaken from to asked
-ReadsLines (Err WriteFault) from to asked = Unit {0}
 ReadsLines (Err TooLong) from to asked = AreTaken from to asked
+ReadsLines other from to asked = Unit {0}
 
 -- a session of these lines, which it read from the source
 pub record IsSessionOver {B : Type 0} (view : B → View) (a b : Mounted)

@@ -1,5 +1,6 @@
 -- What a session leaves of its array and its source.
-use Rattle.std.specs.Prelude.{◌≡◌, ℕ, ◌+◌, ◌≤◌, List, ◌++◌, length, Some, IsTrue, Result, Ok}
+use Rattle.std.specs.Prelude.{◌≡◌, ◌≢◌, ℕ, ◌+◌, ◌≤◌, List, ◌++◌, length, Some, IsTrue, false}
+use Rattle.std.specs.Prelude.{Result, Ok, Err}
 use Rattle.std.specs.Io.KnownBytes.{IsAtEnd}
 use Rattle.trap_bank.specs.Disks.{View}
 use Rattle.trap_bank.specs.Steps.{Always}
@@ -13,12 +14,14 @@ use Rattle.trap_script.specs.Walk.{state_after}
 use Rattle.trap_array.specs.Areas.{MayTouch}
 use Rattle.trap_array.specs.Beside.{StaysFrom}
 use Rattle.trap_array.specs.Calls.{Mounted, IsReady, SameArray, StandsFor}
-use Rattle.trap_session.specs.Answers.{is_stopping, UnlessFailed}
+use Rattle.trap_array.specs.declared.fault.Denied.TheVariants.{Stopped}
+use Rattle.trap_session.specs.Answers.{is_stopping}
 use Rattle.trap_session.specs.Changing.{ChangesOnly}
 use Rattle.trap_session.specs.Serving.{Took}
 use Rattle.trap_session.specs.declared.outcome.Ended.{Ended}
 use Rattle.trap_session.specs.declared.outcome.Ended.TheVariants as ended
 use Rattle.trap_session.specs.declared.outcome.SessionFault.{SessionFault}
+use Rattle.trap_session.specs.declared.outcome.SessionFault.TheVariants.{Array}
 
 -- the array stands for the state after the first lines of the input, where that is known
 pub record StandsAfter (a b : Mounted) (s : State) (new : View) (from : Stream) : Type 0 where
@@ -42,8 +45,8 @@ pub record HasServed (a b : Mounted) (result : Result Ended SessionFault) (old n
   pub goes_on : SameArray a b
   pub stopped : b.is_stopped ≡ is_stopping result
   pub ready : IsReady b new
-  pub stands : UnlessFailed result (IsTrue old.tells → (s : State) → Always old (StandsFor a s)
-      → StandsAfter a b s new from)
+  pub stands : is_stopping result ≡ false → result ≢ Err (Array Stopped) → IsTrue old.tells
+      → (s : State) → Always old (StandsFor a s) → StandsAfter a b s new from
   pub index : HasRecordsMore a.index b.index
   pub changes : ChangesOnly (MayTouch a) old new
   pub sizes : (e : ℕ) → new.sizes e ≡ old.sizes e

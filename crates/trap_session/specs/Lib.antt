@@ -6,7 +6,6 @@ pub mod Changing
 pub mod After
 pub mod Deciding
 pub mod Calling
-pub mod Indexing
 pub mod Answers
 pub mod Serving
 pub mod Leaving

@@ -11,8 +11,8 @@ use Rattle.trap_script.specs.Walk.{state_after, first_texts, Answered, AnsweredA
 use Rattle.trap_bank.specs.Steps.{Always}
 use Rattle.trap_model.specs.declared.history.State.{State}
 use Rattle.trap_array.specs.Calls.{Mounted, StandsFor, HoldsLike}
-use Rattle.trap_array.specs.declared.fault.Denied.TheVariants.{Stopped}
-use Rattle.trap_session.specs.Store.{Store, array_store, FaultCause, FaultRose}
+use Rattle.trap_array.specs.declared.fault.Denied.TheVariants.{Damaged, Stopped}
+use Rattle.trap_session.specs.Store.{Store, array_store, FaultRose}
 use Rattle.trap_session.specs.declared.outcome.Next.{Next}
 use Rattle.trap_session.specs.declared.outcome.Next.TheVariants.{More, Quit}
 use Rattle.trap_session.specs.declared.outcome.Ended.{Ended}
@@ -35,17 +35,6 @@ abbrev pub StopsAfter : {S : Type 0} → Store S → S → List ℕ → ℕ → 
 StopsAfter store s input j old now =
     Answered store.machine (store.holds now.disks) s (lines store.block input) j old.said now.said
 
--- the replies to the lines that were taken whole were said
-abbrev pub StopsReading : {S : Type 0} → Store S → S → List ℕ → Contents → Contents → Stream
-    → Stream → Type 0
-StopsReading store s input old now from to =
-    StopsAfter store s input (line_feeds (bytes_taken input from to)) old now
-
--- a part of the replies was said
-abbrev pub StopsAtPort : {S : Type 0} → Store S → S → List ℕ → Contents → Contents → Type 0
-StopsAtPort store s input old now =
-    AnsweredPart store.machine (store.holds now.disks) s (lines store.block input) old.said now.said
-
 -- the replies to the first j lines were said, and a disk failed in the next one
 pub record StopsTorn {S : Type 0} (store : Store S) (s : S) (input : List ℕ)
     (old now : Contents) : Type 0 where
@@ -56,15 +45,18 @@ pub record StopsTorn {S : Type 0} (store : Store S) (s : S) (input : List ℕ)
   pub said : now.said ≡ old.said ++ first_texts store.machine s (lines store.block input) j
   pub torn : store.torn now.disks (state_after store.machine s (lines store.block input) j) asked
 
--- What was said, and what the disks hold, when a session stops so.
+-- What was said, and what the disks hold, when a session stops so: the replies to all lines; those
+-- before the line in which a disk failed; a part of them, where the port failed; or those to the
+-- lines that were taken whole. No record that is read again is damaged.
 abbrev pub StopsAs : {S : Type 0} → Store S → Result Ended SessionFault → S → List ℕ → Contents
     → Contents → Stream → Stream → Type 0
 StopsAs store (Ok ended) s input old now from to = StopsDone store s input old now
-StopsAs store (Err (Array denied)) s input old now from to =
-    FaultCause denied (StopsTorn store s input old now)
-StopsAs store (Err ReadFault) s input old now from to = StopsReading store s input old now from to
-StopsAs store (Err WriteFault) s input old now from to = StopsAtPort store s input old now
-StopsAs store (Err TooLong) s input old now from to = StopsReading store s input old now from to
+StopsAs store (Err (Array (Damaged offset))) s input old now from to = ⊥
+StopsAs store (Err (Array denied)) s input old now from to = StopsTorn store s input old now
+StopsAs store (Err WriteFault) s input old now from to =
+    AnsweredPart store.machine (store.holds now.disks) s (lines store.block input) old.said now.said
+StopsAs store (Err other) s input old now from to =
+    StopsAfter store s input (line_feeds (bytes_taken input from to)) old now
 
 -- nothing, or bytes up to a line feed
 abbrev pub AreWholeLines : List ℕ → Type 0

@@ -5,7 +5,7 @@ ghost use Rattle.trap_bank.specs.Steps.{Steps};
 ghost use Rattle.trap_script.specs.Lines.{request_of, goes_on};
 ghost use Rattle.trap_array.specs.Calls.{IsReady};
 ghost use Rattle.trap_session.specs.Answers.{AnswersLine};
-ghost use Rattle.trap_session.specs.Store.{NamesBadLine};
+ghost use Rattle.trap_session.specs.Store.{NamesDamage};
 ghost use Rattle.trap_session.specs.Leaving.{HasServed};
 ghost use Rattle.trap_session.specs.Exchange.{IsSessionOver};
 ghost use Rattle.trap_session.specs.Serving.{Serves, HasStopped, StopsBy};
@@ -95,9 +95,9 @@ impl Session {
         ensures leaves { HasServed array.old array.new result (B.view bank.old) (B.view bank.new)
             (S.stream source.old) (S.stream source.new) }
         ensures held { StandsAtEnd array.old (B.view bank.old) (B.view bank.new) }
+        ensures damaged { IfErr result (λ fault. NamesDamage array.new fault (B.view bank.new)) }
         ensures cause { StopsBy array.old result (B.view bank.old) (B.view bank.new)
             (S.stream source.old) (S.stream source.new) }
-        ensures bad { IfErr result (λ fault. NamesBadLine array.new fault (B.view bank.new)) }
     {
         let mut buffers = self.buffers;
         let mut reader = self.reader;

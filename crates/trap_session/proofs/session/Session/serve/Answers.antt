@@ -24,7 +24,7 @@ returns-in-Err-Source g c =
     let to = stream c.next.new.source in
     let none = subst (λ f. FindsNone f c.lines.reader c.next.new.self at to) c.in-Err-Source.field-0-is c.in-Err-Source.ensures.err in
     let done = source_failed g.B.Bank.view c.args.array.now c.lines.array c.args.bank.now c.lines.bank (stream c.args.source.now) at to c.lines.reader c.next.new.self c.lines.invariant.0 none in
-    record { stops = done.stops; no_quit = done.no_quit; exchange = done.exchange; leaves = done.leaves; held = done.held; cause = done.cause; bad = done.bad }
+    record { stops = done.stops; no_quit = done.no_quit; exchange = done.exchange; leaves = done.leaves; held = done.held; cause = done.cause; damaged = done.damaged }
 
 pub returns-in-Err-TooLong : goal.returns-in-Err-TooLong
 returns-in-Err-TooLong g c =
@@ -33,7 +33,7 @@ returns-in-Err-TooLong g c =
     let to = stream c.next.new.source in
     let none = subst (λ f. FindsNone f c.lines.reader c.next.new.self at to) c.in-Err-TooLong.field-0-is c.in-Err-TooLong.ensures.err in
     let done = too_much g.B.Bank.view c.args.array.now c.lines.array c.args.bank.now c.lines.bank (stream c.args.source.now) at to c.lines.reader c.next.new.self c.lines.invariant.0 none in
-    record { stops = done.stops; no_quit = done.no_quit; exchange = done.exchange; leaves = done.leaves; held = done.held; cause = done.cause; bad = done.bad }
+    record { stops = done.stops; no_quit = done.no_quit; exchange = done.exchange; leaves = done.leaves; held = done.held; cause = done.cause; damaged = done.damaged }
 
 pub returns-in-Ok-End : goal.returns-in-Ok-End
 returns-in-Ok-End g c =
@@ -42,7 +42,7 @@ returns-in-Ok-End g c =
     let to = stream c.next.new.source in
     let end = subst (λ f. Finds f c.lines.reader c.next.new.self at to) c.in-Ok-End.field-0-is c.in-Ok-End.ensures.found in
     let done = input_ended g.B.Bank.view c.args.array.now c.lines.array c.args.bank.now c.lines.bank (stream c.args.source.now) at to c.lines.reader c.next.new.self c.lines.invariant.0 end.0 end.1 in
-    record { stops = done.stops; no_quit = done.no_quit; exchange = done.exchange; leaves = done.leaves; held = done.held; cause = done.cause; bad = done.bad }
+    record { stops = done.stops; no_quit = done.no_quit; exchange = done.exchange; leaves = done.leaves; held = done.held; cause = done.cause; damaged = done.damaged }
 
 pub returns-in_err-next-in-Ok-Last : goal.returns-in_err-next-in-Ok-Last
 returns-in_err-next-in-Ok-Last g c =
@@ -61,7 +61,7 @@ returns-in_err-next-in-Ok-Last g c =
     (last_failed view array c.lines.array first c.lines.bank from at to c.lines.reader c.next.new.self c.lines.invariant.0 call.new.array call.new.bank
     found.0 found.1.no_feed call.result (call.ensures.answers found.0 found.1) (call.ensures.quit found.0 found.1) found.2 (omega (arith, found.3, found.1.long)) found.4
     fault c.in_err-next-in-Ok-Last.was) in
-    record { stops = done.stops; no_quit = done.no_quit; exchange = done.exchange; leaves = done.leaves; held = done.held; cause = done.cause; bad = done.bad }
+    record { stops = done.stops; no_quit = done.no_quit; exchange = done.exchange; leaves = done.leaves; held = done.held; cause = done.cause; damaged = done.damaged }
 
 pub returns-in-Ok-Last : goal.returns-in-Ok-Last
 returns-in-Ok-Last g c =
@@ -78,7 +78,7 @@ returns-in-Ok-Last g c =
     (last_answered view array c.lines.array first c.lines.bank from at to c.lines.reader c.next.new.self c.lines.invariant.0 call.new.array call.new.bank
     found.0 found.1.no_feed call.result (call.ensures.answers found.0 found.1) (call.ensures.quit found.0 found.1) found.2 (omega (arith, found.3, found.1.long)) found.4
     c.in_ok-next-in-Ok-Last.next c.in_ok-next-in-Ok-Last.was) in
-    record { stops = done.stops; no_quit = done.no_quit; exchange = done.exchange; leaves = done.leaves; held = done.held; cause = done.cause; bad = done.bad }
+    record { stops = done.stops; no_quit = done.no_quit; exchange = done.exchange; leaves = done.leaves; held = done.held; cause = done.cause; damaged = done.damaged }
 
 pub returns-in_err-answer_found-in-Ok-Line : goal.returns-in_err-answer_found-in-Ok-Line
 returns-in_err-answer_found-in-Ok-Line g c =
@@ -96,7 +96,7 @@ returns-in_err-answer_found-in-Ok-Line g c =
     let done = subst (λ (r : Result Ended SessionFault). HasEnded view array call.new.array r first call.new.bank from to) is
     (line_failed view array c.lines.array first c.lines.bank from at to c.lines.reader c.next.new.self c.lines.invariant.0 call.new.array call.new.bank
     found.0 found.1.no_feed call.result (call.ensures.answers found.0 found.1) (call.ensures.quit found.0 found.1) found.2 fault c.in_err-answer_found-in-Ok-Line.was) in
-    record { stops = done.stops; no_quit = done.no_quit; exchange = done.exchange; leaves = done.leaves; held = done.held; cause = done.cause; bad = done.bad }
+    record { stops = done.stops; no_quit = done.no_quit; exchange = done.exchange; leaves = done.leaves; held = done.held; cause = done.cause; damaged = done.damaged }
 
 pub returns-in-Quit : goal.returns-in-Quit
 returns-in-Quit g c =
@@ -108,7 +108,7 @@ returns-in-Quit g c =
     let done = line_quitted g.B.Bank.view c.args.array.now c.lines.array c.args.bank.now c.lines.bank (stream c.args.source.now) at to c.lines.reader c.next.new.self c.lines.invariant.0
     call.new.array call.new.bank found.0 found.1.no_feed call.result (call.ensures.answers found.0 found.1) (call.ensures.quit found.0 found.1) found.2
     (c.in_ok-answer_found-in-Ok-Line.was ∙ ap Ok c.in-Quit.is) in
-    record { stops = done.stops; no_quit = done.no_quit; exchange = done.exchange; leaves = done.leaves; held = done.held; cause = done.cause; bad = done.bad }
+    record { stops = done.stops; no_quit = done.no_quit; exchange = done.exchange; leaves = done.leaves; held = done.held; cause = done.cause; damaged = done.damaged }
 
 pub lines-preserved : goal.lines-preserved
 lines-preserved g c =
