@@ -21,13 +21,14 @@ use Rattle.trap_mount.specs.declared.fault.MountFault.{MountFault}
 use Rattle.trap_session.specs.declared.outcome.SessionFault.TheVariants as serving
 use Rattle.trap_session.specs.Serving.{Serves, bytes_taken}
 use Rattle.trap_cli.specs.declared.outcome.Ended.{Ended}
-use Rattle.trap_cli.specs.declared.outcome.Ended.TheVariants.{Done, Usage, BadGeometry, NotCreated, NotMounted, Stopped, Port, Memory}
+use Rattle.trap_cli.specs.declared.outcome.Ended.TheVariants.{Done, NotMounted, Stopped, Memory}
 use Rattle.trap_cli.specs.Command.{command_session}
 use Rattle.trap_cli.specs.Ended.{last_line}
 use Rattle.trap_cli.specs.Said.{SessionSaid, BeginsHeld, ServedSaid}
-use Rattle.trap_cli.specs.Crash.{IsFaultFront, HoldsSince, HoldsAfter, AfterGiven, replies_given, SessionLeaves, LeftSaid, LeavesNow, LeavesWithFront}
+use Rattle.trap_cli.specs.Left.{IsFaultFront, HoldsSince, LeftSaid}
+use Rattle.trap_cli.specs.Crash.{HoldsAfter, AfterGiven, replies_given, SessionLeaves, LeavesNow, LeavesWithFront}
 use Rattle.trap_cli.proofs.Lines.{array_answers, given_fault}
-use Rattle.trap_session.proofs.Arrays.{comes_gives}
+use Rattle.trap_session.proofs.Arrays.{torn_of}
 use Rattle.trap_cli.proofs.Stopping.{LostOn, since_store, since_like, stops_since}
 use Rattle.trap_cli.proofs.Heads.{same_head_holds, Mounting}
 
@@ -92,13 +93,10 @@ module _ (g : Geometry) (s : State) (input : List ℕ) (old : View) (from : Stre
       answered_leaves x y z (length all) front (Done, rest, is) quiet (omega arith)
       (stops.said ∙ ap (λ (l : List ℕ). y.said ++ l) (sym (first_texts-all (step g) s all (length all) (drop_all all))))
       (inl (subst (λ (t : State). HoldsSince g old z.disks t) (sym (state_after-all (step g) s all (length all) (drop_all all))) stops.holds))
-  stopped_leaves Usage to x y z quiet stops front rest is = absurd stops
-  stopped_leaves (BadGeometry field) to x y z quiet stops front rest is = absurd stops
-  stopped_leaves (NotCreated why) to x y z quiet stops front rest is = absurd stops
   stopped_leaves (NotMounted why) to x y z quiet stops front rest is =
       answered_leaves x y z 0 front (NotMounted why, rest, is) quiet stops.1.within stops.1.said (inl stops.1.holds)
   stopped_leaves (Stopped (serving.Array why)) to x y z quiet stops front rest is =
-      let stops = comes_gives why stops in
+      let stops = torn_of (since_store g old) why s input y z from to stops in
       answered_leaves x y z stops.j front (Stopped (serving.Array why), rest, is) quiet
       (let below = below_end (lines g.block input) stops.j stops.asked stops.rest stops.next in omega (arith, below)) stops.said
       (⊎_elim (λ (holds : HoldsSince g old z.disks (state_after (step g) s (lines g.block input) stops.j)). inl holds)
@@ -113,9 +111,9 @@ module _ (g : Geometry) (s : State) (input : List ℕ) (old : View) (from : Stre
   stopped_leaves (Stopped serving.WriteFault) to x y z quiet stops (byte ∷ front) rest is = absurd (cc is)
   stopped_leaves (Stopped serving.TooLong) to x y z quiet stops front rest is =
       answered_leaves x y z (line_feeds (bytes_taken input from to)) front (Stopped serving.TooLong, rest, is) quiet stops.within stops.said (inl stops.holds)
-  stopped_leaves Port to x y z quiet stops front rest is = absurd stops
   stopped_leaves Memory to x y z quiet stops front rest is =
       answered_leaves x y z 0 front (Memory, rest, is) quiet stops.within stops.said (inl stops.holds)
+  stopped_leaves ended to x y z quiet stops front rest is = absurd stops
 
   -- while it goes on
   serving_leaves : (x y z : Contents) → y.said ≡ x.said → AnsweredPart (step g) (λ (t : State). HoldsSince g old z.disks t) s (lines g.block input) y.said z.said

@@ -1,8 +1,8 @@
 -- All but the last line of `create`.
-use Rattle.std.proofs.Common.{◌≡◌, ◌≢◌, ◌↔◌, ◌⊎◌, inl, inr, ⊎_elim, ℕ, zero, suc, ◌+◌, ◌<◌, ◌≤◌, List, [], ◌++◌, Option, Some, None, Result, Ok, Err, false, IsTrue, refl, sym, ap, subst, ◌∙◌, append_assoc, append-nil, arith}
+use Rattle.std.proofs.Common.{◌≡◌, ◌≢◌, ◌↔◌, ◌⊎◌, get_or, inl, inr, ⊎_elim, ℕ, zero, suc, ◌+◌, ◌<◌, ◌≤◌, List, [], ◌++◌, Option, Some, None, Result, Ok, Err, true, false, IsTrue, refl, sym, ap, subst, ◌∙◌, append_assoc, append-nil, arith}
 use Rattle.std.proofs.lemmas.Bool.{cases_eq}
 use Rattle.trap_bank.specs.Faults.{Rose}
-use Rattle.trap_bank.specs.Disks.{Contents, Disks, View, Quiet, Differs, size_of}
+use Rattle.trap_bank.specs.Disks.{Contents, Disks, View, Quiet, Differs, size_of, bytes_of}
 use Rattle.trap_bank.specs.Calls.{MayLeave, IsLawful, Says}
 use Rattle.trap_bank.specs.Steps.{Steps, Moves, Same, SpokePart, OnlyReads}
 use Rattle.trap_bank.specs.Stream.{Stream}
@@ -12,9 +12,10 @@ use Rattle.trap_model.specs.declared.numbers.Geometry.{Geometry}
 use Rattle.trap_format.specs.Checked.{first_broken, HasNumbers}
 use Rattle.trap_format.specs.declared.limits.Field.{Field}
 use Rattle.trap_format.specs.LogDisk.{log_size}
+use Rattle.trap_model.specs.Limits.{open_gate}
 use Rattle.trap_format.specs.MemberDisk.{member_size}
 use Rattle.trap_format.proofs.Spellings.{same_geometry}
-use Rattle.trap_array.specs.Creating.{CreateFails as MakeFails, IsNoArray, Creates, HasCreated, MembersFirst, AreSized, IsLowest, NoneIsThere, fresh_head}
+use Rattle.trap_array.specs.Creating.{CreateFails as MakeFails, IsLogGateOff, Creates, HasCreated, MembersFirst, AreSized, IsLowest, NoneIsThere, fresh_head}
 use Rattle.trap_mount.specs.CreateEnds.{IsMade, IsMaking, KeepsOrder, StaysBeyond, DisksBeyondStay}
 use Rattle.trap_mount.specs.declared.fault.CreateFault.{CreateFault}
 use Rattle.trap_mount.specs.declared.fault.CreateFault.TheVariants.{Exists, LogFault, MemberFault}
@@ -24,11 +25,13 @@ use Rattle.trap_cli.specs.Command.{command_create}
 use Rattle.trap_cli.specs.Ended.{last_line, created_line, is_create_refusal}
 use Rattle.trap_cli.specs.Cause.{CreateDenied, HasNewSizes}
 use Rattle.trap_cli.specs.Creating.{HoldsNew, NotCreatedSaid, IsUnfinished}
-use Rattle.trap_cli.specs.Crash.{IsFaultFront, CreateLeaves, LeavesNow, LeavesWithFront}
+use Rattle.trap_cli.specs.Left.{IsFaultFront}
+use Rattle.trap_cli.specs.Crash.{CreateLeaves, LeavesNow, LeavesWithFront}
 use Rattle.trap_cli.specs.Run.{CommandOutcome}
 use Rattle.trap_cli.specs.Frame.{ChangesBy, InAsked, Frames}
 use Rattle.trap_cli.proofs.Saying.{took_none}
 use Rattle.trap_cli.proofs.Framing.{changes_none, changes_quiet, changes_wider, changes_kept}
+use Rattle.trap_bank.proofs.OnlyReads.{reads_none}
 use Rattle.trap_bank.proofs.Regions.{absent_disk}
 use Rattle.trap_cli.proofs.Heads.{held_same, held_none}
 use Rattle.trap_cli.proofs.Lines.{not_created}
@@ -62,9 +65,10 @@ none_there g v none d inside = below (suc d) d (omega arith) inside
     below zero d less inside = absurd (omega (arith, less))
     below (suc n) d less inside = at d inside (λ e under. below n e (omega (arith, less, under)) (omega (arith, inside, under))) (v.sizes d) refl
 
--- an absent disk 0 is no log
-absent_no_log : (disks : Disks) → size_of (disks 0) ≡ None → IsNoArray disks
-absent_no_log disks absent begins = let both : None ≡ Some begins.bytes = sym absent ∙ begins.there in cc
+-- the gate of an absent disk 0 is off
+absent_off : (disks : Disks) → disks 0 ≡ None → IsLogGateOff disks
+absent_off disks absent is_open =
+    let both : 0 ≡ open_gate = sym (ap (λ (disk : Option (List ℕ)). get_or (bytes_of disk) 0 0) absent) ∙ is_open in cc
 
 -- each crash in a run leaves what comes by its relation and has this too, where another fact of the same run says so
 steps_with : (a b : View) (d1 a1 d2 a2 : Contents → Contents → Type 0) (has : Contents → Type 0) → Steps a b d1 a1 → Steps a b d2 a2
@@ -104,7 +108,7 @@ module _ (asked : Asked) (a : View) (lawful : IsLawful a) where
         broken = λ field is. left;
         there = λ g d numbers low. left;
         made = λ g numbers none. (
-          inl (absent_no_log disks (ap (λ (disks : Disks). size_of (disks 0)) same ∙ was.torn.disks.sizes 0 ∙ lawful.sized was.told 0 ∙ none 0 (omega arith))),
+          inl (absent_off disks (ap (λ (disks : Disks). disks 0) same ∙ log_absent g none x was)),
           members_first g none x was disks (inl (ap (λ (disks : Disks). disks 0) same)),
         );
         whole = λ g rest numbers none is. absurd (not_created asked.id p rest front is);
@@ -349,15 +353,15 @@ module _ (asked : Asked) (a : View) (lawful : IsLawful a) where
 -- What `create` answers when it made no array.
 pub uncreated_outcome : {T : Type 0} (asked : Asked) (g : Geometry) (a b : View) (from : Stream) (result : Result T CreateFault) (why : CreateFault)
     → IsLawful a → first_broken asked ≡ None → HasNumbers g asked → result ≡ Err why
-    → ((d : ℕ) → (result ≡ Err (Exists d)) ↔ IsLowest g a d) → ((d : ℕ) → IsLowest g a d → OnlyReads a b)
+    → ((d : ℕ) → (result ≡ Err (Exists d)) ↔ IsLowest g a d) → ((d : ℕ) → IsLowest g a d → b ≡ a)
     → MakeFails g why a b → DisksBeyondStay g a b → (NoneIsThere g a → IsMaking g a b) → KeepsOrder g a b
     → CommandOutcome (command_create asked) (NotCreated why) a b from from
 uncreated_outcome asked g a b from result (Exists d) lawful kept numbers is exists untouched fails beside making order =
     let low = (exists d).0 is in
-    exists_outcome asked a lawful kept g numbers b from d low (untouched d low)
+    exists_outcome asked a lawful kept g numbers b from d low (subst (λ (v : View). OnlyReads a v) (sym (untouched d low)) (reads_none a))
 uncreated_outcome asked g a b from result LogFault lawful kept numbers is exists untouched fails beside making order =
     let no_low : (d : ℕ) → IsLowest g a d → ⊥ = λ d low. let both : Err LogFault ≡ Err (Exists d) = sym is ∙ (exists d).1 low in cc in
-    failed_outcome asked a lawful kept g numbers b from no_low beside making order LogFault refl fails
+    failed_outcome asked a lawful kept g numbers b from no_low beside making order LogFault refl fails.0
 uncreated_outcome asked g a b from result (MemberFault first second) lawful kept numbers is exists untouched fails beside making order =
     let no_low : (d : ℕ) → IsLowest g a d → ⊥ = λ d low. let both : Err (MemberFault first second) ≡ Err (Exists d) = sym is ∙ (exists d).1 low in cc in
     failed_outcome asked a lawful kept g numbers b from no_low beside making order (MemberFault first second) refl (fails.1, (fails.0, fails.2), fails.3)
@@ -366,3 +370,10 @@ uncreated_outcome asked g a b from result (MemberFault first second) lawful kept
 pub none_before : {T : Type 0} (g : Geometry) (a : View) (result : Result T CreateFault) (value : T) → result ≡ Ok value
     → ((d : ℕ) → (result ≡ Err (Exists d)) ↔ IsLowest g a d) → (d : ℕ) → IsLowest g a d → ⊥
 none_before g a result value is exists d low = let both : Ok value ≡ Err (Exists d) = sym is ∙ (exists d).1 low in cc
+
+-- a bank that a disk's being there leaves as it was is left so by a refusal
+pub refused_idle : {T : Type 0} {B : Type 0} (g : Geometry) (a : View) (result : Result T CreateFault) (why : CreateFault) (first done : B) → result ≡ Err why
+    → ((d : ℕ) → (result ≡ Err (Exists d)) ↔ IsLowest g a d) → ((d : ℕ) → IsLowest g a d → done ≡ first) → is_create_refusal why ≡ true → done ≡ first
+refused_idle g a result (Exists d) first done is exists untouched refused = untouched d ((exists d).0 is)
+refused_idle g a result LogFault first done is exists untouched refused = absurd (cc refused)
+refused_idle g a result (MemberFault member second) first done is exists untouched refused = absurd (cc refused)

@@ -14,7 +14,7 @@ use Rattle.trap_mount.specs.declared.fault.MountFault.{MountFault}
 use Rattle.trap_mount.specs.declared.fault.MountFault.TheVariants.{LogFault}
 use Rattle.trap_mount.proofs.Puts.{put_in_cell}
 use Rattle.trap_cli.specs.declared.command.Command.{Command}
-use Rattle.trap_cli.specs.declared.command.Command.TheVariants.{Create, Session, History}
+use Rattle.trap_cli.specs.declared.command.Command.TheVariants.{Create, Session, History, Send, ReplicaCreate, ReplicaLoad, Apply, ReplicaExport}
 use Rattle.trap_cli.specs.Ended.{leaves_log}
 use Rattle.trap_cli.specs.Frame.{ByDisks, ChangesBy, InMounted, MayChange}
 use Rattle.trap_bank.proofs.Rising.{rose_later}
@@ -137,4 +137,9 @@ change_later None old mid new later x y same = same
 change_later (Some Session) old mid new later x y by = ⊎_elim (λ put. inl (put_later old mid new later x y put))
     (λ some. inr (some.0, array_later some.0 old mid new later some.1, some.2)) by
 change_later (Some History) old mid new later x y put = put_later old mid new later x y put
+change_later (Some (Send seq)) old mid new later x y put = put_later old mid new later x y put
 change_later (Some (Create asked)) old mid new later x y by = by
+change_later (Some (ReplicaCreate asked)) old mid new later x y by = by
+change_later (Some (ReplicaLoad asked start)) old mid new later x y by = by
+change_later (Some Apply) old mid new later x y by = by
+change_later (Some ReplicaExport) old mid new later x y by = by

@@ -16,7 +16,8 @@ use Rattle.trap_bank.proofs.Regions.{absent_disk}
 use Rattle.trap_array.proofs.Removed.{removed_but}
 use Rattle.trap_cli.specs.Creating.{HoldsNew}
 use Rattle.trap_cli.specs.Said.{BeginsHeld}
-use Rattle.trap_cli.specs.Crash.{LeftOnEntry, HoldsSince, LeftBesideHead, SessionLeaves, HistoryLeaves, AfterGiven, OneMayGo}
+use Rattle.trap_cli.specs.Left.{LeftOnEntry, HoldsSince, LeftBesideHead}
+use Rattle.trap_cli.specs.Crash.{SessionLeaves, HistoryLeaves, SendLeaves, AfterGiven, OneMayGo}
 use Rattle.trap_cli.proofs.Crashing.{none_given}
 use Rattle.trap_cli.proofs.Heads.{same_head_by}
 
@@ -74,6 +75,11 @@ module _ (g : Geometry) (s : State) (m : ℕ) (v : View) (lawful : IsLawful v) (
   pub history_but : (p : List ℕ) → HistoryLeaves g s v p left → HoldsBut g s m left
   history_but p (inl (front, beside)) = beside_but beside
   history_but p (inr (front, since)) = since_but s since
+
+  -- and after a run of `send`
+  pub send_but : (seq : ℕ) (p : List ℕ) → SendLeaves g s seq v p left → HoldsBut g s m left
+  send_but seq p (inl (front, beside)) = beside_but beside
+  send_but seq p (inr (front, since)) = since_but s since
 
 -- and so it is with the member removed
 pub gone_after : (g : Geometry) (s : State) (m : ℕ) (input p : List ℕ) (v : View) (from : Stream) → IsLawful v → BeginsHeld g s input v from

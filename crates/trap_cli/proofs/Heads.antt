@@ -13,7 +13,7 @@ use Rattle.trap_array.specs.Holding.{Holds, HoldsBy}
 use Rattle.trap_array.specs.Mounting.{Mounts, SameHead, FoundLost}
 use Rattle.trap_mount.proofs.Puts.{put_in_cell, fits_put}
 use Rattle.trap_array.specs.Calls.{Mounted, StandsFor}
-use Rattle.trap_cli.specs.Crash.{WasOut, HoldsSince}
+use Rattle.trap_cli.specs.Left.{WasOut, HoldsSince}
 use Rattle.trap_cli.proofs.Stopping.{LostOn}
 use Rattle.trap_cli.specs.Frame.{KeepsMembers, StaysHeld}
 use Rattle.trap_bank.proofs.Rising.{rose_later}

@@ -11,7 +11,8 @@ use Rattle.trap_model.specs.declared.numbers.Geometry.{Geometry}
 use Rattle.trap_model.specs.declared.history.State.{State}
 use Rattle.trap_array.specs.Holding.{Holds, HoldsBy}
 use Rattle.trap_array.specs.Calls.{Mounted, StandsFor}
-use Rattle.trap_array.specs.Mounting.{Mounts, SameHead, Refuses, MountFails, FoundLost, MayPutHead, WritesHead, HasFound, IsNoLog, is_refusal}
+use Rattle.trap_array.specs.MountEnds.{MountCause}
+use Rattle.trap_array.specs.Mounting.{Mounts, SameHead, FoundLost, MayPutHead, WritesHead, HasFound, IsNoLog, is_refusal}
 use Rattle.trap_mount.specs.declared.fault.MountFault.{MountFault}
 use Rattle.trap_mount.specs.declared.fault.MountFault.TheVariants.{NotAnArray, LogFault}
 use Rattle.trap_cli.specs.declared.outcome.Ended.{Ended}
@@ -19,13 +20,14 @@ use Rattle.trap_cli.specs.declared.outcome.Ended.TheVariants.{Done, NotMounted, 
 use Rattle.trap_cli.specs.Command.{command_history}
 use Rattle.trap_cli.specs.Ended.{last_line}
 use Rattle.trap_cli.specs.History.{history_text}
-use Rattle.trap_cli.specs.Listing.{KeepsDisks, Lists, HasListed, index_text}
-use Rattle.trap_cli.specs.Cause.{WantsMemory, ShowsSizes}
-use Rattle.trap_cli.specs.Stopping.{IsMountable}
-use Rattle.trap_cli.specs.Crash.{IsFaultFront, HistoryLeaves, LeftSaid, LeavesNow, LeavesWithFront}
+use Rattle.trap_port.specs.Outgoing.{KeepsDisks}
+use Rattle.trap_cli.specs.Listing.{Lists, HasListed, index_text}
+use Rattle.trap_cli.specs.Mounting.{IsMountable}
+use Rattle.trap_cli.specs.Left.{IsFaultFront, LeftSaid}
+use Rattle.trap_cli.specs.Crash.{HistoryLeaves, LeavesNow, LeavesWithFront}
 use Rattle.trap_cli.specs.Run.{CommandOutcome}
 use Rattle.trap_cli.specs.Frame.{ByDisks, Frames, StaysHeld}
-use Rattle.trap_cli.specs.Session.{MountsArray, MountsOnly, SaysRecords}
+use Rattle.trap_cli.specs.Session.{MountsArray, MountsOnly, SaysFound, CallsFound}
 use Rattle.trap_cli.proofs.Saying.{no_part, took_none}
 use Rattle.trap_bank.proofs.Rising.{rose_since}
 use Rattle.trap_cli.proofs.Framing.{changes_kept, changes_reads, no_log_fault, put_later, mount_changes}
@@ -61,8 +63,9 @@ some_listed a (Err e) x y listed = listed
 -- while the lines are said no disk changes
 history_mounts : {B T E : Type 0} (view : B → View) (a : Mounted) (result : Result T E) (ended : Ended) (first mounted last : B) → MountsArray a (view first) (view mounted)
     → KeepsDisks (view mounted) (view last) → Steps (view mounted) (view last) (Lists a) (HasListed a result)
-    → ((x y : Contents) → x.said ≡ (view mounted).now.said → HasListed a result x y → SaysRecords ended (index_text a.index) (view mounted).now y) → MountsOnly view ended first last
-history_mounts view a result ended first mounted last mounts keeps listed says = record {
+    → ((x y : Contents) → x.said ≡ (view mounted).now.said → HasListed a result x y → SaysFound command_history a (view mounted) ended (view mounted).now y)
+    → CallsFound view command_history a ended mounted last → MountsOnly view command_history ended first last
+history_mounts view a result ended first mounted last mounts keeps listed says calls = record {
   a = a;
   mounted = mounted;
   mounts = mounts;
@@ -78,24 +81,27 @@ history_mounts view a result ended first mounted last mounts keeps listed says =
       let mid = subst IsTrue (sym mounts.writes.any_moment.tells) told in
       let came = listed.now (view last).now (read_is_left (view last) (subst IsTrue (sym listed.tells) mid)) in
       says came.origin (view last).now came.was.torn.said came.by;
+  calls = calls;
 }
 
 -- all lines were said
 pub listed_mounts : {B : Type 0} (T E : Type 0) (value : T) (view : B → View) (a : Mounted) (first mounted last : B) → MountsArray a (view first) (view mounted)
-    → KeepsDisks (view mounted) (view last) → Steps (view mounted) (view last) (Lists a) (HasListed {T = T} {E = E} a (Ok value)) → MountsOnly view Done first last
-listed_mounts T E value view a first mounted last mounts keeps listed = history_mounts {T = T} {E = E} view a (Ok value) Done first mounted last mounts keeps listed
-    (λ x y same listed. listed.says ∙ ap (λ (l : List ℕ). l ++ index_text a.index) same)
+    → KeepsDisks (view mounted) (view last) → Steps (view mounted) (view last) (Lists a) (HasListed {T = T} {E = E} a (Ok value))
+    → CallsFound view command_history a Done mounted last → MountsOnly view command_history Done first last
+listed_mounts T E value view a first mounted last mounts keeps listed calls = history_mounts {T = T} {E = E} view a (Ok value) Done first mounted last mounts keeps listed
+    (λ x y same listed. listed.says ∙ ap (λ (l : List ℕ). l ++ index_text a.index) same) calls
 
 -- a part of them was
 pub cut_mounts : {B : Type 0} (T E : Type 0) (e : E) (view : B → View) (a : Mounted) (first mounted last : B) → MountsArray a (view first) (view mounted)
-    → KeepsDisks (view mounted) (view last) → Steps (view mounted) (view last) (Lists a) (HasListed {T = T} {E = E} a (Err e)) → MountsOnly view Port first last
-cut_mounts T E e view a first mounted last mounts keeps listed = history_mounts {T = T} {E = E} view a (Err e) Port first mounted last mounts keeps listed
+    → KeepsDisks (view mounted) (view last) → Steps (view mounted) (view last) (Lists a) (HasListed {T = T} {E = E} a (Err e))
+    → CallsFound view command_history a Port mounted last → MountsOnly view command_history Port first last
+cut_mounts T E e view a first mounted last mounts keeps listed calls = history_mounts {T = T} {E = E} view a (Err e) Port first mounted last mounts keeps listed
     (λ x y same listed. record {
       part = listed.says.part;
       rest = listed.says.rest;
       whole = listed.says.whole;
       said = listed.says.said ∙ ap (λ (l : List ℕ). l ++ listed.says.part) same;
-    })
+    }) calls
 
 -- The array could not be mounted.
 unlisted_steps : (a b : View) (from : Stream) (why : MountFault) → Moves a b (Mounting a) (Mounting a)
@@ -164,12 +170,12 @@ module _ (a b : View) (from : Stream) (mounted : Moves a b (Mounts a b) (Mounts 
     (writes : WritesHead a b)
     (lost : (g : Geometry) (h k : Head) (s t : State) → IsTrue a.tells → HoldsBy g h s a.now.disks → HoldsBy g k t b.now.disks → FoundLost g h k a b) where
   -- The array could not be mounted.
-  pub unlisted_outcome : (why : MountFault) → (IsNoLog (a.sizes 0) → why ≡ NotAnArray) → (IsTrue a.tells → Refuses a why) → MountFails why a b → WantsMemory why a b → ShowsSizes why a
+  pub unlisted_outcome : (why : MountFault) → (IsNoLog (a.sizes 0) → why ≡ NotAnArray) → MountCause why a b
       → ((why ≡ LogFault → ⊥) → OnlyReads a b)
       → ((g : Geometry) (s : State) → IsTrue a.tells → Holds g s a.now.disks → is_refusal why ≡ false)
       → CommandOutcome command_history (NotMounted why) a b from from
-  unlisted_outcome why no_log refuses fails wants shows unwritten held = record {
-    cause = (refuses, fails, wants, shows);
+  unlisted_outcome why no_log by unwritten held = record {
+    cause = by;
     first = λ none. ap NotMounted (no_log none);
     unchanged = λ is. record { sizes = sizes; changes = changes_reads a b (unwritten (no_log_fault why is)) };
     unmounted = λ other is. mount_changes a b writes;

@@ -2,15 +2,21 @@ pub mod FilesLemmas
 pub mod Words
 pub mod Saying
 pub mod Framing
+pub mod LeftApart
 pub mod Lines
 pub mod Heads
+pub mod Apart
 pub mod Stopping
 pub mod Crashing
 pub mod Listings
 pub mod Histories
 pub mod Sessions
+pub mod Sends
 mod LookingBack
 pub mod Creates
+pub mod Replicas
+pub mod ReplicasLater
 pub mod Running
 pub mod Completing
 pub mod Gone
+pub mod Following

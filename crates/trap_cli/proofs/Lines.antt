@@ -28,9 +28,10 @@ use Rattle.trap_script.specs.Walk.{replies, reply_texts, first_texts}
 use Rattle.trap_script.proofs.WalkLemmas.{length-replies}
 use Rattle.trap_script.proofs.GivenLemmas.{AnswersByLines, given-said, joined, reply_text-some}
 use Rattle.trap_cli.specs.declared.outcome.Ended.{Ended}
-use Rattle.trap_cli.specs.declared.outcome.Ended.TheVariants.{Done, Usage, BadGeometry, NotCreated, NotMounted, Stopped, Port, Memory}
+use Rattle.trap_cli.specs.declared.outcome.Ended.TheVariants.{Done, Stopped, Port, Replica}
+use Rattle.trap_remote.specs.declared.outcome.ReplicaEnd.TheVariants as remote
 use Rattle.trap_cli.specs.Ended.{last_line, created_line}
-use Rattle.trap_cli.specs.Crash.{IsFaultFront}
+use Rattle.trap_cli.specs.Left.{IsFaultFront}
 
 -- the array answers every request but `Q` with a line
 unless_speaks : (why : Option Refusal) (reply : Reply) → reply ≢ Silent → or_refused why reply No ≢ Silent
@@ -81,10 +82,6 @@ texts_like m lines s (x ∷ all) more =
 -- a fault line is empty, or begins with `f`
 line_head : (ended : Ended) → (last_line ended ≡ []) ⊎ (get_or (last_line ended) 0 0 ≡ 102)
 line_head Done = inl refl
-line_head Usage = inr refl
-line_head (BadGeometry field) = inr refl
-line_head (NotCreated why) = inr refl
-line_head (NotMounted why) = inr refl
 line_head (Stopped (serving.Array (denied.Refused why))) = inr refl
 line_head (Stopped (serving.Array denied.LogFault)) = inr refl
 line_head (Stopped (serving.Array (denied.MemberFault first second))) = inr refl
@@ -94,7 +91,10 @@ line_head (Stopped serving.ReadFault) = inr refl
 line_head (Stopped serving.WriteFault) = inl refl
 line_head (Stopped serving.TooLong) = inr refl
 line_head Port = inl refl
-line_head Memory = inr refl
+line_head (Replica remote.Done) = inl refl
+line_head (Replica remote.Port) = inl refl
+line_head (Replica end) = inr refl
+line_head ended = inr refl
 
 -- so does a front of it
 front_of : (front rest line : List ℕ) → (line ≡ []) ⊎ (get_or line 0 0 ≡ 102) → front ++ rest ≡ line → (front ≡ []) ⊎ (get_or front 0 0 ≡ 102)

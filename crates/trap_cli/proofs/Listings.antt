@@ -19,8 +19,10 @@ use Rattle.trap_model.specs.Image.{block_of, written}
 use Rattle.trap_model.specs.Records.{rec_of}
 use Rattle.trap_model.proofs.Records.{length-record_of}
 use Rattle.trap_array.specs.Calls.{Mounted, StandsFor}
+use Rattle.trap_array.specs.Sources.{CallsAtMost}
+use Rattle.trap_port.specs.Outgoing.{KeepsDisks}
 use Rattle.trap_cli.specs.History.{line_of, entry_line, lines_from, history_text}
-use Rattle.trap_cli.specs.Listing.{item_line, record_line, record_lines, index_text, KeepsDisks, SpokeFront, Flushed, Lists, ListsWhole, HasListed}
+use Rattle.trap_cli.specs.Listing.{item_line, record_line, record_lines, index_text, SpokeFront, Flushed, Lists, ListsWhole, HasListed}
 
 -- the lines up to record number q, one after the other
 abbrev pub lines_up_to : Indexed → ℕ → List ℕ
@@ -211,3 +213,4 @@ pub record HasCome (a : Mounted) (old new : View) (q : ℕ) (piece : List ℕ) (
   pub long : length piece ≡ 4096
   pub steps : Steps old new (Lists a) (ListsTo a q (take len piece))
   pub disks : KeepsDisks old new
+  pub calls : CallsAtMost (q - a.index.first) old new

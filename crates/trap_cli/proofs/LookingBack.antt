@@ -1,6 +1,6 @@
 -- The line in which a session found a record damaged.
-use Rattle.std.proofs.Common.{◌≡◌, ℕ, List, [], ◌∷◌, Result, Err, refl, sym, subst, arith}
-use Rattle.std.specs.Prelude.{Contains, IfErr}
+use Rattle.std.proofs.Common.{◌≡◌, ℕ, List, [], ◌∷◌, Result, Err, IsTrue, refl, sym, ap, subst, arith}
+use Rattle.std.specs.Prelude.{Contains}
 use Rattle.std.proofs.lemmas.List.Elements.{Contains-append_left, Contains-append_right}
 use Rattle.trap_bank.specs.Disks.{View}
 use Rattle.trap_bank.specs.Stream.{Stream}
@@ -10,7 +10,7 @@ use Rattle.trap_array.specs.declared.fault.Denied.TheVariants as denied
 use Rattle.trap_session.specs.Exchange.{Exchange, IsSessionOver, AreLinesOf}
 use Rattle.trap_session.specs.Exchange.Exchange.{answers, quits, fails, input_ends, source_fails, too_long}
 use Rattle.trap_session.specs.Leaving.{HasRecordsMore}
-use Rattle.trap_session.specs.Store.{NamesBad}
+use Rattle.trap_session.specs.Store.{IsDamagedFor}
 use Rattle.trap_session.specs.declared.outcome.Ended.{Ended as Answered}
 use Rattle.trap_session.specs.declared.outcome.SessionFault.{SessionFault}
 use Rattle.trap_session.specs.declared.outcome.SessionFault.TheVariants as serving
@@ -18,11 +18,14 @@ use Rattle.trap_cli.specs.declared.outcome.Ended.TheVariants.{Stopped}
 use Rattle.trap_cli.specs.Said.{FindsBad}
 use Rattle.trap_cli.specs.Stopping.{IsLineOf}
 
+same_fault : {x y : SessionFault} → ◌≡◌ {A = Result Answered SessionFault} (Err x) (Err y) → x ≡ y
+same_fault is = cc is
+
 -- one of these lines names the record, by what the array knows at the end
 record FoundIn (asked : List Request) (b : Mounted) (offset : ℕ) (new : View) : Type 0 where
   line : Request
   among : Contains asked line
-  bad : NamesBad b line (serving.Array (denied.Damaged offset)) new
+  bad : IsTrue new.tells → IsDamagedFor b.g b.index line new.now.disks offset
 
 found_in : {B : Type 0} {view : B → View} {a b : Mounted} {first last : B} {asked : List Request} {result : Result Answered SessionFault}
     → Exchange view a first asked result b last → (offset : ℕ) → result ≡ Err (serving.Array (denied.Damaged offset)) → FoundIn asked b offset (view last)
@@ -33,7 +36,7 @@ found_in (quits a b first last goes) offset is = absurd (cc is)
 found_in {view = view} (fails a b first last line fault goes) offset is = record {
   line = line;
   among = (0, omega arith, refl);
-  bad = subst (λ (result : Result Answered SessionFault). IfErr result (λ fault. NamesBad b line fault (view last))) is goes.bad;
+  bad = goes.damaged offset (ap Err (same_fault is));
 }
 found_in (input_ends a bank) offset is = absurd (cc is)
 found_in (source_fails a bank) offset is = absurd (cc is)

@@ -13,31 +13,42 @@ use Rattle.trap_mount.specs.declared.fault.CreateFault.TheVariants as creating
 use Rattle.trap_mount.specs.declared.fault.MountFault.{MountFault}
 use Rattle.trap_mount.specs.declared.fault.MountFault.TheVariants as mounting
 use Rattle.trap_array.specs.declared.fault.Denied.TheVariants as denied
-use Rattle.trap_session.specs.Store.{IsBadFor}
+use Rattle.trap_session.specs.Store.{IsDamagedFor}
 use Rattle.trap_session.specs.declared.outcome.SessionFault.{SessionFault}
 use Rattle.trap_session.specs.declared.outcome.SessionFault.TheVariants as serving
 use Rattle.trap_cli.specs.declared.command.Command.{Command}
-use Rattle.trap_cli.specs.declared.command.Command.TheVariants.{Create, Session, History}
+use Rattle.trap_cli.specs.declared.command.Command.TheVariants.{Create, Session, History, Send, ReplicaCreate, ReplicaLoad, Apply, ReplicaExport}
 use Rattle.trap_cli.specs.declared.outcome.Ended.{Ended}
-use Rattle.trap_cli.specs.declared.outcome.Ended.TheVariants.{Done, Usage, BadGeometry, NotCreated, NotMounted, Stopped, Port, Memory}
+use Rattle.trap_cli.specs.declared.outcome.Ended.TheVariants.{Done, Usage, BadGeometry, NotCreated, NotMounted, NotRetained, Stopped, Port, Memory, Replica}
 use Rattle.trap_cli.specs.Command.{IsCommand}
 use Rattle.trap_cli.specs.Ended.{status_of, last_line, leaves_disks}
-use Rattle.trap_cli.specs.Cause.{WantsMemory, CauseOf, SessionCause, HistoryCause, CreateCause}
+use Rattle.trap_array.specs.Instants.{IsBadRecord}
+use Rattle.trap_array.specs.MountEnds.{MountCause}
+use Rattle.trap_cli.specs.Sending.{SendCause}
+use Rattle.trap_cli.specs.Cause.{CauseOf, SessionCause, HistoryCause, CreateCause}
 use Rattle.trap_cli.specs.Stopping.{StopCause}
 use Rattle.trap_cli.specs.Said.{SaidAndHeld}
 use Rattle.trap_cli.specs.Crash.{CommandLeaves, LeavesNow, LeavesWithFront}
-use Rattle.trap_cli.specs.Run.{CommandOutcome, EndsAs, ThenLastLine, SaysLast}
-use Rattle.trap_cli.specs.Listing.{index_text}
-use Rattle.trap_cli.specs.Session.{MountsOnly, SaysRecords}
+use Rattle.trap_cli.specs.Run.{CommandOutcome, EndsAs, ThenLastLine}
 use Rattle.trap_cli.specs.Frame.{MayChange, Frames, LeavesUnmounted, ChangesNothing, StaysHeld}
 use Rattle.trap_cli.proofs.Framing.{changes_none, changes_said, change_later, put_later}
 use Rattle.trap_cli.proofs.Heads.{held_same}
 use Rattle.trap_cli.proofs.Words.{one_command}
-use Rattle.trap_cli.proofs.Saying.{Spoken, nothing_more, last_since, run_leaves, took_none}
+use Rattle.trap_cli.proofs.Saying.{Spoken, last_since, run_leaves, took_none}
 use Rattle.trap_bank.proofs.Rising.{rose_later}
 use Rattle.trap_cli.proofs.Crashing.{no_front, mount_leaves}
 use Rattle.trap_cli.proofs.Creates.{entry_creates, new_sizes_later}
 use Rattle.trap_cli.proofs.Histories.{mount_lists}
+use Rattle.trap_cli.proofs.Sends.{mount_sends}
+use Rattle.trap_frame.specs.declared.found.FrameFault.TheVariants as framing
+use Rattle.trap_replica.specs.Exporting.{image_bytes}
+use Rattle.trap_replica.specs.declared.fault.ReplicaFault.{ReplicaFault}
+use Rattle.trap_replica.specs.declared.fault.ReplicaFault.TheVariants as replica
+use Rattle.trap_apply.specs.declared.outcome.ApplyFault.TheVariants as applying
+use Rattle.trap_remote.specs.declared.outcome.ReplicaEnd.TheVariants as remote
+use Rattle.trap_cli.specs.Faults.{replica_status}
+use Rattle.trap_cli.proofs.Replicas.{create_entry, load_entry, fault_alone}
+use Rattle.trap_cli.proofs.ReplicasLater.{create_later, load_later, apply_later, export_later}
 
 -- causes stay
 mount_later : (why : MountFault) (old mid new : View) → ((e : ℕ) → mid.faults e ≤ new.faults e) → MountFails why old mid → MountFails why old new
@@ -51,10 +62,15 @@ mount_later (mounting.MemberFault first second) old mid new later fails =
     (fails.0, fails.1, rose_later (old.faults (second + 1)) (mid.faults (second + 1)) (new.faults (second + 1)) fails.2 (later (second + 1)))
 mount_later mounting.OutOfMemory old mid new later fails = tt
 
-wants_later : (why : MountFault) (old mid new : View) → ((e : ℕ) → mid.faults e ≤ new.faults e) → WantsMemory why old mid → WantsMemory why old new
-wants_later why old mid new later wants g h s told by log members = wants g h s told by
-    (λ rose. log (rose_later (old.faults 0) (mid.faults 0) (new.faults 0) rose (later 0)))
-    (λ m inside rose. members m inside (rose_later (old.faults (m + 1)) (mid.faults (m + 1)) (new.faults (m + 1)) rose (later (m + 1))))
+cause_of_later : (why : MountFault) (old mid new : View) → ((e : ℕ) → mid.faults e ≤ new.faults e) → MountCause why old mid → MountCause why old new
+cause_of_later why old mid new later by = record {
+  refused = by.refused;
+  failed = mount_later why old mid new later by.failed;
+  shown = by.shown;
+  complete = λ g h s told held log members. by.complete g h s told held
+      (λ rose. log (rose_later (old.faults 0) (mid.faults 0) (new.faults 0) rose (later 0)))
+      (λ m inside rose. members m inside (rose_later (old.faults (m + 1)) (mid.faults (m + 1)) (new.faults (m + 1)) rose (later (m + 1))));
+}
 
 stopped_later : (why : SessionFault) (old mid new : View) (from to : Stream) → ((e : ℕ) → mid.faults e ≤ new.faults e)
     → mid.port_faults ≤ new.port_faults → (IsTrue old.tells → new.now.disks ≡ mid.now.disks)
@@ -82,7 +98,7 @@ stopped_later (serving.Array (denied.Damaged offset)) old mid new from to later 
         since = named.since;
         asked = named.asked;
         line = named.line;
-        bad = subst (λ (disks : Disks). IsBadFor named.g named.index named.asked disks offset) (sym (same told)) named.bad;
+        bad = subst (λ (disks : Disks). IsDamagedFor named.g named.index named.asked disks offset) (sym (same told)) named.bad;
       },
 )
 stopped_later (serving.Array denied.Stopped) old mid new from to later port same by = absurd by
@@ -94,35 +110,64 @@ cause_later : (command : Option Command) (ended : Ended) (old mid new : View) (f
     → ((e : ℕ) → mid.faults e ≤ new.faults e) → mid.port_faults ≤ new.port_faults → ((e : ℕ) → new.sizes e ≡ mid.sizes e) → (IsTrue old.tells → new.now.disks ≡ mid.now.disks)
     → CauseOf command ended old mid from to → CauseOf command ended old new from to
 cause_later None ended old mid new from to later port sizes same by = by
-cause_later (Some Session) Done old mid new from to later port sizes same by = by
-cause_later (Some Session) Usage old mid new from to later port sizes same by = by
-cause_later (Some Session) (BadGeometry field) old mid new from to later port sizes same by = by
-cause_later (Some Session) (NotCreated why) old mid new from to later port sizes same by = by
-cause_later (Some Session) (NotMounted why) old mid new from to later port sizes same by = (by.0, mount_later why old mid new later by.1, wants_later why old mid new later by.2, by.3)
+cause_later (Some Session) (NotMounted why) old mid new from to later port sizes same by = cause_of_later why old mid new later by
 cause_later (Some Session) (Stopped why) old mid new from to later port sizes same by = (by.0, stopped_later why old mid new from to later port same by.1)
-cause_later (Some Session) Port old mid new from to later port sizes same by = by
-cause_later (Some Session) Memory old mid new from to later port sizes same by = by
-cause_later (Some History) Done old mid new from to later port sizes same by = by
-cause_later (Some History) Usage old mid new from to later port sizes same by = by
-cause_later (Some History) (BadGeometry field) old mid new from to later port sizes same by = by
-cause_later (Some History) (NotCreated why) old mid new from to later port sizes same by = by
-cause_later (Some History) (NotMounted why) old mid new from to later port sizes same by = (by.0, mount_later why old mid new later by.1, wants_later why old mid new later by.2, by.3)
-cause_later (Some History) (Stopped why) old mid new from to later port sizes same by = by
+cause_later (Some Session) ended old mid new from to later port sizes same by = by
+cause_later (Some History) (NotMounted why) old mid new from to later port sizes same by = cause_of_later why old mid new later by
 cause_later (Some History) Port old mid new from to later port sizes same by = (by.0, rose_later old.port_faults mid.port_faults new.port_faults by.1 port)
-cause_later (Some History) Memory old mid new from to later port sizes same by = by
+cause_later (Some History) ended old mid new from to later port sizes same by = by
+cause_later (Some (Send seq)) (NotMounted why) old mid new from to later port sizes same by =
+    cause_of_later why old mid new later by
+cause_later (Some (Send seq)) (Stopped (serving.Array denied.LogFault)) old mid new from to later port sizes same by =
+    (by.0, rose_later (old.faults 0) (mid.faults 0) (new.faults 0) by.1 (later 0))
+cause_later (Some (Send seq)) (Stopped (serving.Array (denied.Damaged offset))) old mid new from to later port sizes same by = (
+  by.0,
+  by.1,
+  λ told.
+      let named = by.2 told in
+      record {
+        g = named.g;
+        head = named.head;
+        index = named.index;
+        found = named.found;
+        reads = named.reads;
+        entry = named.entry;
+        after = named.after;
+        bad = subst (λ (disks : Disks). IsBadRecord named.g named.index named.entry disks offset) (sym (same told)) named.bad;
+      },
+)
+cause_later (Some (Send seq)) Port old mid new from to later port sizes same by = (by.0, rose_later old.port_faults mid.port_faults new.port_faults by.1 port)
+cause_later (Some (Send seq)) ended old mid new from to later port sizes same by = by
+cause_later (Some (ReplicaCreate asked)) (Replica end) old mid new from to later port sizes same by = create_later old mid new later port sizes asked end by
+cause_later (Some (ReplicaCreate asked)) ended old mid new from to later port sizes same by = by
+cause_later (Some (ReplicaLoad asked start)) (Replica end) old mid new from to later port sizes same by = load_later old mid new later port sizes asked start end from to by
+cause_later (Some (ReplicaLoad asked start)) ended old mid new from to later port sizes same by = by
+cause_later (Some Apply) (Replica end) old mid new from to later port sizes same by = apply_later old mid new later port sizes end from to by
+cause_later (Some Apply) ended old mid new from to later port sizes same by = by
+cause_later (Some ReplicaExport) (Replica end) old mid new from to later port sizes same by = export_later old mid new later port sizes end by
+cause_later (Some ReplicaExport) ended old mid new from to later port sizes same by = by
 cause_later (Some (Create asked)) Done old mid new from to later port sizes same by = (by.0, new_sizes_later asked mid new sizes by.1)
-cause_later (Some (Create asked)) Usage old mid new from to later port sizes same by = by
-cause_later (Some (Create asked)) (BadGeometry field) old mid new from to later port sizes same by = by
 cause_later (Some (Create asked)) (NotCreated (creating.Exists disk)) old mid new from to later port sizes same by = by
 cause_later (Some (Create asked)) (NotCreated creating.LogFault) old mid new from to later port sizes same by =
     (by.0, by.1, rose_later (old.faults 0) (mid.faults 0) (new.faults 0) by.2 (later 0))
 cause_later (Some (Create asked)) (NotCreated (creating.MemberFault first second)) old mid new from to later port sizes same by =
     (by.0, by.1, (by.2.0, (by.2.1.0, rose_later (old.faults (second + 1)) (mid.faults (second + 1)) (new.faults (second + 1)) by.2.1.1 (later (second + 1))), sizes 0 ∙ by.2.2))
-cause_later (Some (Create asked)) (NotMounted why) old mid new from to later port sizes same by = by
-cause_later (Some (Create asked)) (Stopped why) old mid new from to later port sizes same by = by
 cause_later (Some (Create asked)) Port old mid new from to later port sizes same by =
     (by.0, rose_later old.port_faults mid.port_faults new.port_faults by.1 port, new_sizes_later asked mid new sizes by.2)
-cause_later (Some (Create asked)) Memory old mid new from to later port sizes same by = by
+cause_later (Some (Create asked)) ended old mid new from to later port sizes same by = by
+
+not_two_replica : (why : ReplicaFault) → replica_status why ≡ 2 → ⊥
+not_two_replica (replica.Exists disk) two = cc two
+not_two_replica replica.NotAReplica two = cc two
+not_two_replica (replica.Damaged offset) two = cc two
+not_two_replica replica.DiskFault two = cc two
+not_two_replica replica.ReadFault two = cc two
+not_two_replica (replica.ShortImage at) two = cc two
+not_two_replica (replica.LongImage at) two = cc two
+not_two_replica (replica.Stranger id) two = cc two
+not_two_replica (replica.NoBlock block) two = cc two
+not_two_replica replica.Stopped two = cc two
+not_two_replica replica.OutOfMemory two = cc two
 
 -- status 2 is that of one ending alone
 not_two : (ended : Ended) → (ended ≡ Usage → ⊥) → status_of ended ≡ 2 → ⊥
@@ -140,6 +185,7 @@ not_two (NotMounted (mounting.Damaged offset)) other two = cc two
 not_two (NotMounted mounting.LogFault) other two = cc two
 not_two (NotMounted (mounting.MemberFault first second)) other two = cc two
 not_two (NotMounted mounting.OutOfMemory) other two = cc two
+not_two (NotRetained why) other two = cc two
 not_two (Stopped (serving.Array (denied.Refused why))) other two = cc two
 not_two (Stopped (serving.Array denied.LogFault)) other two = cc two
 not_two (Stopped (serving.Array (denied.MemberFault first second))) other two = cc two
@@ -150,11 +196,28 @@ not_two (Stopped serving.WriteFault) other two = cc two
 not_two (Stopped serving.TooLong) other two = cc two
 not_two Port other two = cc two
 not_two Memory other two = cc two
+not_two (Replica remote.Done) other two = cc two
+not_two (Replica remote.Memory) other two = cc two
+not_two (Replica remote.Port) other two = cc two
+not_two (Replica (remote.BadGeometry field)) other two = cc two
+not_two (Replica (remote.NoReplica why)) other two = not_two_replica why two
+not_two (Replica (remote.NotMade why)) other two = not_two_replica why two
+not_two (Replica (remote.NotApplied (applying.Stream (framing.BadFrame at)))) other two = cc two
+not_two (Replica (remote.NotApplied (applying.Stream (framing.Cut at)))) other two = cc two
+not_two (Replica (remote.NotApplied (applying.Stream framing.ReadFault))) other two = cc two
+not_two (Replica (remote.NotApplied (applying.Stream framing.TooLong))) other two = cc two
+not_two (Replica (remote.NotApplied (applying.Replica why))) other two = not_two_replica why two
+not_two (Replica remote.NotExported) other two = cc two
 
 -- a command isn't refused as none
 no_usage : (command : Command) (ended : Ended) (old new : View) (from to : Stream) → CauseOf (Some command) ended old new from to → ended ≡ Usage → ⊥
 no_usage Session ended old new from to by is = subst (λ (ended : Ended). SessionCause ended old new from to) is by
 no_usage History ended old new from to by is = subst (λ (ended : Ended). HistoryCause ended old new) is by
+no_usage (Send seq) ended old new from to by is = subst (λ (ended : Ended). SendCause seq ended old new) is by
+no_usage (ReplicaCreate asked) ended old new from to by is = subst (λ (ended : Ended). CauseOf (Some (ReplicaCreate asked)) ended old new from to) is by
+no_usage (ReplicaLoad asked start) ended old new from to by is = subst (λ (ended : Ended). CauseOf (Some (ReplicaLoad asked start)) ended old new from to) is by
+no_usage Apply ended old new from to by is = subst (λ (ended : Ended). CauseOf (Some Apply) ended old new from to) is by
+no_usage ReplicaExport ended old new from to by is = subst (λ (ended : Ended). CauseOf (Some ReplicaExport) ended old new from to) is by
 no_usage (Create asked) ended old new from to by is = subst (λ (ended : Ended). CreateCause asked ended old new) is by
 
 pub usage_exact : (status : ℕ) (words : List (String Global)) (command : Option Command) (ended : Ended) (old new : View) (from to : Stream) → IsCommand command words
@@ -178,6 +241,23 @@ at_entry (Some History) a from lawful x was = λ g s told holds. record {
   part = [];
   said = sym (append-nil x.said);
   leaves = mount_lists g s a holds [] no_front x x was (inl refl);
+}
+at_entry (Some (Send seq)) a from lawful x was = λ g s told holds. record {
+  part = [];
+  said = sym (append-nil x.said);
+  leaves = mount_sends g s seq a holds [] no_front x x was (inl refl);
+}
+at_entry (Some (ReplicaCreate asked)) a from lawful x was = create_entry asked a lawful x was
+at_entry (Some (ReplicaLoad asked start)) a from lawful x was = λ input known. load_entry asked start input from a lawful x was
+at_entry (Some Apply) a from lawful x was = λ s number time image input told holds known. record {
+  part = [];
+  said = sym (append-nil x.said);
+  leaves = inl (no_front, was.torn.disks);
+}
+at_entry (Some ReplicaExport) a from lawful x was = λ s number time image told holds. record {
+  part = [];
+  said = sym (append-nil x.said);
+  leaves = (fault_alone (image_bytes image) [] no_front, was.torn.disks);
 }
 at_entry (Some (Create asked)) a from lawful x was = record {
   part = [];
@@ -224,34 +304,6 @@ nothing_said : (line : List ℕ) (a b c : View) → ChangesNothing a b → Spoke
 nothing_said line a b c stays spoken = record {
   sizes = λ e. spoken.sizes e ∙ stays.sizes e;
   changes = changes_said Same Same a b c line (λ x y same. same) stays.changes spoken.steps spoken.disks;
-}
-
--- what was said of the records stays so, since no line follows
-records_said : (ended : Ended) (text : List ℕ) (x : Contents) (b c : View) → SaysRecords ended text x b.now → SaysLast (last_line ended) b.now.said b c
-    → SaysRecords ended text x c.now
-records_said Done text x b c says last = nothing_more c.now.said b.now.said last.part last.rest last.whole last.said ∙ says
-records_said Usage text x b c says last = tt
-records_said (BadGeometry field) text x b c says last = tt
-records_said (NotCreated why) text x b c says last = tt
-records_said (NotMounted why) text x b c says last = tt
-records_said (Stopped why) text x b c says last = tt
-records_said Port text x b c says last = record {
-  part = says.part;
-  rest = says.rest;
-  whole = says.whole;
-  said = nothing_more c.now.said b.now.said last.part last.rest last.whole last.said ∙ says.said;
-}
-records_said Memory text x b c says last = tt
-
--- the array was mounted, and then the last line was said
-pub mounts_said : {B : Type 0} (view : B → View) (ended : Ended) (first mid last : B) → MountsOnly view ended first mid → (view mid).tells ≡ (view first).tells
-    → Spoken (last_line ended) (view mid) (view last) → MountsOnly view ended first last
-mounts_said view ended first mid last only tells spoken = record {
-  a = only.a;
-  mounted = only.mounted;
-  mounts = only.mounts;
-  stays = nothing_said (last_line ended) (view only.mounted) (view mid) (view last) only.stays spoken;
-  says = λ told. records_said ended (index_text only.a.index) (view only.mounted).now (view mid) (view last) (only.says told) (spoken.last (subst IsTrue (sym tells) told));
 }
 
 module _ (command : Option Command) (ended : Ended) (old mid new : View) (from to : Stream) (outcome : CommandOutcome command ended old mid from to)

@@ -13,36 +13,36 @@ use Rattle.trap_array.specs.Holding.{Holds, HoldsBy}
 use Rattle.trap_index.specs.Indexed.{Indexed}
 use Rattle.trap_raid.specs.Members.{Counts}
 use Rattle.trap_array.specs.Calls.{Mounted, StandsFor, IsReady, MemberFails}
-use Rattle.trap_array.specs.MountEnds.{KnowsDisks}
+use Rattle.trap_array.specs.MountEnds.{MountCause}
 use Rattle.trap_array.specs.Reading.{ReadsIndex}
-use Rattle.trap_array.specs.Mounting.{Mounts, Refuses, MountFails, FoundLost, MayPutHead, WritesHead, HasFound, IsNoLog, is_refusal}
+use Rattle.trap_array.specs.Mounting.{Mounts, FoundLost, MayPutHead, WritesHead, HasFound, IsNoLog, is_refusal}
 use Rattle.trap_array.proofs.Turns.{later_same}
 use Rattle.trap_mount.specs.declared.fault.MountFault.{MountFault}
 use Rattle.trap_mount.specs.declared.fault.MountFault.TheVariants.{NotAnArray, LogFault}
 use Rattle.trap_array.specs.declared.fault.Denied.TheVariants as denied
 use Rattle.trap_session.specs.declared.outcome.SessionFault.TheVariants as serving
 use Rattle.trap_session.specs.Changing.{DiffersIn, ChangesOnly}
-use Rattle.trap_session.specs.Store.{IsBadFor}
+use Rattle.trap_session.specs.Store.{IsDamagedFor}
 use Rattle.trap_session.specs.Serving.{Serves, StandsAtEnd, Took}
 use Rattle.trap_cli.proofs.Saying.{took_none}
 use Rattle.trap_bank.proofs.Rising.{rose_since}
 use Rattle.trap_cli.specs.declared.outcome.Ended.{Ended}
-use Rattle.trap_cli.specs.declared.outcome.Ended.TheVariants.{Done, Usage, BadGeometry, NotCreated, NotMounted, Stopped, Port, Memory}
+use Rattle.trap_cli.specs.declared.outcome.Ended.TheVariants.{Done, NotMounted, Stopped, Memory}
 use Rattle.trap_cli.specs.Command.{command_session}
 use Rattle.trap_cli.specs.Ended.{leaves_disks}
-use Rattle.trap_cli.specs.Cause.{SessionCause, WantsMemory, ShowsSizes}
-use Rattle.trap_cli.specs.Stopping.{MountPasses, MemberFaults, NamesRecord}
+use Rattle.trap_cli.specs.Cause.{SessionCause}
+use Rattle.trap_cli.specs.Mounting.{MountPasses}
+use Rattle.trap_cli.specs.Stopping.{MemberFaults, NamesRecord}
 use Rattle.trap_cli.specs.Said.{held_store, BeginsHeld, SessionSaid, ServedSaid, ServedCause, FindsBad}
 use Rattle.trap_cli.specs.Run.{CommandOutcome, reads_input, only_mounts, ends_silent}
-use Rattle.trap_cli.specs.Listing.{index_text}
-use Rattle.trap_cli.specs.Session.{MountsArray, MountsOnly, SaysRecords}
+use Rattle.trap_cli.specs.Session.{MountsArray, MountsOnly, CallsFound}
 use Rattle.trap_cli.specs.Frame.{MayChange, ChangesNothing, StaysHeld}
 use Rattle.trap_cli.proofs.Framing.{changes_wider, changes_none, changes_reads, no_log_fault, mount_changes, session_changes}
 use Rattle.trap_cli.proofs.Heads.{mounted_holds, held_mounted, keeps_found, keeps_like, found_out, mounting_moves}
 use Rattle.trap_cli.proofs.Stopping.{stops_held}
 use Rattle.trap_cli.proofs.Crashing.{unmounted_steps, session_steps}
 
-passes_found : (array : Mounted) (old mid : View) → HasFound array old mid → IsTrue old.tells → MountPasses array.g old.now.disks
+pub passes_found : (array : Mounted) (old mid : View) → HasFound array old mid → IsTrue old.tells → MountPasses array.g old.now.disks
 passes_found array old mid found told = let passed = found.passed told in record { h = passed.0; members = passed.1; own = passed.3 }
 
 -- the member that failed in a mounted session
@@ -70,13 +70,13 @@ member_faults array first second old mid new found later going ready sizes held 
         (λ none. let rows = by.counts (lost.still second is) in absurd (let zero = none.0 in omega (arith, zero, rows))) lost.mark
 
 -- what was read by the mounted head was read by the head on the disks
-reads_by : (g : Geometry) (h k : Head) (i : Indexed) (old : View) → k ≡ record h { lost = k.lost; rebuilt = k.rebuilt } → ReadsIndex g k i old → ReadsIndex g h i old
+pub reads_by : (g : Geometry) (h k : Head) (i : Indexed) (old : View) → k ≡ record h { lost = k.lost; rebuilt = k.rebuilt } → ReadsIndex g k i old → ReadsIndex g h i old
 reads_by g h k i old same reads =
     let by = subst (λ (x : Head). ReadsIndex g x i old) same reads in
     record { of = by.of; first = by.first; base_time = by.base_time; offset = by.offset; end = by.end; time = by.time; read = by.read }
 
 -- the record that is damaged
-names_record : (array : Mounted) (offset : ℕ) (old mid new : View) (from : Stream) → HasFound array old mid → KnowsDisks array old → new.tells ≡ old.tells
+names_record : (array : Mounted) (offset : ℕ) (old mid new : View) (from : Stream) → HasFound array old mid → ReadsIndex array.g array.head array.index old → new.tells ≡ old.tells
     → FindsBad array offset new from → IsTrue old.tells → NamesRecord offset old new from
 names_record array offset old mid new from found knows now bad told =
     let passed = found.passed told in
@@ -85,27 +85,23 @@ names_record array offset old mid new from found knows now bad told =
       head = passed.0;
       index = bad.b.index;
       found = passed.1.records.slots.head;
-      since = record { read = array.index; reads = reads_by array.g passed.0 array.head array.index old passed.2.same knows.index; more = bad.more };
+      since = record { read = array.index; reads = reads_by array.g passed.0 array.head array.index old passed.2.same knows; more = bad.more };
       asked = bad.asked;
       line = bad.line;
-      bad = subst (λ (g : Geometry). IsBadFor g bad.b.index bad.asked new.now.disks offset) bad.same (bad.bad (subst IsTrue (sym now) told));
+      bad = subst (λ (g : Geometry). IsDamagedFor g bad.b.index bad.asked new.now.disks offset) bad.same (bad.bad (subst IsTrue (sym now) told));
     }
 
 -- why a mounted session ended so is why the command did
 ended_cause : (array : Mounted) (ended : Ended) (old mid new : View) (from to : Stream)
     → ((e : ℕ) → old.faults e ≤ mid.faults e) → old.port_faults ≤ mid.port_faults
     → ((g : Geometry) (s : State) → IsTrue old.tells → Holds g s old.now.disks → (array.g ≡ g) × Always mid (StandsFor array s))
-    → mid.tells ≡ old.tells → HasFound array old mid → KnowsDisks array old → ((offset : ℕ) → ended ≡ Stopped (serving.Array (denied.Damaged offset)) → FindsBad array offset new from) → new.tells ≡ old.tells
+    → mid.tells ≡ old.tells → HasFound array old mid → ReadsIndex array.g array.head array.index old → ((offset : ℕ) → ended ≡ Stopped (serving.Array (denied.Damaged offset)) → FindsBad array offset new from) → new.tells ≡ old.tells
     → array.is_stopped ≡ false → IsReady array mid → ((e : ℕ) → mid.sizes e ≡ old.sizes e)
     → ((g : Geometry) (h : Head) (s : State) → IsTrue old.tells → HoldsBy g h s old.now.disks → (array.g ≡ g) × FoundLost g h array.head old mid)
     → ServedCause array ended mid new from to
     → SessionCause ended old new from to
 ended_cause array Done old mid new from to later port stands tells found knows bad now going ready sizes held by =
     (λ told. (array.g, passes_found array old mid found told), ⊎_elim (λ at_end. inl at_end) (λ took. inr (array.g, passes_found array old mid found, took)) by)
-ended_cause array Usage old mid new from to later port stands tells found knows bad now going ready sizes held by = absurd by
-ended_cause array (BadGeometry field) old mid new from to later port stands tells found knows bad now going ready sizes held by = absurd by
-ended_cause array (NotCreated why) old mid new from to later port stands tells found knows bad now going ready sizes held by = absurd by
-ended_cause array (NotMounted why) old mid new from to later port stands tells found knows bad now going ready sizes held by = absurd by
 ended_cause array (Stopped (serving.Array (denied.Refused why))) old mid new from to later port stands tells found knows bad now going ready sizes held by = absurd by
 ended_cause array (Stopped (serving.Array denied.LogFault)) old mid new from to later port stands tells found knows bad now going ready sizes held by =
     (λ told. (array.g, passes_found array old mid found told), rose_since (old.faults 0) (mid.faults 0) (new.faults 0) (later 0) by)
@@ -120,19 +116,15 @@ ended_cause array (Stopped serving.ReadFault) old mid new from to later port sta
 ended_cause array (Stopped serving.WriteFault) old mid new from to later port stands tells found knows bad now going ready sizes held by =
     (λ told. (array.g, passes_found array old mid found told), rose_since old.port_faults mid.port_faults new.port_faults port by)
 ended_cause array (Stopped serving.TooLong) old mid new from to later port stands tells found knows bad now going ready sizes held by = (λ told. (array.g, passes_found array old mid found told), by)
-ended_cause array Port old mid new from to later port stands tells found knows bad now going ready sizes held by = absurd by
 ended_cause array Memory old mid new from to later port stands tells found knows bad now going ready sizes held by = λ told. (array.g, passes_found array old mid found told)
+ended_cause array ended old mid new from to later port stands tells found knows bad now going ready sizes held by = absurd by
 
 -- and it isn't an end that leaves the disks
 not_left : (array : Mounted) (ended : Ended) (old new : View) (from to : Stream) → ServedCause array ended old new from to → leaves_disks ended ≡ true → ⊥
 not_left array Done old new from to by is = cc is
-not_left array Usage old new from to by is = absurd by
-not_left array (BadGeometry field) old new from to by is = absurd by
-not_left array (NotCreated why) old new from to by is = absurd by
-not_left array (NotMounted why) old new from to by is = absurd by
 not_left array (Stopped why) old new from to by is = cc is
-not_left array Port old new from to by is = absurd by
 not_left array Memory old new from to by is = cc is
+not_left array ended old new from to by is = absurd by
 
 -- and the array was mounted
 was_mounted : (array : Mounted) (ended : Ended) (why : MountFault) (old new : View) (from to : Stream) → ServedCause array ended old new from to
@@ -141,62 +133,49 @@ was_mounted array ended why old new from to by is = subst (λ (ended : Ended). S
 
 -- a session that mounts and reads no line has no memory
 without_memory : (ended : Ended) → only_mounts command_session ended ≡ true → ended ≡ Memory
-without_memory Done is = absurd (cc is)
-without_memory Usage is = absurd (cc is)
-without_memory (BadGeometry field) is = absurd (cc is)
-without_memory (NotCreated why) is = absurd (cc is)
-without_memory (NotMounted why) is = absurd (cc is)
-without_memory (Stopped why) is = absurd (cc is)
-without_memory Port is = absurd (cc is)
 without_memory Memory is = refl
+without_memory ended is = absurd (cc is)
 
 -- and after mounting it makes no call
 pub session_mounts : {B : Type 0} (view : B → View) (a : Mounted) (first mounted last : B) (ended : Ended) → MountsArray a (view first) (view mounted)
-    → (ended ≡ Memory → last ≡ mounted) → only_mounts command_session ended ≡ true → MountsOnly view ended first last
+    → (ended ≡ Memory → last ≡ mounted) → only_mounts command_session ended ≡ true → MountsOnly view command_session ended first last
 session_mounts view a first mounted last ended mounts idle is = record {
   a = a;
   mounted = mounted;
   mounts = mounts;
   stays = subst (λ (bank : _). ChangesNothing (view mounted) (view bank)) (sym (idle (without_memory ended is)))
       (record { sizes = λ e. refl; changes = changes_none (view mounted) });
-  says = λ told. subst (λ (ended : Ended). SaysRecords ended (index_text a.index) (view mounted).now (view last).now) (sym (without_memory ended is)) tt;
+  says = λ told. tt;
+  calls = subst (λ (ended : Ended). CallsFound view command_session a ended mounted last) (sym (without_memory ended is)) (idle (without_memory ended is));
 }
 
 -- the source is as it was where a session has no memory
 not_read : (array : Mounted) (ended : Ended) (old new : View) (from to : Stream) → ServedCause array ended old new from to → (ended ≡ Memory → to ≡ from)
     → reads_input command_session ended ≡ false → to ≡ from
 not_read array Done old new from to by memory is = absurd (cc is)
-not_read array Usage old new from to by memory is = absurd by
-not_read array (BadGeometry field) old new from to by memory is = absurd by
-not_read array (NotCreated why) old new from to by memory is = absurd by
-not_read array (NotMounted why) old new from to by memory is = absurd by
 not_read array (Stopped why) old new from to by memory is = absurd (cc is)
-not_read array Port old new from to by memory is = absurd by
 not_read array Memory old new from to by memory is = memory refl
+not_read array ended old new from to by memory is = absurd by
 
 -- and that is where a mounted session says nothing
 only_memory : (array : Mounted) (ended : Ended) (old new : View) (from to : Stream) → ServedCause array ended old new from to
     → ends_silent ended ≡ true → ended ≡ Memory
 only_memory array Done old new from to by is = absurd (cc is)
-only_memory array Usage old new from to by is = absurd by
-only_memory array (BadGeometry field) old new from to by is = absurd by
-only_memory array (NotCreated why) old new from to by is = absurd by
-only_memory array (NotMounted why) old new from to by is = absurd by
 only_memory array (Stopped why) old new from to by is = absurd (cc is)
-only_memory array Port old new from to by is = absurd by
 only_memory array Memory old new from to by is = refl
+only_memory array ended old new from to by is = absurd by
 
 module _ (a b : View) (from : Stream) (mounted : Moves a b (Mounts a b) (Mounts a b)) (sizes : (e : ℕ) → b.sizes e ≡ a.sizes e)
     (contents : IsTrue a.tells → Quiet (Mounts a b) a.now b.now)
     (writes : WritesHead a b)
     (lost : (g : Geometry) (h k : Head) (s t : State) → IsTrue a.tells → HoldsBy g h s a.now.disks → HoldsBy g k t b.now.disks → FoundLost g h k a b) where
   -- The array could not be mounted.
-  pub unmounted_outcome : (why : MountFault) → (IsNoLog (a.sizes 0) → why ≡ NotAnArray) → (IsTrue a.tells → Refuses a why) → MountFails why a b → WantsMemory why a b → ShowsSizes why a
+  pub unmounted_outcome : (why : MountFault) → (IsNoLog (a.sizes 0) → why ≡ NotAnArray) → MountCause why a b
       → ((why ≡ LogFault → ⊥) → OnlyReads a b)
       → ((g : Geometry) (s : State) → IsTrue a.tells → Holds g s a.now.disks → is_refusal why ≡ false)
       → CommandOutcome command_session (NotMounted why) a b from from
-  unmounted_outcome why no_log refuses fails wants shows unwritten held = record {
-    cause = (refuses, fails, wants, shows);
+  unmounted_outcome why no_log by unwritten held = record {
+    cause = by;
     first = λ none. ap NotMounted (no_log none);
     unchanged = λ is. record { sizes = sizes; changes = changes_reads a b (unwritten (no_log_fault why is)) };
     unmounted = λ other is. mount_changes a b writes;
@@ -221,7 +200,7 @@ module _ (a b : View) (from : Stream) (mounted : Moves a b (Mounts a b) (Mounts 
 
   module _ (c : View) (to : Stream) (array : Mounted) (ended : Ended)
       (stands : (g : Geometry) (s : State) → IsTrue a.tells → Holds g s a.now.disks → (array.g ≡ g) × Always b (StandsFor array s))
-      (found : HasFound array a b) (knows : KnowsDisks array a)
+      (found : HasFound array a b) (knows : ReadsIndex array.g array.head array.index a)
       (served : Steps b c (Serves array b from) (ServedSaid array b ended from to))
       (by : ServedCause array ended b c from to)
       (same_sizes : (e : ℕ) → c.sizes e ≡ b.sizes e)

@@ -11,13 +11,13 @@ use Rattle.trap_script.specs.Walk.{first_texts, all_texts}
 use Rattle.trap_array.specs.Holding.{Holds, HoldsBy}
 use Rattle.trap_array.specs.Calls.{Mounted, HoldsLike}
 use Rattle.trap_session.specs.declared.outcome.SessionFault.TheVariants as serving
-use Rattle.trap_session.specs.Store.{Store, array_store}
-use Rattle.trap_session.proofs.Arrays.{comes_also}
+use Rattle.trap_session.specs.Store.{Store, store_of, array_store}
+use Rattle.trap_session.proofs.Arrays.{torn_also}
 use Rattle.trap_session.specs.Serving.{StopsAfter, StopsTorn}
 use Rattle.trap_cli.specs.declared.outcome.Ended.{Ended}
-use Rattle.trap_cli.specs.declared.outcome.Ended.TheVariants.{Done, Usage, BadGeometry, NotCreated, NotMounted, Stopped, Port, Memory}
-use Rattle.trap_cli.specs.Said.{store_of, held_store, SessionSaid}
-use Rattle.trap_cli.specs.Crash.{WasOut, HoldsSince}
+use Rattle.trap_cli.specs.declared.outcome.Ended.TheVariants.{Done, NotMounted, Stopped, Memory}
+use Rattle.trap_cli.specs.Said.{held_store, SessionSaid}
+use Rattle.trap_cli.specs.Left.{WasOut, HoldsSince}
 
 module _ (g : Geometry) (has also : Disks → State → Type 0) (f : (disks : Disks) (t : State) → has disks t → also disks t)
     (s : State) (input : List ℕ) (x x' y : Contents) (same : x.said ≡ x'.said) where
@@ -45,11 +45,8 @@ module _ (g : Geometry) (has also : Disks → State → Type 0) (f : (disks : Di
     said = stops.said ∙ ap (λ (l : List ℕ). l ++ all_texts (step g) s (lines g.block input)) same;
     holds = f y.disks _ stops.holds;
   }
-  stops_by Usage from to stops = absurd stops
-  stops_by (BadGeometry field) from to stops = absurd stops
-  stops_by (NotCreated why) from to stops = absurd stops
   stops_by (NotMounted why) from to stops = (stops.0, after_by 0 stops.1)
-  stops_by (Stopped (serving.Array why)) from to stops = comes_also why (StopsTorn (store_of g has) s input x y) (StopsTorn (store_of g also) s input x' y) torn_by stops
+  stops_by (Stopped (serving.Array why)) from to stops = torn_also (store_of g has) (store_of g also) why s s input x x' y from to torn_by stops
   stops_by (Stopped serving.ReadFault) from to stops = after_by _ stops
   stops_by (Stopped serving.WriteFault) from to stops = record {
     part = stops.part;
@@ -59,8 +56,8 @@ module _ (g : Geometry) (has also : Disks → State → Type 0) (f : (disks : Di
     holds = ⊎_elim (λ holds. inl (f y.disks _ holds)) (λ holds. inr (f y.disks _ holds)) stops.holds;
   }
   stops_by (Stopped serving.TooLong) from to stops = after_by _ stops
-  stops_by Port from to stops = absurd stops
   stops_by Memory from to stops = after_by 0 stops
+  stops_by ended from to stops = absurd stops
 
 -- what a mounted array's session holds, the disks hold
 pub stops_held : (array : Mounted) (g : Geometry) (ended : Ended) (s : State) (input : List ℕ) (x x' y : Contents) (from to : Stream) → array.g ≡ g

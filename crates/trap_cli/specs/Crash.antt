@@ -1,59 +1,38 @@
 -- What a crash at any moment of a run leaves.
 use Rattle.std.specs.Prelude.{◌≡◌, ◌⊎◌, ℕ, ◌+◌, ◌<◌, List, ◌++◌, Option, Some, None, IsTrue}
-use Rattle.trap_bank.specs.Disks.{Contents, Disks, View, Differs}
+use Rattle.trap_bank.specs.Disks.{Contents, Disks, View}
 use Rattle.trap_bank.specs.Stream.{Stream}
 use Rattle.trap_model.specs.Given.{given}
 use Rattle.trap_model.specs.ArrayStep.{step}
 use Rattle.trap_model.specs.declared.asked.Asked.{Asked}
 use Rattle.trap_model.specs.declared.numbers.Geometry.{Geometry}
 use Rattle.trap_model.specs.declared.history.State.{State}
-use Rattle.trap_format.specs.declared.head.Head.{Head}
 use Rattle.trap_format.specs.Checked.{first_broken, HasNumbers}
 use Rattle.trap_format.specs.declared.limits.Field.{Field}
 use Rattle.trap_script.specs.Lines.{lines}
 use Rattle.trap_script.specs.Walk.{state_after, reply_texts}
-use Rattle.trap_array.specs.Holding.{Holds, HoldsBy}
+use Rattle.trap_array.specs.Holding.{Holds}
 use Rattle.trap_array.specs.Gone.{IsRemoved}
 use Rattle.trap_array.specs.Creating.{IsLowest, NoneIsThere, Creates, MembersFirst}
-use Rattle.trap_array.specs.Mounting.{SameHead}
-use Rattle.trap_cli.specs.Ended.{last_line, created_line}
+use Rattle.trap_send.specs.Sending.{sent_text}
+use Rattle.trap_replica.specs.Creating.{zero_blocks}
+use Rattle.trap_remote.specs.Applying.{OverImage}
+use Rattle.trap_remote.specs.Exporting.{OfImage}
+use Rattle.trap_cli.specs.ReplicaCrash.{MakingLeaves, LoadingLeaves, ApplyLeaves, ExportLeaves}
+use Rattle.trap_cli.specs.Ended.{created_line}
 use Rattle.trap_cli.specs.Creating.{HoldsNew}
 use Rattle.trap_cli.specs.History.{history_text}
+use Rattle.trap_cli.specs.Left.{IsFaultFront, IsOutputFront, LeftOnEntry, LeftBesideHead}
+use Rattle.trap_cli.specs.Left.{HoldsSince, LeftSaid}
 use Rattle.trap_cli.specs.Said.{BeginsHeld}
 use Rattle.trap_cli.specs.declared.command.Command.{Command}
-use Rattle.trap_cli.specs.declared.command.Command.TheVariants.{Create, Session, History}
-use Rattle.trap_cli.specs.declared.outcome.Ended.{Ended}
-
--- a first part of a fault line, the empty one included
-abbrev pub IsFaultFront : List ℕ → Type 0
-IsFaultFront p = (ended : Ended) × (rest : List ℕ) × (p ++ rest ≡ last_line ended)
-
--- a crash on entry might have left the disks
-abbrev pub LeftOnEntry : View → Disks → Type 0
-LeftOnEntry old disks = Differs old.unsynced old.now.disks disks
-
--- and so it might, but perhaps for the slot of the head's cell that isn't current; the cell has the
--- same value
-pub record LeftBesideHead (old : View) (disks : Disks) : Type 0 where
-  pub entry : Disks
-  pub left : LeftOnEntry old entry
-  pub same : (disks ≡ entry) ⊎ SameHead entry disks
+use Rattle.trap_cli.specs.declared.command.Command.TheVariants.{Create, Session, History, Send}
+use Rattle.trap_cli.specs.declared.command.Command.TheVariants.{ReplicaCreate, ReplicaLoad}
+use Rattle.trap_cli.specs.declared.command.Command.TheVariants.{Apply, ReplicaExport}
 
 -- how many replies of the input's lines these bytes begin with
 abbrev pub replies_given : Geometry → State → List ℕ → List ℕ → ℕ
 replies_given g s input p = given (reply_texts (step g) s (lines g.block input)) p
-
--- the member was out on entry: this head called it lost, or its disk was absent
-abbrev pub WasOut : Head → View → ℕ → Type 0
-WasOut h old m = (h.lost ≡ Some m) ⊎ (old.sizes (m + 1) ≡ None)
-
--- The disks hold the state by a head that calls no member lost but one that was out on entry: the
--- head by which the disks held a state then called it lost, or its disk was absent.
-pub record HoldsSince (g : Geometry) (old : View) (disks : Disks) (t : State) : Type 0 where
-  pub head : Head
-  pub by : HoldsBy g head t disks
-  pub lost : (h : Head) (s : State) → HoldsBy g h s old.now.disks
-      → (m : ℕ) → head.lost ≡ Some m → WasOut h old m
 
 -- so they hold the state after that many lines
 abbrev pub HoldsAfter : Geometry → State → View → List ℕ → ℕ → Disks → Type 0
@@ -81,6 +60,12 @@ HistoryLeaves g s old p disks =
     (IsFaultFront p × LeftBesideHead old disks)
     ⊎ ((IsFaultFront p ⊎ IsHistoryFront s p) × HoldsSince g old disks s)
 
+-- so it is with `send`, whose frames are those of the entries after the number
+abbrev pub SendLeaves : Geometry → State → ℕ → View → List ℕ → Disks → Type 0
+SendLeaves g s seq old p disks =
+    (IsFaultFront p × LeftBesideHead old disks)
+    ⊎ (IsOutputFront (sent_text g.id s seq) p × HoldsSince g old disks s)
+
 -- Where these bytes were said: no disk changed where a number breaks its limit, or a disk of the
 -- array was there. Otherwise disk 0 is no log, or the disks hold the new array, and disk 0 is as it
 -- was until each member's disk is new; they hold the array whole where the whole line was said.
@@ -93,12 +78,6 @@ pub record CreateLeaves (asked : Asked) (old : View) (p : List ℕ) (disks : Dis
       → p ≡ created_line asked.id ++ rest
       → HoldsNew g disks
 
--- Some bytes were said, where that many were said before, and the disks are as these bytes tell.
-pub record LeftSaid (Has : List ℕ → Disks → Type 0) (before : List ℕ) (c : Contents) : Type 0 where
-  pub part : List ℕ
-  pub said : c.said ≡ before ++ part
-  pub leaves : Has part c.disks
-
 -- a crash leaves this, where so much was said before the run; words that are no command change
 -- nothing
 abbrev pub CommandLeaves : Option Command → View → Stream → List ℕ → Contents → Type 0
@@ -108,7 +87,17 @@ CommandLeaves (Some Session) old from before c = (g : Geometry) (s : State) (inp
     → BeginsHeld g s input old from → LeftSaid (SessionLeaves g s input old) before c
 CommandLeaves (Some History) old from before c = (g : Geometry) (s : State)
     → IsTrue old.tells → Holds g s old.now.disks → LeftSaid (HistoryLeaves g s old) before c
+CommandLeaves (Some (Send seq)) old from before c = (g : Geometry) (s : State)
+    → IsTrue old.tells → Holds g s old.now.disks → LeftSaid (SendLeaves g s seq old) before c
 CommandLeaves (Some (Create asked)) old from before c = LeftSaid (CreateLeaves asked old) before c
+CommandLeaves (Some (ReplicaCreate asked)) old from before c =
+    LeftSaid (MakingLeaves asked 0 0 zero_blocks (created_line asked.id) old) before c
+CommandLeaves (Some (ReplicaLoad asked start)) old from before c = (input : List ℕ)
+    → from.left ≡ Some input → LeftSaid (LoadingLeaves asked start input old) before c
+CommandLeaves (Some Apply) old from before c =
+    OverImage (λ s r input. LeftSaid (ApplyLeaves s r input old) before c) old from
+CommandLeaves (Some ReplicaExport) old from before c =
+    OfImage (λ image. LeftSaid (ExportLeaves image old) before c) old
 
 -- a crash on entry left the first contents; now one leaves the others
 abbrev pub LeavesNow : Option Command → View → Stream → Contents → Contents → Type 0

@@ -12,8 +12,8 @@ use Rattle.trap_mount.specs.declared.fault.CreateFault.{CreateFault}
 use Rattle.trap_mount.specs.declared.fault.CreateFault.TheVariants as creating
 use Rattle.trap_cli.specs.Ended.{created_line}
 use Rattle.trap_cli.specs.declared.outcome.Ended.{Ended}
-use Rattle.trap_cli.specs.declared.outcome.Ended.TheVariants.{Done, Usage, BadGeometry, NotCreated}
-use Rattle.trap_cli.specs.declared.outcome.Ended.TheVariants.{NotMounted, Stopped, Port, Memory}
+use Rattle.trap_cli.specs.declared.outcome.Ended.TheVariants.{Done, BadGeometry, NotCreated}
+use Rattle.trap_cli.specs.declared.outcome.Ended.TheVariants.{Port}
 
 -- the disks hold the new array, whole: its head calls no member lost, and each member's disk is
 -- there
@@ -52,10 +52,7 @@ NotCreatedSaid asked (creating.MemberFault first second) old now = IsUnfinished 
 
 abbrev pub CreateSaid : Asked → Ended → Contents → Contents → Type 0
 CreateSaid asked Done old now = IsCreated asked old now
-CreateSaid asked Usage old now = ⊥
 CreateSaid asked (BadGeometry field) old now = now ≡ old
 CreateSaid asked (NotCreated why) old now = NotCreatedSaid asked why old now
-CreateSaid asked (NotMounted why) old now = ⊥
-CreateSaid asked (Stopped why) old now = ⊥
 CreateSaid asked Port old now = IsCreatedUnsaid asked old now
-CreateSaid asked Memory old now = ⊥
+CreateSaid asked ended old now = ⊥

@@ -1,7 +1,6 @@
 -- How a run ends: its status, and the last line that it says.
+pub use Rattle.trap_remote.specs.Ended.{created_line}
 use Rattle.std.specs.Prelude.{ℕ, ◌++◌, List, [], codes, decimal, Bool, true, false}
-use Rattle.trap_format.specs.declared.limits.Field.{Field}
-use Rattle.trap_format.specs.declared.limits.Field.TheVariants as field
 use Rattle.trap_mount.specs.declared.fault.CreateFault.{CreateFault}
 use Rattle.trap_mount.specs.declared.fault.CreateFault.TheVariants as creating
 use Rattle.trap_mount.specs.declared.fault.MountFault.{MountFault}
@@ -9,35 +8,17 @@ use Rattle.trap_mount.specs.declared.fault.MountFault.TheVariants as mounting
 use Rattle.trap_array.specs.declared.fault.Denied.TheVariants as denied
 use Rattle.trap_session.specs.declared.outcome.SessionFault.{SessionFault}
 use Rattle.trap_session.specs.declared.outcome.SessionFault.TheVariants as serving
+use Rattle.trap_cli.specs.Faults.{create_status, mount_status, session_status, field_name, pair}
+use Rattle.trap_cli.specs.Faults.{create_text, mount_text, unretained_text, fault_line}
+use Rattle.trap_cli.specs.Faults.{end_status, replica_text, apply_text}
+use Rattle.trap_remote.specs.Ended.{changes_no_disk}
+use Rattle.trap_remote.specs.declared.outcome.ReplicaEnd.{ReplicaEnd}
+use Rattle.trap_remote.specs.declared.outcome.ReplicaEnd.TheVariants as ending
 use Rattle.trap_cli.specs.declared.outcome.Ended.{Ended}
 use Rattle.trap_cli.specs.declared.outcome.Ended.TheVariants.{Done, Usage, BadGeometry, NotCreated}
-use Rattle.trap_cli.specs.declared.outcome.Ended.TheVariants.{NotMounted, Stopped, Port, Memory}
-
-abbrev pub create_status : CreateFault → ℕ
-create_status (creating.Exists disk) = 3
-create_status creating.LogFault = 6
-create_status (creating.MemberFault first second) = 7
-
-abbrev pub mount_status : MountFault → ℕ
-mount_status mounting.NotAnArray = 3
-mount_status (mounting.BadVersion version) = 3
-mount_status (mounting.WrongMember member) = 5
-mount_status (mounting.TooManyLost first second) = 5
-mount_status (mounting.Damaged offset) = 4
-mount_status mounting.LogFault = 6
-mount_status (mounting.MemberFault first second) = 7
-mount_status mounting.OutOfMemory = 10
-
--- a refusal and a stopped array end no session
-abbrev pub session_status : SessionFault → ℕ
-session_status (serving.Array (denied.Refused why)) = 6
-session_status (serving.Array denied.LogFault) = 6
-session_status (serving.Array (denied.MemberFault first second)) = 7
-session_status (serving.Array (denied.Damaged offset)) = 4
-session_status (serving.Array denied.Stopped) = 6
-session_status serving.ReadFault = 8
-session_status serving.WriteFault = 9
-session_status serving.TooLong = 12
+use Rattle.trap_cli.specs.declared.outcome.Ended.TheVariants.{NotMounted, NotRetained, Stopped}
+use Rattle.trap_cli.specs.declared.outcome.Ended.TheVariants.{Port}
+use Rattle.trap_cli.specs.declared.outcome.Ended.TheVariants.{Memory, Replica}
 
 abbrev pub status_of : Ended → ℕ
 status_of Done = 0
@@ -45,44 +26,11 @@ status_of Usage = 2
 status_of (BadGeometry field) = 3
 status_of (NotCreated why) = create_status why
 status_of (NotMounted why) = mount_status why
+status_of (NotRetained why) = 14
 status_of (Stopped why) = session_status why
 status_of Port = 9
 status_of Memory = 10
-
-abbrev pub field_name : Field → List ℕ
-field_name field.Members = codes "members"
-field_name field.Chunk = codes "chunk"
-field_name field.Block = codes "block"
-field_name field.Rows = codes "rows"
-field_name field.Volume = codes "volume"
-field_name field.Slots = codes "slots"
-field_name field.Gap = codes "gap"
-field_name field.Entries = codes "entries"
-field_name field.Ring = codes "ring"
-field_name field.Seq = codes "seq"
-
--- two numbers
-abbrev pub pair : ℕ → ℕ → List ℕ
-pair first second = decimal first ++ codes " " ++ decimal second
-
-abbrev pub create_text : CreateFault → List ℕ
-create_text (creating.Exists disk) = codes "exists " ++ decimal disk
-create_text creating.LogFault = codes "log"
-create_text (creating.MemberFault first second) = codes "members " ++ pair first second
-
-abbrev pub mount_text : MountFault → List ℕ
-mount_text mounting.NotAnArray = codes "not an array"
-mount_text (mounting.BadVersion version) = codes "version " ++ decimal version
-mount_text (mounting.WrongMember member) = codes "wrong member " ++ decimal member
-mount_text (mounting.TooManyLost first second) = codes "lost " ++ pair first second
-mount_text (mounting.Damaged offset) = codes "damaged " ++ decimal offset
-mount_text mounting.LogFault = codes "log"
-mount_text (mounting.MemberFault first second) = codes "members " ++ pair first second
-mount_text mounting.OutOfMemory = codes "memory"
-
--- the line of a fault with this text
-abbrev pub fault_line : List ℕ → List ℕ
-fault_line text = codes "fault " ++ text ++ codes "\n"
+status_of (Replica end) = end_status end
 
 abbrev pub session_line : SessionFault → List ℕ
 session_line (serving.Array (denied.Refused why)) = fault_line (codes "log")
@@ -96,6 +44,17 @@ session_line serving.ReadFault = fault_line (codes "input")
 session_line serving.WriteFault = []
 session_line serving.TooLong = fault_line (codes "too long")
 
+-- the last line of a replica's command
+abbrev pub end_line : ReplicaEnd → List ℕ
+end_line ending.Done = []
+end_line ending.Memory = fault_line (codes "memory")
+end_line ending.Port = []
+end_line (ending.BadGeometry field) = fault_line (codes "geometry " ++ field_name field)
+end_line (ending.NoReplica why) = fault_line (replica_text why)
+end_line (ending.NotMade why) = fault_line (replica_text why)
+end_line (ending.NotApplied why) = fault_line (apply_text why)
+end_line ending.NotExported = fault_line (codes "replica")
+
 -- the last line that is said; none where the command was done, or the port failed
 abbrev pub last_line : Ended → List ℕ
 last_line Done = []
@@ -103,13 +62,11 @@ last_line Usage = fault_line (codes "usage")
 last_line (BadGeometry field) = fault_line (codes "geometry " ++ field_name field)
 last_line (NotCreated why) = fault_line (create_text why)
 last_line (NotMounted why) = fault_line (mount_text why)
+last_line (NotRetained why) = fault_line (unretained_text why)
 last_line (Stopped why) = session_line why
 last_line Port = []
 last_line Memory = fault_line (codes "memory")
-
--- what `create` says where it made the array
-abbrev pub created_line : ℕ → List ℕ
-created_line id = codes "created " ++ decimal id ++ codes "\n"
+last_line (Replica end) = end_line end
 
 abbrev pub is_create_refusal : CreateFault → Bool
 is_create_refusal (creating.Exists disk) = true
@@ -118,22 +75,19 @@ is_create_refusal (creating.MemberFault first second) = false
 
 -- mounting that ended so wrote nothing: only a fault of disk 0 may leave a head half put
 abbrev pub leaves_log : MountFault → Bool
-leaves_log mounting.NotAnArray = true
-leaves_log (mounting.BadVersion version) = true
-leaves_log (mounting.WrongMember member) = true
-leaves_log (mounting.TooManyLost first second) = true
-leaves_log (mounting.Damaged offset) = true
 leaves_log mounting.LogFault = false
-leaves_log (mounting.MemberFault first second) = true
-leaves_log mounting.OutOfMemory = true
+leaves_log why = true
 
 -- no disk changed: the run was refused, or mounting failed and disk 0 didn't
 abbrev pub leaves_disks : Ended → Bool
-leaves_disks Done = false
 leaves_disks Usage = true
 leaves_disks (BadGeometry field) = true
 leaves_disks (NotCreated why) = is_create_refusal why
 leaves_disks (NotMounted why) = leaves_log why
-leaves_disks (Stopped why) = false
-leaves_disks Port = false
-leaves_disks Memory = false
+leaves_disks (Replica end) = changes_no_disk end
+leaves_disks ended = false
+
+-- so it is with a replica's command, which ends in no other way
+abbrev pub EndsReplica : (ReplicaEnd → Type 0) → Ended → Type 0
+EndsReplica has (Replica end) = has end
+EndsReplica has ended = ⊥

@@ -1,8 +1,8 @@
 -- What a run changes on the disks, and what it leaves as it was.
-use Rattle.std.specs.Prelude.{◌≡◌, ◌⊎◌, ℕ, ◌+◌, ◌<◌, Option, Some, None, IsTrue}
+pub use Rattle.trap_remote.specs.Found.{ByDisks, ChangesBy, ChangesNothing}
+use Rattle.std.specs.Prelude.{◌≡◌, ◌≢◌, ◌⊎◌, ℕ, ◌+◌, ◌<◌, Option, Some, None, IsTrue}
 use Rattle.trap_bank.specs.Faults.{Rose}
-use Rattle.trap_bank.specs.Disks.{Contents, Disks, View, Differs}
-use Rattle.trap_bank.specs.Steps.{Steps, Same}
+use Rattle.trap_bank.specs.Disks.{Disks, View, Differs}
 use Rattle.trap_model.specs.declared.asked.Asked.{Asked}
 use Rattle.trap_model.specs.declared.numbers.Geometry.{Geometry}
 use Rattle.trap_model.specs.declared.history.State.{State}
@@ -15,20 +15,13 @@ use Rattle.trap_mount.specs.CreateEnds.{StaysBeyond}
 use Rattle.trap_array.specs.Holding.{HoldsBy}
 use Rattle.trap_array.specs.Mounting.{HasFound, MayPutHead}
 use Rattle.trap_mount.specs.declared.fault.MountFault.{MountFault}
+use Rattle.trap_replica.specs.Applying.{Elsewhere}
 use Rattle.trap_cli.specs.declared.command.Command.{Command}
-use Rattle.trap_cli.specs.declared.command.Command.TheVariants.{Create, Session, History}
+use Rattle.trap_cli.specs.declared.command.Command.TheVariants.{Create, Session, History, Send}
+use Rattle.trap_cli.specs.declared.command.Command.TheVariants.{ReplicaCreate, ReplicaLoad}
+use Rattle.trap_cli.specs.declared.command.Command.TheVariants.{Apply, ReplicaExport}
 use Rattle.trap_cli.specs.declared.outcome.Ended.{Ended}
 use Rattle.trap_cli.specs.declared.outcome.Ended.TheVariants.{NotMounted}
-
--- by this step of the disks, whatever was said
-abbrev pub ByDisks : (Disks → Disks → Type 0) → Contents → Contents → Type 0
-ByDisks step old new = step old.disks new.disks
-
--- The disks changed by this step alone: as a read gives them, and as a crash at any moment leaves
--- them.
-pub record ChangesBy (step : Disks → Disks → Type 0) (old new : View) : Type 0 where
-  pub now : IsTrue old.tells → step old.now.disks new.now.disks
-  pub any_moment : Steps old new (ByDisks step) (ByDisks step)
 
 -- no byte differs but those that calls of the array may touch that mounting found
 abbrev pub InMounted : View → View → Disks → Disks → Type 0
@@ -39,19 +32,30 @@ abbrev pub InAsked : Asked → Disks → Disks → Type 0
 InAsked asked old new =
     (new ≡ old) ⊎ ((g : Geometry) × HasNumbers g asked × StaysBeyond g old new)
 
--- What a command changes, whatever the disks hold. Mounting puts a head, or nothing; a history
--- changes no more.
+-- What a command changes, whatever the disks hold. Mounting puts a head, or nothing; a history and
+-- `send` change no more. A replica's command changes disk 17 alone, its export nothing.
 abbrev pub MayChange : Option Command → View → View → Disks → Disks → Type 0
 MayChange None v w old new = new ≡ old
 MayChange (Some Session) v w old new = MayPutHead v w old new ⊎ InMounted v w old new
 MayChange (Some History) v w old new = MayPutHead v w old new
+MayChange (Some (Send seq)) v w old new = MayPutHead v w old new
 MayChange (Some (Create asked)) v w old new = InAsked asked old new
+MayChange (Some (ReplicaCreate asked)) v w old new = Elsewhere old new
+MayChange (Some (ReplicaLoad asked start)) v w old new = Elsewhere old new
+MayChange (Some Apply) v w old new = Elsewhere old new
+MayChange (Some ReplicaExport) v w old new = new ≡ old
 
--- the command makes no such disk: `create` those of the array asked for, the others none
+-- the command makes no such disk: `create` those of the array asked for, `replica-create` and
+-- `replica-load` disk 17, the others none
 abbrev pub MakesNone : Option Command → ℕ → Type 0
 MakesNone None e = Unit {0}
 MakesNone (Some Session) e = Unit {0}
 MakesNone (Some History) e = Unit {0}
+MakesNone (Some (Send seq)) e = Unit {0}
+MakesNone (Some (ReplicaCreate asked)) e = e ≢ 17
+MakesNone (Some (ReplicaLoad asked start)) e = e ≢ 17
+MakesNone (Some Apply) e = Unit {0}
+MakesNone (Some ReplicaExport) e = Unit {0}
 MakesNone (Some (Create asked)) e = (g : Geometry) → HasNumbers g asked → g.members < e
 
 -- Nothing changes but what the command may change, at the end and at any moment, whatever the disks
@@ -64,11 +68,6 @@ pub record Frames (command : Option Command) (old new : View) : Type 0 where
 abbrev pub LeavesUnmounted : Ended → View → View → Type 0
 LeavesUnmounted ended old new =
     (why : MountFault) → ended ≡ NotMounted why → ChangesBy (MayPutHead old new) old new
-
--- no disk changed, at the end or at any moment
-pub record ChangesNothing (old new : View) : Type 0 where
-  pub sizes : (e : ℕ) → new.sizes e ≡ old.sizes e
-  pub changes : ChangesBy Same old new
 
 -- A member is recorded lost only where it was so on entry, or its disk was absent. The mark of one
 -- that was lost is smaller only where the count of its disk rose, or its disk was absent or not its

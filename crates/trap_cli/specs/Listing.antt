@@ -1,7 +1,7 @@
 -- How the lines of a mounted array's entries are said, piece after piece.
-use Rattle.std.specs.Prelude.{◌≡◌, ℕ, ◌+◌, List, [], ◌∷◌, ◌++◌, take, flat_map, IsTrue, Result, Ok}
+use Rattle.std.specs.Prelude.{◌≡◌, ℕ, ◌+◌, List, [], ◌∷◌, ◌++◌, take, flat_map, Result, Ok}
 use Rattle.std.specs.Prelude.{Err}
-use Rattle.trap_bank.specs.Disks.{Contents, View}
+use Rattle.trap_bank.specs.Disks.{Contents}
 use Rattle.trap_bank.specs.Calls.{SaysPart}
 use Rattle.trap_bank.specs.Steps.{SpokePart}
 use Rattle.trap_index.specs.Indexed.{Indexed, rec_len}
@@ -28,11 +28,6 @@ record_lines q (r ∷ later) = record_line (q + 1) r ∷ record_lines (q + 1) la
 -- the lines of an index's records, one after the other
 abbrev pub index_text : Indexed → List ℕ
 index_text i = flat_map (λ line. line) (record_lines i.first i.recs)
-
--- no disk changed
-pub record KeepsDisks (old new : View) : Type 0 where
-  pub sizes : (e : ℕ) → new.sizes e ≡ old.sizes e
-  pub disks : IsTrue old.tells → new.now.disks ≡ old.now.disks
 
 -- some front of the piece's first bytes was said, and the rest of them is the piece's first `at`
 pub record SpokeFront (piece : List ℕ) (len at : ℕ) (old new : Contents) : Type 0 where

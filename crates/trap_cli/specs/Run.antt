@@ -1,5 +1,7 @@
 -- What a run says and leaves.
-use Rattle.std.specs.Prelude.{◌≡◌, ◌⊎◌, ℕ, ◌++◌, List, [], Option, Some, None, IsTrue, Bool, true}
+pub use Rattle.trap_cli.specs.Reached.{reads_input, only_mounts, takes_input, ends_silent}
+pub use Rattle.trap_cli.specs.Reached.{IsUncalled}
+use Rattle.std.specs.Prelude.{◌≡◌, ◌⊎◌, ℕ, ◌++◌, List, [], Option, Some, None, IsTrue, true}
 use Rattle.std.specs.Prelude.{false}
 use Rattle.trap_bank.specs.Faults.{Rose}
 use Rattle.trap_bank.specs.Disks.{View}
@@ -13,17 +15,21 @@ use Rattle.trap_array.specs.Mounting.{IsNoLog}
 use Rattle.trap_mount.specs.declared.fault.CreateFault.TheVariants.{Exists}
 use Rattle.trap_mount.specs.declared.fault.MountFault.TheVariants.{NotAnArray}
 use Rattle.trap_session.specs.Serving.{Took}
-use Rattle.trap_cli.specs.Ended.{status_of, last_line, leaves_disks}
-use Rattle.trap_cli.specs.Session.{SaysInOne, GoesByLines, MountsOnly}
+use Rattle.trap_remote.specs.Making.{MakeFirst}
+use Rattle.trap_remote.specs.Found.{MountFirst}
+use Rattle.trap_cli.specs.ReplicaRuns.{GoesByReplica}
+use Rattle.trap_cli.specs.Ended.{status_of, last_line, leaves_disks, EndsReplica}
+use Rattle.trap_cli.specs.Session.{SaysInOne, GoesByLines, GoesByMounting}
 use Rattle.trap_cli.specs.Frame.{Frames, LeavesUnmounted, ChangesNothing, StaysHeld}
 use Rattle.trap_cli.specs.Cause.{CauseOf}
 use Rattle.trap_cli.specs.Said.{SaidAndHeld}
 use Rattle.trap_cli.specs.Crash.{LeavesNow, LeavesWithFront}
 use Rattle.trap_cli.specs.declared.command.Command.{Command}
-use Rattle.trap_cli.specs.declared.command.Command.TheVariants.{Create, Session, History}
+use Rattle.trap_cli.specs.declared.command.Command.TheVariants.{Create, Session, History, Send}
+use Rattle.trap_cli.specs.declared.command.Command.TheVariants.{ReplicaCreate, ReplicaLoad}
+use Rattle.trap_cli.specs.declared.command.Command.TheVariants.{Apply, ReplicaExport}
 use Rattle.trap_cli.specs.declared.outcome.Ended.{Ended}
-use Rattle.trap_cli.specs.declared.outcome.Ended.TheVariants.{Done, Usage, BadGeometry, NotCreated}
-use Rattle.trap_cli.specs.declared.outcome.Ended.TheVariants.{NotMounted, Stopped, Port, Memory}
+use Rattle.trap_cli.specs.declared.outcome.Ended.TheVariants.{BadGeometry, NotCreated, NotMounted}
 
 -- those bytes were said, and then the line; or a first part of it, where the port failed
 pub record SaysLast (line before : List ℕ) (old new : View) : Type 0 where
@@ -33,61 +39,23 @@ pub record SaysLast (line before : List ℕ) (old new : View) : Type 0 where
   pub said : new.now.said ≡ before ++ part
   pub port : (rest ≡ []) ⊎ Rose old.port_faults new.port_faults
 
--- The source is read only by a session, and only when its array is mounted and its memory taken.
-abbrev pub reads_input : Option Command → Ended → Bool
-reads_input None ended = false
-reads_input (Some History) ended = false
-reads_input (Some (Create asked)) ended = false
-reads_input (Some Session) Done = true
-reads_input (Some Session) Usage = false
-reads_input (Some Session) (BadGeometry field) = false
-reads_input (Some Session) (NotCreated why) = false
-reads_input (Some Session) (NotMounted why) = false
-reads_input (Some Session) (Stopped why) = true
-reads_input (Some Session) Port = false
-reads_input (Some Session) Memory = false
-
--- the array was mounted and no line of the input was read: `history`, and a session without memory
-abbrev pub only_mounts : Option Command → Ended → Bool
-only_mounts None ended = false
-only_mounts (Some (Create asked)) ended = false
-only_mounts (Some Session) Done = false
-only_mounts (Some Session) Usage = false
-only_mounts (Some Session) (BadGeometry field) = false
-only_mounts (Some Session) (NotCreated why) = false
-only_mounts (Some Session) (NotMounted why) = false
-only_mounts (Some Session) (Stopped why) = false
-only_mounts (Some Session) Port = false
-only_mounts (Some Session) Memory = true
-only_mounts (Some History) Done = true
-only_mounts (Some History) Usage = false
-only_mounts (Some History) (BadGeometry field) = false
-only_mounts (Some History) (NotCreated why) = false
-only_mounts (Some History) (NotMounted why) = false
-only_mounts (Some History) (Stopped why) = false
-only_mounts (Some History) Port = true
-only_mounts (Some History) Memory = false
-
--- the command ended before it said anything
-abbrev pub ends_silent : Ended → Bool
-ends_silent Done = false
-ends_silent Usage = true
-ends_silent (BadGeometry field) = true
-ends_silent (NotCreated why) = true
-ends_silent (NotMounted why) = true
-ends_silent (Stopped why) = false
-ends_silent Port = false
-ends_silent Memory = true
-
 -- the refusals that are decided by what was asked and by sizes alone
 abbrev pub IsRefusedFirst : Option Command → Ended → View → Type 0
 IsRefusedFirst None ended old = Unit {0}
 IsRefusedFirst (Some Session) ended old = IsNoLog (old.sizes 0) → ended ≡ NotMounted NotAnArray
 IsRefusedFirst (Some History) ended old = IsNoLog (old.sizes 0) → ended ≡ NotMounted NotAnArray
+IsRefusedFirst (Some (Send seq)) ended old =
+    IsNoLog (old.sizes 0) → ended ≡ NotMounted NotAnArray
 IsRefusedFirst (Some (Create asked)) ended old =
     ((field : Field) → first_broken asked ≡ Some field → ended ≡ BadGeometry field)
     × ((g : Geometry) (d : ℕ) → first_broken asked ≡ None → HasNumbers g asked → IsLowest g old d
     → ended ≡ NotCreated (Exists d))
+IsRefusedFirst (Some (ReplicaCreate asked)) ended old =
+    EndsReplica (λ end. MakeFirst asked 0 end old) ended
+IsRefusedFirst (Some (ReplicaLoad asked start)) ended old =
+    EndsReplica (λ end. MakeFirst asked start.seq end old) ended
+IsRefusedFirst (Some Apply) ended old = EndsReplica (λ end. MountFirst end old) ended
+IsRefusedFirst (Some ReplicaExport) ended old = EndsReplica (λ end. MountFirst end old) ended
 
 -- A command ended so; its last line isn't said yet.
 pub record CommandOutcome (command : Option Command) (ended : Ended) (old new : View)
@@ -98,7 +66,7 @@ pub record CommandOutcome (command : Option Command) (ended : Ended) (old new : 
   pub unmounted : LeavesUnmounted ended old new
   pub frame : Frames command old new
   pub stops : SaidAndHeld command ended old new.now from to
-  pub unread : reads_input command ended ≡ false → to ≡ from
+  pub unread : takes_input command ended ≡ false → to ≡ from
   pub took : Took from to
   pub silent : ends_silent ended ≡ true → IsTrue old.tells → new.now.said ≡ old.now.said
   pub held : StaysHeld old new
@@ -121,26 +89,29 @@ pub record EndsAs (status : ℕ) (command : Option Command) (ended : Ended) (old
   pub first : IsRefusedFirst command ended old
   pub unchanged : leaves_disks ended ≡ true → ChangesNothing old new
   pub unmounted : LeavesUnmounted ended old new
-  pub unread : reads_input command ended ≡ false → to ≡ from
+  pub unread : takes_input command ended ≡ false → to ≡ from
   pub took : Took from to
   pub silent : ends_silent ended ≡ true → IsTrue old.tells
       → SaysLast (last_line ended) old.now.said old new
   pub told : IsTrue old.tells → ThenLastLine command ended old new from to
 
 -- The command ended so, and then its last line was said in one call, or in none where it is empty.
+-- Where all was decided before the bank was called, that was the only call.
 pub record ThenSays {B : Type 0} (view : B → View) (command : Option Command) (ended : Ended)
     (first last : B) (from to : Stream) : Type 0 where
   pub done : B
   pub outcome : CommandOutcome command ended (view first) (view done) from to
+  pub untouched : IsUncalled command ended (view first) → done ≡ first
   pub said : SaysInOne view (last_line ended) done last
 
 -- A run of the command ended in one of the ways. Where the input was read, its lines were answered
 -- one after another, each reply in one call of the bank. Where the array was mounted and no line
--- was read, no disk changed after mounting.
+-- was read, no disk changed after mounting, and the last line was said in one call.
 pub record RunOutcome {B : Type 0} (view : B → View) (status : ℕ) (command : Option Command)
     (first last : B) (from to : Stream) : Type 0 where
   pub ended : Ended
   pub ends : EndsAs status command ended (view first) (view last) from to
   pub lines : reads_input command ended ≡ true → GoesByLines view ended first last from to
-  pub mounted : only_mounts command ended ≡ true → MountsOnly view ended first last
+  pub mounted : only_mounts command ended ≡ true → GoesByMounting view command ended first last
+  pub replica : GoesByReplica view command ended first last from to
   pub says : ThenSays view command ended first last from to

@@ -2,22 +2,23 @@
 use Rattle.std.specs.Prelude.{◌≡◌, ◌⊎◌, ℕ, ◌+◌, ◌^◌, ◌<◌, List, Contains, Some, None, IsTrue, true}
 use Rattle.std.specs.Prelude.{false}
 use Rattle.trap_bank.specs.Faults.{Rose}
-use Rattle.trap_bank.specs.Disks.{Disks, View}
+use Rattle.trap_bank.specs.Disks.{View}
 use Rattle.trap_bank.specs.Stream.{Stream}
 use Rattle.trap_model.specs.declared.numbers.Geometry.{Geometry}
 use Rattle.trap_model.specs.declared.history.State.{State}
 use Rattle.trap_model.specs.declared.request.Request.{Request}
 use Rattle.trap_format.specs.declared.head.Head.{Head}
 use Rattle.trap_index.specs.Indexed.{Indexed}
-use Rattle.trap_raid.specs.Members.{IsMember, IsOut, Counts}
-use Rattle.trap_array.specs.Holding.{Holds, HoldsBy}
+use Rattle.trap_raid.specs.Members.{Counts}
+use Rattle.trap_array.specs.Holding.{HoldsBy}
 use Rattle.trap_array.specs.Reading.{ReadsIndex}
 use Rattle.trap_array.specs.Mounting.{HasHead, HasMembers}
+use Rattle.trap_cli.specs.Mounting.{MountPasses, HeldNone}
 use Rattle.trap_array.specs.declared.fault.Denied.TheVariants as denied
 use Rattle.trap_script.specs.Lines.{lines}
 use Rattle.trap_session.specs.Leaving.{HasRecordsMore}
 use Rattle.trap_session.specs.Serving.{TookQuit}
-use Rattle.trap_session.specs.Store.{IsBadFor}
+use Rattle.trap_session.specs.Store.{IsDamagedFor}
 use Rattle.trap_session.specs.declared.outcome.SessionFault.{SessionFault}
 use Rattle.trap_session.specs.declared.outcome.SessionFault.TheVariants as serving
 
@@ -56,26 +57,12 @@ pub record NamesRecord (offset : ℕ) (old new : View) (from : Stream) : Type 0 
   pub since : IndexSince g head index old
   pub asked : Request
   pub line : IsLineOf g.block from asked
-  pub bad : IsBadFor g index asked new.now.disks offset
-
--- every step of mounting an array of these numbers passes: nothing on the disks is refused
-pub record MountPasses (g : Geometry) (disks : Disks) : Type 0 where
-  pub h : Head
-  pub members : HasMembers g h disks
-  pub own : (m : ℕ) → m < g.members → (IsOut h.lost disks m → ⊥) → IsMember g disks m
-
--- where the bank tells, the disks are those of an array
-abbrev pub IsMountable : View → Type 0
-IsMountable old = IsTrue old.tells → (g : Geometry) × MountPasses g old.now.disks
+  pub bad : IsDamagedFor g index asked new.now.disks offset
 
 -- the source came to its end, or a `Q` was taken, a line of the array that is mounted
 abbrev pub TookAll : View → Stream → Stream → Type 0
 TookAll old from to = (to.ended ≡ true)
     ⊎ ((g : Geometry) × (IsTrue old.tells → MountPasses g old.now.disks) × TookQuit g.block from to)
-
--- where the bank tells, the disks held no state on entry
-abbrev pub HeldNone : View → Type 0
-HeldNone old = IsTrue old.tells → (g : Geometry) (s : State) → Holds g s old.now.disks → ⊥
 
 -- Why a session stopped so. A refusal and a stopped array end none. A record that was read again is
 -- damaged only where the disks held no state.

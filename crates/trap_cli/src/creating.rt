@@ -1,12 +1,12 @@
 //! The command `create`.
 
-ghost use Rattle.std.specs.Prelude.{◌≡◌, None};
+ghost use Rattle.std.specs.Prelude.{◌≡◌, None, true};
 ghost use Rattle.trap_bank.specs.Stream.{Stream};
 ghost use Rattle.trap_bank.specs.Calls.{Says};
 ghost use Rattle.trap_model.specs.declared.asked.Asked.{Asked};
 ghost use Rattle.trap_format.specs.Checked.{first_broken, HasNumbers};
 ghost use Rattle.trap_cli.specs.Command.{command_create};
-ghost use Rattle.trap_cli.specs.Ended.{created_line};
+ghost use Rattle.trap_cli.specs.Ended.{created_line, leaves_disks};
 ghost use Rattle.trap_cli.specs.Run.{CommandOutcome};
 
 use crate::last::write_created;
@@ -20,6 +20,7 @@ use trap_model::{Asked, Geometry};
 pub fn run_create<B: Bank>(bank: &mut B, asked: &Asked) -> Ended
     ensures outcome { (from : Stream) → CommandOutcome (command_create asked.now) result
         (B.view bank.old) (B.view bank.new) from from }
+    ensures untouched { leaves_disks result ≡ true → bank.new ≡ bank.old }
 {
     match check(asked) {
         Ok(g) => make_array(bank, &g),
@@ -33,6 +34,7 @@ fn make_array<B: Bank>(bank: &mut B, g: &Geometry) -> Ended
     ensures outcome { (asked : Asked) (from : Stream) → first_broken asked ≡ None
         → HasNumbers g.now asked → CommandOutcome (command_create asked) result
         (B.view bank.old) (B.view bank.new) from from }
+    ensures untouched { leaves_disks result ≡ true → bank.new ≡ bank.old }
 {
     if let Err(why) = create(bank, g) {
         return Ended::NotCreated(why);

@@ -1,13 +1,16 @@
 //! The command `history`.
 
-ghost use Rattle.std.specs.Prelude.{◌≡◌, ◌+◌, ◌≤◌, ◌++◌, length, take, true, IfOk, OnErr};
+ghost use Rattle.std.specs.Prelude.{◌≡◌, ◌+◌, ◌-◌, ◌≤◌, ◌++◌, length, take, true, IfOk, OnErr};
 ghost use Rattle.trap_bank.specs.Faults.{Rose};
 ghost use Rattle.trap_bank.specs.Steps.{Steps, SpokePart};
 ghost use Rattle.trap_bank.specs.Stream.{Stream};
+ghost use Rattle.trap_array.specs.Mounting.{IsNoLog};
+ghost use Rattle.trap_array.specs.Sources.{CallsAtMost};
 ghost use Rattle.trap_index.specs.Indexed.{last_seq};
 ghost use Rattle.trap_cli.specs.Command.{command_history};
 ghost use Rattle.trap_cli.specs.History.{word, mark};
-ghost use Rattle.trap_cli.specs.Listing.{item_line, KeepsDisks, Flushed, Lists, HasListed};
+ghost use Rattle.trap_port.specs.Outgoing.{KeepsDisks};
+ghost use Rattle.trap_cli.specs.Listing.{item_line, Flushed, Lists, HasListed};
 ghost use Rattle.trap_cli.specs.Session.{MountsOnly};
 ghost use Rattle.trap_cli.specs.Run.{CommandOutcome, only_mounts};
 
@@ -30,7 +33,8 @@ pub fn run_history<B: Bank>(alloc: Global, bank: &mut B) -> Ended
     ensures outcome { (from : Stream) → CommandOutcome command_history result
         (B.view bank.old) (B.view bank.new) from from }
     ensures mounted { only_mounts command_history result ≡ true
-        → MountsOnly B.view result bank.old bank.new }
+        → MountsOnly B.view command_history result bank.old bank.new }
+    ensures untouched { IsNoLog ((B.view bank.old).sizes 0) → bank.new ≡ bank.old }
 {
     match Array::mount(alloc, bank) {
         Ok(array) => match say_lines(&array, bank) {
@@ -50,6 +54,8 @@ fn say_lines<B: Bank>(array: &Array, bank: &mut B) -> Result<(), Failed>
     ensures disks { KeepsDisks (B.view bank.old) (B.view bank.new) }
     ensures cause { OnErr result
         (Rose (B.view bank.old).port_faults (B.view bank.new).port_faults) }
+    ensures calls { CallsAtMost (last_seq array.now.index - array.now.index.first + 1)
+        (B.view bank.old) (B.view bank.new) }
 {
     let span = array.span();
     let mut piece = [0u8; PIECE_BYTES];
@@ -74,6 +80,7 @@ fn make_room<B: Bank>(bank: &mut B, piece: &[u8], len: usize) -> Result<usize, F
     ensures disks { KeepsDisks (B.view bank.old) (B.view bank.new) }
     ensures cause { OnErr result
         (Rose (B.view bank.old).port_faults (B.view bank.new).port_faults) }
+    ensures calls { CallsAtMost 1 (B.view bank.old) (B.view bank.new) }
 {
     if LINE_BYTES <= piece.len() - len {
         return Ok(len);

@@ -4,11 +4,13 @@
 mod command;
 mod creating;
 mod edge;
+mod faults;
 mod history;
 mod last;
 pub mod laws;
 mod outcome;
 mod run;
+mod sending;
 mod session;
 #[cfg(test)]
 mod tests;

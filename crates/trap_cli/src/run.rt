@@ -9,6 +9,8 @@ ghost use Rattle.trap_cli.specs.Crash.{CommandLeaves};
 ghost use Rattle.trap_cli.specs.Completes.{Completes};
 ghost use Rattle.trap_cli.specs.Session.{SaysInOne, AnswersMounted, MountsOnly};
 ghost use Rattle.trap_cli.specs.Run.{CommandOutcome, RunOutcome, reads_input, only_mounts};
+ghost use Rattle.trap_cli.specs.Run.{IsUncalled};
+ghost use Rattle.trap_cli.specs.ReplicaRuns.{ReplicaGoes, ReplicaCompletes};
 ghost use Rattle.trap_cli.specs.Frame.{Frames, StaysHeld};
 
 use crate::command::{Command, read_command};
@@ -16,9 +18,11 @@ use crate::creating::run_create;
 use crate::history::run_history;
 use crate::last::{status, write_last};
 use crate::outcome::Ended;
+use crate::sending::run_send;
 use crate::session::run_session;
 use std::alloc::Global;
 use trap_bank::{Bank, Source, Turns};
+use trap_remote::{apply_frames, create_replica, export_replica, load_replica};
 
 // Says the last line, where there is one. That the port may fail in it changes nothing.
 fn say_last<B: Bank>(bank: &mut B, ended: Ended)
@@ -48,12 +52,24 @@ fn run_command<B: Bank, S: Source>(
         → AnswersMounted B.view result bank.old bank.new
         (S.stream source.old) (S.stream source.new) }
     ensures mounted { only_mounts command.now result ≡ true
-        → MountsOnly B.view result bank.old bank.new }
+        → MountsOnly B.view command.now result bank.old bank.new }
+    ensures replica { ReplicaGoes B.view command.now result bank.old bank.new
+        (S.stream source.old) (S.stream source.new) }
+    ensures untouched { IsUncalled command.now result (B.view bank.old) → bank.new ≡ bank.old }
+    ensures completes { ReplicaCompletes command.now result (B.view bank.old) (B.view bank.new)
+        (S.stream source.old) (S.stream source.new) }
 {
     match command {
         Some(Command::Create(asked)) => run_create(bank, asked),
         Some(Command::Session) => run_session(alloc, bank, source),
         Some(Command::History) => run_history(alloc, bank),
+        Some(Command::Send(seq)) => run_send(alloc, bank, *seq),
+        Some(Command::ReplicaCreate(asked)) => Ended::Replica(create_replica(bank, asked)),
+        Some(Command::ReplicaLoad(asked, start)) => {
+            Ended::Replica(load_replica(alloc, bank, source, asked, start))
+        }
+        Some(Command::Apply) => Ended::Replica(apply_frames(alloc, bank, source)),
+        Some(Command::ReplicaExport) => Ended::Replica(export_replica(alloc, bank)),
         None => Ended::Usage,
     }
 }

@@ -3,6 +3,7 @@
 ghost use Rattle.std.specs.Prelude.{◌≡◌, ◌+◌, ◌^◌, ◌<◌, ◌≤◌, ℕ, true, false};
 ghost use Rattle.trap_bank.specs.Steps.{Steps};
 ghost use Rattle.trap_array.specs.Calls.{IsReady};
+ghost use Rattle.trap_array.specs.Mounting.{IsNoLog};
 ghost use Rattle.trap_session.specs.Serving.{Serves};
 ghost use Rattle.trap_cli.specs.Command.{command_session};
 ghost use Rattle.trap_cli.specs.Said.{ServedSaid, ServedCause, LeavesMounted};
@@ -24,7 +25,8 @@ pub fn run_session<B: Bank, S: Source>(alloc: Global, bank: &mut B, source: &mut
         → AnswersMounted B.view result bank.old bank.new
         (S.stream source.old) (S.stream source.new) }
     ensures mounted { only_mounts command_session result ≡ true
-        → MountsOnly B.view result bank.old bank.new }
+        → MountsOnly B.view command_session result bank.old bank.new }
+    ensures untouched { IsNoLog ((B.view bank.old).sizes 0) → bank.new ≡ bank.old }
 {
     match Array::mount(alloc, bank) {
         Ok(array) => answer_lines(alloc, array, bank, source),
@@ -45,8 +47,6 @@ fn answer_lines<B: Bank, S: Source>(
     ensures steps { Steps (B.view bank.old) (B.view bank.new)
         (Serves array (B.view bank.old) (S.stream source.old))
         (ServedSaid array (B.view bank.old) result (S.stream source.old) (S.stream source.new)) }
-    ensures cause { ServedCause array result (B.view bank.old) (B.view bank.new)
-        (S.stream source.old) (S.stream source.new) }
     ensures leaves { LeavesMounted array result (B.view bank.old) (B.view bank.new)
         (S.stream source.old) (S.stream source.new) }
     ensures lines { reads_input command_session result ≡ true
@@ -54,6 +54,8 @@ fn answer_lines<B: Bank, S: Source>(
         (S.stream source.old) (S.stream source.new) }
     ensures idle { result ≡ Ended.Memory → (bank.new ≡ bank.old)
         × (S.stream source.new ≡ S.stream source.old) }
+    ensures cause { ServedCause array result (B.view bank.old) (B.view bank.new)
+        (S.stream source.old) (S.stream source.new) }
 {
     let g = array.geometry();
     let Ok(session) = Session::new(alloc, &g) else {

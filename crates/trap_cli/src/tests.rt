@@ -5,7 +5,10 @@ ghost use Rattle.trap_bank.specs.Calls.{Fits};
 
 mod instants;
 mod listing;
+mod replica;
+mod sending;
 mod stops;
+mod worlds;
 
 use crate::{FileBank, StdinSource, run};
 use std::alloc::{AllocError, Global};
@@ -34,7 +37,19 @@ pub fn ended(
     piece: usize,
     failing_take: u64,
 ) -> Result<u8, AllocError> {
-    let mut source = MemorySource::new(alloc, input.as_bytes())?;
+    ended_over(alloc, bank, text, input.as_bytes(), piece, failing_take)
+}
+
+// The same over bytes that are no text.
+pub fn ended_over(
+    alloc: Global,
+    bank: &mut MemoryBank,
+    text: &str,
+    input: &[u8],
+    piece: usize,
+    failing_take: u64,
+) -> Result<u8, AllocError> {
+    let mut source = MemorySource::new(alloc, input)?;
     source.pieces(piece);
     source.fail_at(failing_take);
     let mut words = Vec::new(alloc);
@@ -54,10 +69,22 @@ pub fn says(
     status: u8,
     said: &str,
 ) -> Result<bool, AllocError> {
+    says_bytes(alloc, bank, text, input, status, said.as_bytes())
+}
+
+// The same, of bytes that are no text.
+pub fn says_bytes(
+    alloc: Global,
+    bank: &mut MemoryBank,
+    text: &str,
+    input: &str,
+    status: u8,
+    said: &[u8],
+) -> Result<bool, AllocError> {
     let before = bank.said().len();
     let is = ended(alloc, bank, text, input, 4096, 0)?;
     let now = bank.said();
-    Ok(is == status && before <= now.len() && &now[before..] == said.as_bytes())
+    Ok(is == status && before <= now.len() && &now[before..] == said)
 }
 
 // A bank with the array of `CREATE`.

@@ -1,12 +1,13 @@
-use Rattle.std.proofs.Common.{Option, subst}
+use Rattle.std.proofs.Common.{Option, IsTrue, sym, subst}
 use Rattle.trap_cli.specs.declared.command.Command.{Command}
 use Rattle.trap_cli.specs.Ended.{last_line}
 use Rattle.trap_cli.specs.Crash.{CommandLeaves}
 use Rattle.trap_cli.specs.Run.{RunOutcome}
+use Rattle.trap_cli.specs.Completes.{Completes}
 use Rattle.trap_cli.specs.Frame.{Frames}
 use Rattle.trap_cli.proofs.Words.{one_command}
 use Rattle.trap_cli.proofs.Saying.{spoken_once}
-use Rattle.trap_cli.proofs.Running.{run_ends, mounts_said, run_frame, run_held, run_crash, usage_exact}
+use Rattle.trap_cli.proofs.Running.{run_ends, run_frame, run_held, run_crash, usage_exact}
 use Rattle.trap_cli.proofs.Completing.{run_completes}
 use Rattle.trap_cli.proofs.run.run.Goals as goal
 
@@ -25,9 +26,9 @@ returns-clause-runs g c command is =
       ends = run_ends c.read_command-command.result ended (view c.args.bank.now) (view done) (view c.say_last.new.bank) from to
           c.run_command-ended.ensures.outcome spoken c.status.result c.status.ensures;
       lines = λ reads. record { answered = done; lines = c.run_command-ended.ensures.lines reads; said = c.say_last.ensures.said };
-      mounted = λ is. mounts_said view ended c.args.bank.now done c.say_last.new.bank (c.run_command-ended.ensures.mounted is)
-          c.run_command-ended.ensures.outcome.steps.tells spoken;
-      says = record { done = done; outcome = c.run_command-ended.ensures.outcome; said = c.say_last.ensures.said };
+      mounted = λ is. record { done = done; only = c.run_command-ended.ensures.mounted is; said = c.say_last.ensures.said };
+      replica = record { done = done; goes = c.run_command-ended.ensures.replica; said = c.say_last.ensures.said };
+      says = record { done = done; outcome = c.run_command-ended.ensures.outcome; untouched = c.run_command-ended.ensures.untouched; said = c.say_last.ensures.said };
     })
 
 pub returns-clause-usage : goal.returns-clause-usage
@@ -54,9 +55,20 @@ pub returns-clause-completes : goal.returns-clause-completes
 returns-clause-completes g c command is =
     let view = g.B.Bank.view in
     let stream = g.S.Source.stream in
-    let runs = returns-clause-runs g c command is in
-    run_completes c.status.result command (view c.args.bank.now) (view c.say_last.new.bank) (stream c.args.source.now)
-    (stream c.run_command-ended.new.source) (g.met.B.Bank.lawful c.args.bank.now) runs.ended runs.ends
+    let asked = c.read_command-command.result in
+    let ended = c.run_command-ended.result in
+    let old = view c.args.bank.now in
+    let mid = view c.run_command-ended.new.bank in
+    let new = view c.say_last.new.bank in
+    let from = stream c.args.source.now in
+    let to = stream c.run_command-ended.new.source in
+    let spoken = spoken_once view (last_line ended) c.run_command-ended.new.bank c.say_last.new.bank c.say_last.ensures.said in
+    subst (λ (command : Option Command). Completes c.status.result command old new from to)
+    (one_command c.args.words.now asked command c.read_command-command.ensures is)
+    (run_completes c.status.result asked old new from to (g.met.B.Bank.lawful c.args.bank.now) ended
+    (run_ends asked ended old mid new from to c.run_command-ended.ensures.outcome spoken c.status.result c.status.ensures)
+    mid c.run_command-ended.ensures.completes (record { faults = spoken.steps.faults; port = spoken.steps.port_faults; sizes = spoken.sizes })
+    (λ told. spoken.last (subst IsTrue (sym c.run_command-ended.ensures.outcome.steps.tells) told)))
 
 pub returns-clause-held : goal.returns-clause-held
 returns-clause-held g c =

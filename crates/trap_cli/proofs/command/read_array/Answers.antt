@@ -3,7 +3,7 @@ use Rattle.std.specs.Prelude.{string_bytes, String}
 use Rattle.std.specs.declared.alloc.Global.{Global}
 use Rattle.trap_script.specs.Numbers.{number_of}
 use Rattle.trap_cli.proofs.Words.{nine_words, word_read, nine_read}
-use Rattle.trap_cli.proofs.command.read_numbers.Goals as goal
+use Rattle.trap_cli.proofs.command.read_array.Goals as goal
 
 pub returns-clause-some : goal.returns-clause-some
 returns-clause-some c =
