@@ -160,6 +160,10 @@ class Server:
         self.writing = threading.RLock()
         self.sending = threading.Lock()
         self.turn = threading.Condition()
+        # Each request that waits for its replies has a lock of its own here, under its ticket, so that only the one
+        # whose turn it is wakes up. Whoever waits to send waits for `turn`.
+        self.readers = {}
+        self.senders = 0
         self.next_ticket = 0
         self.next_reply = 0
         self.owed = 0
@@ -203,6 +207,9 @@ class Server:
                 self.failed = why
                 self.log.say(f"stopped serving: {why}")
             self.turn.notify_all()
+            for lock in self.readers.values():
+                lock.release()
+            self.readers.clear()
 
     def ask(self, lines, reply_bytes):
         """Sends lines and answers their replies, which are at most as long as given. Lines of other requests may come
@@ -216,11 +223,11 @@ class Server:
         owed = sum(reply_bytes)
         with self.turn:
             # The limit holds for one request at least, so that a single long reply always goes.
-            self.turn.wait_for(lambda: self.failed or self.owed == 0 or self.owed + owed <= self.child.owed_limit)
+            self.wait_to_send(lambda: self.owed == 0 or self.owed + owed <= self.child.owed_limit)
             if self.failed:
                 raise Stopped(self.failed)
             if self.child.sent_bytes > INPUT_BYTES:
-                self.turn.wait_for(lambda: self.failed or self.next_reply == self.next_ticket)
+                self.wait_to_send(lambda: self.next_reply == self.next_ticket)
                 self.begin_again()
             if self.failed:
                 raise Stopped(self.failed)
@@ -238,6 +245,12 @@ class Server:
         self.child.sent_bytes += len(data)
         return ticket, owed
 
+    def wait_to_send(self, may_send):
+        """Waits until this holds, or serving has stopped; the caller holds `turn`."""
+        self.senders += 1
+        self.turn.wait_for(lambda: self.failed or may_send())
+        self.senders -= 1
+
     def begin_again(self):
         """Ends the session by `Q` and begins another. Nothing is owed."""
         status = self.child.close()
@@ -249,10 +262,16 @@ class Server:
 
     def take(self, ticket, count, owed):
         """Reads so many replies, when it is their turn."""
+        lock = None
         with self.turn:
-            self.turn.wait_for(lambda: self.failed or self.next_reply == ticket)
-            if self.failed:
-                raise Stopped(self.failed)
+            if self.next_reply != ticket and not self.failed:
+                lock = self.readers[ticket] = threading.Lock()
+                lock.acquire()
+        if lock:
+            # It is released when the replies before these have been read.
+            lock.acquire()
+        if self.failed:
+            raise Stopped(self.failed)
         replies = []
         for _ in range(count):
             line = self.child.replies.readline()
@@ -263,7 +282,11 @@ class Server:
         with self.turn:
             self.next_reply += count
             self.owed -= owed
-            self.turn.notify_all()
+            lock = self.readers.pop(self.next_reply, None)
+            if lock:
+                lock.release()
+            if self.senders:
+                self.turn.notify_all()
         return replies
 
     def why_ended(self):

@@ -10,6 +10,11 @@ and reads any block as it was at any retained instant.
   limuvosel create ID MEMBERS CHUNK BLOCK ROWS SLOTS GAP ENTRIES RING   makes an array
   limuvosel session                                                     answers request lines from standard input
   limuvosel history                                                     lists the retained writes
+  limuvosel send FROM                                                   the frames of the writes after number FROM
+  limuvosel replica-create ID BLOCK VOLUME                              makes a replica of zeros
+  limuvosel replica-load ID BLOCK VOLUME SEQ TIME                       makes a replica of an image on standard input
+  limuvosel apply                                                       applies frames from standard input to the replica
+  limuvosel replica-export                                              the replica's image
   limuvosel help [COMMAND]                                              this text, or more on one command
 
 The manual page, limuvosel(1), has every line, reply and status.
@@ -62,8 +67,63 @@ record, so a write that changed much of its block is seen; MARK is `-`.
 TEXT
 }
 
+send() {
+  cat <<'TEXT'
+limuvosel send FROM
+
+Says the frames of the retained writes after number FROM, for `apply` on another machine: 34 bytes and the code of what changed for
+each write. Nothing is said where FROM isn't retained: `fault not kept BOUND` or `fault ahead LAST`, status 14. scripts/replicate.sh
+finds FROM and does the rest.
+TEXT
+}
+
+replica_create() {
+  cat <<'TEXT'
+limuvosel replica-create ID BLOCK VOLUME
+
+Makes `replica.trap` in the current folder, at number 0 and with blocks of zeros, and prints `created ID`. ID and BLOCK are those of the
+array, VOLUME is the number of its blocks.
+TEXT
+}
+
+replica_load() {
+  cat <<'TEXT'
+limuvosel replica-load ID BLOCK VOLUME SEQ TIME
+
+Makes `replica.trap` in the current folder of an image on standard input, exactly VOLUME x BLOCK bytes, and prints `loaded SEQ`. SEQ
+and TIME are the number and the time of the last write that the image has.
+TEXT
+}
+
+apply() {
+  cat <<'TEXT'
+limuvosel apply
+
+Applies the frames on standard input to the replica in the current folder. They may come repeated, or out of order within 64 numbers.
+Prints one line, also before a fault of the stream:
+
+  applied N frames C held H repeats P beyond Y     the image has every write up to N; `send N` is what comes next
+
+Over an empty input it says how far the replica is.
+TEXT
+}
+
+replica_export() {
+  cat <<'TEXT'
+limuvosel replica-export
+
+Says the replica's image, block after block.
+TEXT
+}
+
 case "${1:-}" in
   "") overview ;;
-  create | session | history) "$1" ;;
-  *) echo "limuvosel: no command $1; these are: create, session, history" >&2; exit 2 ;;
+  create | session | history | send | apply) "$1" ;;
+  replica-create) replica_create ;;
+  replica-load) replica_load ;;
+  replica-export) replica_export ;;
+  *)
+    echo "limuvosel: no command $1; these are: create, session, history, send, replica-create, replica-load, apply, replica-export" >&2
+    exit 2
+    ;;
 esac

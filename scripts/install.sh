@@ -25,6 +25,7 @@ files() {
   cat <<'TEXT'
 755 crates/trap_cli/out/trap_cli lib/limuvosel/limuvosel
 755 scripts/help.sh lib/limuvosel/help.sh
+755 scripts/replicate.sh lib/limuvosel/replicate.sh
 644 bridge/limuvosel_nbd.py lib/limuvosel/limuvosel_nbd.py
 644 docs/man/limuvosel.1 share/man/man1/limuvosel.1
 644 examples/completion/limuvosel.bash share/bash-completion/completions/limuvosel
