@@ -60,6 +60,7 @@ undoes_at_most i turns most block old new call few = record {
   present = inr (call.presents, call.asked);
   taken = turns;
   few = few;
+  present_first = (λ none. let one = call.presents in absurd (omega arith));
   parities = call.parities;
   looked = call.looked;
   snapshots = call.snapshots;

@@ -32,8 +32,8 @@ pub record Undoes (i : Indexed) (turns block : ℕ) (old new : Past) : Type 0 wh
   pub looked : new.looked ≡ last_looked i block turns old.looked
   pub snapshots : new.snapshots ≡ old.snapshots
 
--- the present was asked for at most once, and then of this block, the parities of at most `turns`
--- of its newest entries, the newest first, and no snapshot was
+-- the present was asked for at most once, and then of this block, and after it the parities of at
+-- most `turns` of its newest entries, the newest first, and no snapshot was
 pub record UndoesAtMost (i : Indexed) (turns block : ℕ) (old new : Past) : Type 0 where
   pub remains : Remains old new
   pub present : (new.presents ≡ old.presents)
@@ -41,6 +41,8 @@ pub record UndoesAtMost (i : Indexed) (turns block : ℕ) (old new : Past) : Typ
   -- how many parities were asked for
   pub taken : ℕ
   pub few : taken ≤ turns
+  -- none of them before the present
+  pub present_first : new.presents ≡ old.presents → taken ≡ 0
   pub parities : new.parities ≡ old.parities + taken
   pub looked : new.looked ≡ last_looked i block taken old.looked
   pub snapshots : new.snapshots ≡ old.snapshots
