@@ -5,7 +5,7 @@ ghost use Rattle.trap_cli.specs.Counts.{Blames};
 ghost use Rattle.trap_cli.specs.Files.{untold_view, untold_lawful};
 
 use super::fault::BankFault;
-use super::files::{make_zero, open_there, print_whole, read_whole, write_whole};
+use super::files::{make_zero, open_there, print_whole, read_whole, sync_whole, write_within};
 use super::folder::Folder;
 use std::alloc::Global;
 use std::fs::File;
@@ -124,7 +124,7 @@ impl<R: Files<File = File> + Print> Bank for FileBank<R> {
 
     fn write(&mut self, d: u8, at: u64, bytes: &[u8]) -> Result<(), Failed> {
         let done = match &self.disks[d as usize] {
-            Some(disk) => write_whole(&disk.file, at, bytes),
+            Some(disk) => write_within(&disk.file, disk.size, at, bytes),
             None => Err(io::Error::from(ErrorKind::NotFound)),
         };
         settle(done, &mut self.faults, d)
@@ -132,7 +132,7 @@ impl<R: Files<File = File> + Print> Bank for FileBank<R> {
 
     fn sync(&mut self, d: u8) -> Result<(), Failed> {
         let done = match &self.disks[d as usize] {
-            Some(disk) => disk.file.sync_data(),
+            Some(disk) => sync_whole(&disk.file, disk.size),
             None => Err(io::Error::from(ErrorKind::NotFound)),
         };
         settle(done, &mut self.faults, d)

@@ -148,6 +148,30 @@ pub fn write_whole<F: FileExt>(file: &F, at: u64, bytes: &[u8]) -> io::Result<()
     Err(io::Error::from(ErrorKind::Other))
 }
 
+// Writes all the bytes from a byte offset on, into a file that has this many bytes. A write up to
+// the end would give a file that was cut its length again, so that is looked at first.
+pub fn write_within(file: &File, size: u64, at: u64, bytes: &[u8]) -> io::Result<()> {
+    if at.saturating_add(bytes.len() as u64) >= size {
+        check_length(file, size)?;
+    }
+    write_whole(file, at, bytes)
+}
+
+// Makes what was written stable, in a file that has this many bytes still. Where it has another
+// length, it was cut or lengthened beside this program, and what was written may be gone.
+pub fn sync_whole(file: &File, size: u64) -> io::Result<()> {
+    file.sync_data()?;
+    check_length(file, size)
+}
+
+fn check_length(file: &File, size: u64) -> io::Result<()> {
+    if file.metadata()?.len() == size {
+        Ok(())
+    } else {
+        Err(io::Error::from(ErrorKind::UnexpectedEof))
+    }
+}
+
 // Writes all the bytes to standard output. Nothing is kept back.
 pub fn print_whole<R: Print>(rt: &R, bytes: &[u8]) -> io::Result<()> {
     let mut done = 0;
