@@ -449,10 +449,37 @@ def fewer_bytes():
     yield 'replies that are written in parts', (session.wait(), said) == (0, (b'is ' + b'0' * 8192 + b'\n') * 20), len(said)
 
 
+def cut_files():
+    # Cut or lengthened by a byte that no request touches: seen at the sync of what is written.
+    for name, fault, status in (('m00.trap', 'fault members 0 0\n', 7), ('m02.trap', 'fault members 2 2\n', 7),
+                                ('log.trap', 'fault log\n', 6)):
+        for change in -1, 1:
+            folder = Folder()
+            session = subprocess.Popen([program, 'session'], stdin=subprocess.PIPE, stdout=subprocess.PIPE, cwd=folder.path)
+            session.stdin.write(READ.encode())
+            session.stdin.flush()
+            first = session.stdout.readline()
+            size = os.path.getsize(folder.at(name)) + change
+            os.truncate(folder.at(name), size)
+            said, _ = session.communicate(WRITE.replace('100', '101').encode())
+            found = first.decode(), said.decode(), session.returncode, os.path.getsize(folder.at(name))
+            yield f'{name} changed by {change} in a session', found == (f'is {ONE}\n', fault, status, size), found
+    # A cut that a read meets.
+    folder = Folder()
+    session = subprocess.Popen([program, 'session'], stdin=subprocess.PIPE, stdout=subprocess.PIPE, cwd=folder.path)
+    session.stdin.write(READ.encode())
+    session.stdin.flush()
+    first = session.stdout.readline()
+    os.truncate(folder.at('m00.trap'), 16)
+    said, _ = session.communicate(READ.encode())
+    found = said.decode(), session.returncode, os.path.getsize(folder.at('m00.trap'))
+    yield 'm00.trap is cut before a read', found == ('fault members 0 0\n', 7, 16), found
+
+
 passed = failed = 0
 try:
     for case in (closed_streams, full_streams, second_program, unopenable, absent, no_permission, few_descriptors, unfinished,
-                 words, full_disk, file_size, signals, fewer_bytes):
+                 words, full_disk, file_size, signals, fewer_bytes, cut_files):
         try:
             for what, is_right, found in case():
                 if is_right:
